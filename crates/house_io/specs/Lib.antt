@@ -1,0 +1,5 @@
+pub mod Causes
+pub mod Moments
+pub mod Calls
+pub mod Recorded
+pub mod Failing
