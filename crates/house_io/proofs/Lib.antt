@@ -1,3 +1,3 @@
 pub mod Moments
-mod Overlays
+pub mod Overlays
 mod Replays

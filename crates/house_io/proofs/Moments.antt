@@ -1,7 +1,7 @@
 -- How a run of device calls goes on, and which images a moment has.
 use Rattle.std.proofs.Common.{Bool, IsTrue, true, false, ◌≡◌, ◌⊎◌, inl, inr, ⊎_elim, ℕ, ◌+◌, ◌<◌, ◌≤◌, max, List, [], ◌∷◌, ◌++◌, length, get_or, refl, sym, ◌∙◌, ap, subst, arith, append_assoc}
 use Rattle.std.proofs.lemmas.List.{ext_get_or}
-use Rattle.house_io.specs.Moments.{Moment, Moments, all, IsImage, Torn, settled, written, then, Leaves, EachLeaves, AtEach, Since}
+use Rattle.house_io.specs.Moments.{Moment, Moments, all, IsImage, Torn, settled, IsSettled, written, then, Leaves, EachLeaves, AtEach, Since}
 
 pub leaves_weaker : (P Q : List ℕ → Type 0) (m : Moment) → ((c : List ℕ) → P c → Q c) → Leaves P m → Leaves Q m
 leaves_weaker P Q m weaker here = record { read = weaker m.read here.read; images = λ c image. weaker c (here.images c image) }
@@ -67,6 +67,9 @@ settled_torn file image at n is = record {
 
 pub leaves_settled : (P : List ℕ → Type 0) (file : List ℕ) → P file → Leaves P (settled file)
 leaves_settled P file has = record { read = has; images = λ c image. subst P (sym (only_settled file c image)) has }
+
+pub leaves_here : (P : List ℕ → Type 0) (m : Moment) → IsSettled m → P m.read → Leaves P m
+leaves_here P m is has = subst (Leaves P) (sym is) (leaves_settled P m.read has)
 
 pub leaves_written : (file read : List ℕ) (at n : ℕ) → Torn at n file read → Leaves (Torn at n file) (written at n read (settled file))
 leaves_written file read at n torn = record { read = torn; images = λ c image. image_torn file read c at n image }
