@@ -1,0 +1,4 @@
+pub mod Telling
+mod Fronts
+mod Reading
+mod Writing
