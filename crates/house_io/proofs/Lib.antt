@@ -2,3 +2,4 @@ pub mod Telling
 mod Fronts
 mod Reading
 mod Writing
+mod Counting

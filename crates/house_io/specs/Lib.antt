@@ -4,4 +4,7 @@ pub mod Sources
 pub mod Reading
 pub mod Sinks
 pub mod Shelves
+pub mod Counts
+pub mod Tallies
 pub mod SureForms
+pub mod SureFiles

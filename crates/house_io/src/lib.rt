@@ -6,11 +6,14 @@ pub mod shelves;
 pub mod sinks;
 pub mod sources;
 pub mod sure;
+pub mod sure_shelf;
+mod tallies;
 
 pub use shelves::{Refusal, Shelf};
 pub use sinks::{Sink, write_whole};
 pub use sources::{ReadWhole, Source, read_whole};
 pub use sure::{SureSink, SureSource};
+pub use sure_shelf::{SureFile, SureShelf};
 
 /// A call on something outside failed.
 #[derive(Clone, Copy, Debug, PartialEq, Eq)]

@@ -29,7 +29,14 @@ impl SureSource {
     pub fn new(_alloc: Global, bytes: Vec<u8>) -> Result<SureSource, NoMemory>
         ensures { IsOkAnd result (λ source. source ≡ bytes.items) }
     {
-        Ok(SureSource { bytes, at: 0 })
+        Ok(SureSource::whole(bytes))
+    }
+
+    /// A source of these bytes.
+    pub(crate) fn whole(bytes: Vec<u8>) -> SureSource
+        ensures { result ≡ bytes.items }
+    {
+        SureSource { bytes, at: 0 }
     }
 }
 
