@@ -8,3 +8,4 @@ pub mod Counts
 pub mod Tallies
 pub mod SureForms
 pub mod SureFiles
+pub mod ListForms

@@ -2,6 +2,8 @@
 //! and contents that are told or untold.
 #![tactic(auto)]
 
+mod failing;
+pub mod list;
 pub mod shelves;
 pub mod sinks;
 pub mod sources;
@@ -9,6 +11,7 @@ pub mod sure;
 pub mod sure_shelf;
 mod tallies;
 
+pub use list::{ListSink, ListSource};
 pub use shelves::{Refusal, Shelf};
 pub use sinks::{Sink, write_whole};
 pub use sources::{ReadWhole, Source, read_whole};
