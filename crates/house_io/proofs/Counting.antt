@@ -73,13 +73,13 @@ names-set (x ∷ xs) zero t d inside same = ap (λ name. name ∷ names_of (coun
 names-set (x ∷ xs) (suc place) t d inside same = ap (λ names. string_bytes x.name ∷ names) (names-set xs place t d (omega arith) same)
 
 -- a tally to which faults are added
-pub adds-set : (ts : List Tally) (name : List ℕ) (place faults : ℕ) (t d : Tally) → IsPlace ts name place → string_bytes t.name ≡ string_bytes (slice_index_or ts place d).name → t.faults ≡ min ((slice_index_or ts place d).faults + faults) (2 ^ 64 - 1) → (slice_index_or ts place d).faults < 2 ^ 64
+pub adds-set : (ts : List Tally) (name : List ℕ) (place faults : ℕ) (t d : Tally) → IsPlace ts name place → d ≡ slice_index_or ts place d → string_bytes t.name ≡ string_bytes d.name → t.faults ≡ min (d.faults + faults) (2 ^ 64 - 1) → d.faults < 2 ^ 64
     → Adds name faults (count_of (counts_in ts)) (count_of (counts_in (slice_set ts place t)))
-adds-set ts name place faults t d is same raised fits =
-    let here : bytes_eq (string_bytes t.name) name ≡ true = ap (λ n. bytes_eq n name) same ∙ is.here d in
+adds-set ts name place faults t d is old same raised fits =
+    let here : bytes_eq (string_bytes t.name) name ≡ true = ap (λ n. bytes_eq n name) same ∙ ap (λ tally. bytes_eq (string_bytes tally.name) name) old ∙ is.here d in
     let named : string_bytes t.name ≡ name = (bytes_eq-Decides (string_bytes t.name) name).0 here in
-    let before = count-place ts name place d is in
+    let before : count_of (counts_in ts) name ≡ d.faults = count-place ts name place d is ∙ sym (ap (λ tally. tally.faults) old) in
     record {
       added = count-set ts name place t is here ∙ (let e : t.faults ≡ raised_by (count_of (counts_in ts) name) faults = omega (arith, raised, before, fits) in e);
-      others = λ other ne. count-set_other ts other place t d is.inside same (tests-other (string_bytes t.name) other (λ e. ne (sym e ∙ named)));
+      others = λ other ne. count-set_other ts other place t d is.inside (same ∙ ap (λ tally. string_bytes tally.name) old) (tests-other (string_bytes t.name) other (λ e. ne (sym e ∙ named)));
     }

@@ -3,3 +3,4 @@ mod Fronts
 mod Reading
 mod Writing
 mod Counting
+mod Finding

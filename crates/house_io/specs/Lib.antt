@@ -9,3 +9,5 @@ pub mod Tallies
 pub mod SureForms
 pub mod SureFiles
 pub mod ListForms
+pub mod ListShelves
+pub mod ListFiles

@@ -1,4 +1,4 @@
--- Forms in memory of which chosen calls fail: a source, a sink, a file and a shelf.
+-- Forms in memory of which chosen calls fail: which calls these are, and what a source and a sink stand for.
 use Rattle.std.specs.Prelude.{ℕ, ◌+◌, ◌-◌, ◌^◌, min, List, Result, Ok, Err, Contains}
 use Rattle.house_io.specs.declared.Failed.{Failed}
 use Rattle.house_io.specs.Faults.{raised_by}

@@ -4,6 +4,7 @@
 
 mod failing;
 pub mod list;
+pub mod list_shelf;
 pub mod shelves;
 pub mod sinks;
 pub mod sources;
@@ -12,6 +13,7 @@ pub mod sure_shelf;
 mod tallies;
 
 pub use list::{ListSink, ListSource};
+pub use list_shelf::{ListFile, ListShelf};
 pub use shelves::{Refusal, Shelf};
 pub use sinks::{Sink, write_whole};
 pub use sources::{ReadWhole, Source, read_whole};

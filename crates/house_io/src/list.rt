@@ -29,11 +29,7 @@ impl Model for ListSource {
 
 impl ListSource {
     /// A source of these bytes, of which the calls with these numbers fail. It needs no memory of its own.
-    pub fn new(
-        _alloc: Global,
-        bytes: Vec<u8>,
-        failing: Vec<u64>,
-    ) -> Result<ListSource, NoMemory>
+    pub fn new(_alloc: Global, bytes: Vec<u8>, failing: Vec<u64>) -> Result<ListSource, NoMemory>
         ensures { IsOkAnd result (λ source. source ≡ record { left = bytes.items; plan = begun failing.items; faults = 0 }) }
     {
         Ok(ListSource::whole(bytes, failing))

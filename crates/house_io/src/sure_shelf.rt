@@ -4,7 +4,7 @@ ghost use Rattle.house_io.specs.Shelves.{NamedFile, file_of, bytes_of, Adds, Kee
 ghost use Rattle.house_io.specs.SureFiles.{Shelved, named_file, named_files};
 ghost use Rattle.house_io.specs.declared.shelves.Refusal.TheVariants as why;
 
-use crate::tallies::{Tally, begin};
+use crate::tallies::Tallies;
 use crate::{Refusal, Shelf, SureSource};
 use lot_base::NoMemory;
 use std::alloc::Global;
@@ -21,7 +21,7 @@ pub struct SureFile {
 #[derive(Drop)]
 pub struct SureShelf {
     files: Vec<SureFile>,
-    tallies: Vec<Tally>,
+    tallies: Tallies,
     room: u32,
 }
 
@@ -32,11 +32,10 @@ impl Model for SureShelf {
 
     ghost use Rattle.house_io.specs.SureFiles.{named_files};
     ghost use Rattle.house_io.specs.Counts.{names_of};
-    ghost use Rattle.house_io.specs.Tallies.{counts_in};
 
     ghost view = { λ shelf. record {
       files = named_files shelf.files.items;
-      opened = names_of (counts_in shelf.tallies.items);
+      opened = names_of shelf.tallies;
       room = shelf.room;
     } };
 }
@@ -48,7 +47,7 @@ impl SureShelf {
     {
         Ok(SureShelf {
             files,
-            tallies: Vec::new(alloc),
+            tallies: Tallies::new(alloc),
             room,
         })
     }
@@ -110,7 +109,7 @@ impl Shelf for SureShelf {
             Ok(bytes) => bytes,
             Err(NoMemory) => return Err(Refusal::NoMemory),
         };
-        match begin(alloc, &mut self.tallies, name) {
+        match self.tallies.begin(alloc, name) {
             Ok(()) => Ok(SureSource::whole(bytes)),
             Err(_) => Err(Refusal::NoMemory),
         }
