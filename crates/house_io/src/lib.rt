@@ -3,8 +3,10 @@
 #![tactic(auto)]
 
 mod failing;
+pub mod folder_shelf;
 pub mod list;
 pub mod list_shelf;
+pub mod real;
 pub mod shelves;
 pub mod sinks;
 pub mod sources;
@@ -12,8 +14,10 @@ pub mod sure;
 pub mod sure_shelf;
 mod tallies;
 
+pub use folder_shelf::FolderShelf;
 pub use list::{ListSink, ListSource};
 pub use list_shelf::{ListFile, ListShelf};
+pub use real::{FileSource, StdoutSink};
 pub use shelves::{Refusal, Shelf};
 pub use sinks::{Sink, write_whole};
 pub use sources::{ReadWhole, Source, read_whole};

@@ -59,7 +59,7 @@ impl Tallies {
     pub(crate) fn raise(&mut self, name: &str, faults: u64)
         requires { Contains (names_of self.old) name.now }
         ensures added { Adds name.now faults (count_of self.old) (count_of self.new) }
-        ensures names { names_of self.new ≡ names_of self.old }
+        ensures kept { KeepsNames (names_of self.old) (names_of self.new) }
     {
         if let Some(place) = place_of(&self.list, name) {
             let tally = &mut self.list[place];

@@ -1,0 +1,69 @@
+//! The real source and sink: an open file, and standard output. They count their faults, and tell no content.
+ghost use Rattle.std.specs.Prelude.{◌≡◌, ◌≤◌, None, length, IfOk};
+ghost use Rattle.house_io.specs.Faults.{HasCause};
+ghost use Rattle.house_io.specs.Sinks.{IsPart};
+
+use crate::{Failed, Sink, Source};
+use std::io::Read;
+
+/// A file that is open for reading.
+#[derive(Drop)]
+pub struct FileSource<F> {
+    file: F,
+    pub(crate) faults: u64,
+}
+
+impl<F> FileSource<F> {
+    /// A source on an open file. It has not failed yet.
+    pub fn new(file: F) -> FileSource<F>
+        ensures { result.faults ≡ 0 }
+    {
+        FileSource { file, faults: 0 }
+    }
+}
+
+impl<F: Read> Source for FileSource<F> {
+    ghost left = { λ _. None };
+
+    ghost faults = { λ source. source.faults };
+
+    fn pull(&mut self, into: &mut [u8]) -> Result<usize, Failed> {
+        match self.file.read(into) {
+            Ok(count) => Ok(count),
+            Err(_) => {
+                self.faults = self.faults.saturating_add(1);
+                Err(Failed)
+            }
+        }
+    }
+}
+
+/// Standard output. It keeps no buffer: what a push took has left the process.
+#[derive(Drop)]
+pub struct StdoutSink<'a, R: Print> {
+    rt: &'a R,
+    faults: u64,
+}
+
+impl<'a, R: Print> StdoutSink<'a, R> {
+    /// Standard output of this runtime. It has not failed yet.
+    pub fn new(rt: &'a R) -> StdoutSink<'a, R> {
+        StdoutSink { rt, faults: 0 }
+    }
+}
+
+impl<'a, R: Print> Sink for StdoutSink<'a, R> {
+    ghost written = { λ _. None };
+
+    ghost faults = { λ sink. sink.faults };
+
+    fn push(&mut self, from: &[u8]) -> Result<usize, Failed> {
+        match self.rt.write_some(from) {
+            Ok(count) if count > 0 || from.is_empty() => Ok(count),
+            _ => {
+                self.faults = self.faults.saturating_add(1);
+                Err(Failed)
+            }
+        }
+    }
+}
