@@ -27,3 +27,6 @@ pub use sure_shelf::{SureFile, SureShelf};
 /// A call on something outside failed.
 #[derive(Clone, Copy, Debug, PartialEq, Eq)]
 pub struct Failed;
+
+#[cfg(test)]
+mod tests;

@@ -1,5 +1,5 @@
 //! A source and a sink in memory of which chosen calls fail.
-ghost use Rattle.std.specs.Prelude.{◌≡◌, ◌≤◌, ◌↔◌, ℕ, List, [], Option, Some, length, IsOk, IsErr, IfOk, OnOk, OnErr, IsOkAnd, IfSome};
+ghost use Rattle.std.specs.Prelude.{◌≡◌, ◌≤◌, ◌↔◌, ℕ, List, [], Option, Some, length, min, IsOk, IsErr, IfOk, OnOk, OnErr, IsOkAnd, IfSome};
 ghost use Rattle.house_io.specs.Faults.{HasCause};
 ghost use Rattle.house_io.specs.Told.{IfTold};
 ghost use Rattle.house_io.specs.Sources.{Pulls};
@@ -60,7 +60,7 @@ impl Source for ListSource {
     ghost faults = { λ s. s.faults };
 
     fn pull(&mut self, into: &mut [u8]) -> Result<usize, Failed>
-        ensures within { IfOk result (λ count. count ≤ length into.new) }
+        ensures count { IfOk result (λ count. count ≡ min (length self.old.left) (length into.new)) }
         ensures bytes { Pulls result into.new self.old.left self.new.left }
         ensures fails { IsErr result ↔ IsToFail self.old.plan }
         ensures plan { self.new.plan ≡ counted self.old.plan }

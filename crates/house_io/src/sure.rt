@@ -1,5 +1,5 @@
 //! A source and a sink in memory that never fail.
-ghost use Rattle.std.specs.Prelude.{◌≡◌, ◌≤◌, ◌<◌, ◌+◌, ℕ, List, [], Option, Some, None, length, drop, vec_len, vec_capacity, if◌then◌else◌, IsOk, IfOk, IsOkAnd, IfSome};
+ghost use Rattle.std.specs.Prelude.{◌≡◌, ◌≤◌, ◌<◌, ◌+◌, ℕ, List, [], Option, Some, None, length, drop, min, vec_len, vec_capacity, if◌then◌else◌, IsOk, IfOk, IsOkAnd, IfSome};
 ghost use Rattle.house_io.specs.Faults.{HasCause};
 ghost use Rattle.house_io.specs.Told.{IfTold};
 ghost use Rattle.house_io.specs.Sources.{Pulls, Takes};
@@ -46,9 +46,8 @@ impl Source for SureSource {
     ghost faults = { λ _. 0 };
 
     fn pull(&mut self, into: &mut [u8]) -> Result<usize, Failed>
-        ensures within { IfOk result (λ count. count ≤ length into.new) }
+        ensures sure { result ≡ Ok (min (length self.old) (length into.new)) }
         ensures bytes { Pulls result into.new self.old self.new }
-        ensures sure { IsOk result }
     {
         Ok(take_front(&self.bytes, &mut self.at, into))
     }
@@ -56,7 +55,7 @@ impl Source for SureSource {
 
 /// Copies what is left from a place on, as much as the buffer holds, and moves the place behind it.
 fn take_front(bytes: &[u8], at: &mut usize, into: &mut [u8]) -> usize
-    ensures within { result ≤ length into.new }
+    ensures count { result ≡ min (length (drop at.old bytes.now)) (length into.new) }
     ensures bytes { Takes result into.new (drop at.old bytes.now) (drop at.new bytes.now) }
 {
     if *at >= bytes.len() {
