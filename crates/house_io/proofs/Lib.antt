@@ -1,3 +1,9 @@
+pub mod Telling
+mod Fronts
+mod Reading
+mod Writing
+mod Counting
+mod Finding
 pub mod Moments
 pub mod Overlays
 mod Replays

@@ -1,6 +1,6 @@
 //! A file that is read and written at offsets, and what a crash may leave of it.
 ghost use Rattle.std.specs.Prelude.{◌≡◌, ◌-◌, ◌≤◌, ℕ, Bool, List, length, take, drop, min, IsTrue, IfOk, OnOk, OnErr};
-ghost use Rattle.house_io.specs.Causes.{HasCause};
+ghost use Rattle.house_io.specs.Faults.{HasCause};
 ghost use Rattle.house_io.specs.Moments.{Moments, IsImage, wrote, synced_at, HasTorn};
 
 use crate::Failed;

@@ -1,37 +1,36 @@
-//! Calls that are to fail, for the forms in memory.
-ghost use Rattle.std.specs.Prelude.{◌≡◌, ◌^◌, ◌<◌};
+//! Which calls of a form in memory are to fail.
+ghost use Rattle.std.specs.Prelude.{◌≡◌, ◌↔◌, ℕ, List, Contains, IsTrue};
+ghost use Rattle.house_io.specs.ListForms.{CallPlan, counted, begun};
 
-/// The numbers of the calls on an object that are to fail, counted from 0, and how many have failed.
-#[derive(Debug, Drop)]
-pub struct Failing {
-    pub listed: Vec<u64>,
-    pub next: u64,
-    pub faults: u64,
+use std::marker::Model;
+
+/// The numbers of the calls that are to fail, counted from 0, and how many calls there were.
+#[derive(Drop)]
+pub(crate) struct FailingCalls {
+    failing: Vec<u64>,
+    calls: u64,
 }
 
-impl Failing {
-    ghost use Rattle.house_io.specs.Failing.{IsCalled};
+impl Model for FailingCalls {
+    ghost Value = { CallPlan };
 
-    /// No call was made yet.
-    pub fn new(listed: Vec<u64>) -> Failing
-        ensures { result ≡ record { listed = listed; next = 0; faults = 0 } }
+    ghost view = { λ plan. record { failing = plan.failing.items; calls = plan.calls } };
+}
+
+impl FailingCalls {
+    pub(crate) fn new(failing: Vec<u64>) -> FailingCalls
+        ensures { result ≡ begun failing.items }
     {
-        Failing {
-            listed,
-            next: 0,
-            faults: 0,
-        }
+        FailingCalls { failing, calls: 0 }
     }
 
-    /// Whether the call that is made now is to fail.
-    pub fn fails(&mut self) -> bool
-        ensures { IsCalled self.old self.new result }
+    /// Counts one call, and tells whether it is to fail.
+    pub(crate) fn next_fails(&mut self) -> bool
+        ensures fails { IsTrue result ↔ Contains self.old.failing self.old.calls }
+        ensures counted { self.new ≡ counted self.old }
     {
-        let fails = self.listed.contains(&self.next);
-        self.next = self.next.saturating_add(1);
-        if fails {
-            self.faults = self.faults.saturating_add(1);
-        }
-        fails
+        let call = self.calls;
+        self.calls = call.saturating_add(1);
+        self.failing.contains(&call)
     }
 }

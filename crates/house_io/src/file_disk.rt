@@ -1,6 +1,6 @@
 //! A disk over a real file.
 ghost use Rattle.std.specs.Prelude.{false, ◌≡◌, ◌≤◌, [], length, IfOk};
-ghost use Rattle.house_io.specs.Causes.{HasCause};
+ghost use Rattle.house_io.specs.Faults.{HasCause};
 ghost use Rattle.house_io.specs.Moments.{opened};
 
 use crate::{Disk, Failed};

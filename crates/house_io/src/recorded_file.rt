@@ -7,7 +7,7 @@ use lot_base::NoMemory;
 use std::alloc::Global;
 
 /// A call that changed what a crash may leave.
-#[derive(Clone, Copy, Debug, PartialEq, Eq)]
+#[derive(Clone, Copy)]
 pub enum Call {
     /// A whole write, by its offset and length.
     Write(u64, u64),
@@ -17,19 +17,19 @@ pub enum Call {
 }
 
 /// A file in memory. It tells its moments as long as its room suffices.
-#[derive(Debug, Drop)]
+#[derive(Drop)]
 pub struct RecordedFile {
     /// What the file held at first.
-    pub start: Vec<u8>,
+    pub(crate) start: Vec<u8>,
     /// What a read gives.
-    pub bytes: Vec<u8>,
+    pub(crate) bytes: Vec<u8>,
     /// All that was written, piece after piece.
-    pub written: Vec<u8>,
-    pub calls: Vec<Call>,
+    pub(crate) written: Vec<u8>,
+    pub(crate) calls: Vec<Call>,
     /// How many bytes may be written yet, and how many calls recorded.
-    pub room: usize,
-    pub calls_left: usize,
-    pub told: bool,
+    pub(crate) room: usize,
+    pub(crate) calls_left: usize,
+    pub(crate) told: bool,
     ghost read: { IsTrue told → bytes.items ≡ (replay calls.items written.items (opened start.items)).now.read },
     ghost whole: { IsTrue told → total calls.items ≡ length written.items },
     ghost bytes_room: { vec_len bytes + room ≤ vec_capacity bytes },

@@ -7,9 +7,9 @@ use lot_base::NoMemory;
 use std::alloc::Global;
 
 /// A disk in memory that never fails. It tells its moments as long as its room suffices.
-#[derive(Debug, Drop)]
+#[derive(Drop)]
 pub struct SureDisk {
-    pub file: RecordedFile,
+    pub(crate) file: RecordedFile,
 }
 
 impl SureDisk {

@@ -1,6 +1,6 @@
 //! What stands at a gate.
 ghost use Rattle.std.specs.Prelude.{◌≡◌, ◌≢◌, ◌⊎◌, ◌+◌, ◌-◌, ◌*◌, ◌^◌, ◌<◌, ◌≤◌, ℕ, length, take, drop, min, slice_index, IsTrue, IfOk, IfErr, OnOk};
-ghost use Rattle.house_io.specs.Causes.{HasCause, Rose};
+ghost use Rattle.house_io.specs.Faults.{HasCause, Rose};
 ghost use Rattle.report_journal.specs.Format.{HasNoRecord};
 ghost use Rattle.report_journal.specs.Scans.{IsChunk, IsNext, AreRead};
 

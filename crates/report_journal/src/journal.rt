@@ -1,6 +1,6 @@
 //! A journal of payloads, each on the disk before it is acknowledged.
 ghost use Rattle.std.specs.Prelude.{◌≡◌, ◌≢◌, ◌+◌, ◌-◌, ◌^◌, ◌<◌, ◌≤◌, ◌++◌, [], ◌∷◌, ◌↔◌, List, ℕ, length, vec_len, vec_capacity, slice_get, slice_index, IsTrue, IfOk, IfErr, OnOk, OnErr, IsSome, None, Some, ◌⊎◌};
-ghost use Rattle.house_io.specs.Causes.{Rose};
+ghost use Rattle.house_io.specs.Faults.{Rose};
 ghost use Rattle.house_io.specs.Moments.{AtEach, Leaves, IsSettled};
 ghost use Rattle.report_journal.specs.Format.{StandsFor, IsUnformed, front};
 ghost use Rattle.report_journal.specs.Journals.{Stands, payload_at};

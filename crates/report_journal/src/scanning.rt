@@ -1,6 +1,6 @@
 //! A journal's file, read whole.
 ghost use Rattle.std.specs.Prelude.{◌≡◌, ◌⊎◌, ◌≤◌, length, take, slice_index, IsTrue, IfOk, IfErr, IfSome, IfNone, OnOk};
-ghost use Rattle.house_io.specs.Causes.{HasCause, Rose};
+ghost use Rattle.house_io.specs.Faults.{HasCause, Rose};
 ghost use Rattle.house_io.specs.Moments.{IsSettled};
 ghost use Rattle.report_journal.specs.Format.{IsUnformed};
 ghost use Rattle.report_journal.specs.Puts.{IsSynced};

@@ -1,6 +1,6 @@
 //! The steps of a journal's calls on its disk: each writes a piece and syncs it.
 ghost use Rattle.std.specs.Prelude.{◌≡◌, ◌+◌, ◌^◌, ◌<◌, ◌≤◌, ◌↔◌, List, ℕ, length, slice_index, IsTrue, IfOk, OnOk, OnErr};
-ghost use Rattle.house_io.specs.Causes.{HasCause};
+ghost use Rattle.house_io.specs.Faults.{HasCause};
 ghost use Rattle.house_io.specs.Moments.{settled, IsSettled, overlaid, Torn, AtEach};
 ghost use Rattle.report_journal.specs.Format.{Contents, StandsFor, IsUnformed};
 ghost use Rattle.report_journal.specs.Puts.{Takes, with_one_more, empty, IsBeforeOrAfter, IsUnformedOrEmpty, IsShut, IsHeader, IsSynced};
