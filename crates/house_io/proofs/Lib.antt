@@ -7,3 +7,4 @@ mod Finding
 pub mod Moments
 pub mod Overlays
 mod Replays
+mod Images

@@ -14,3 +14,4 @@ pub mod ListFiles
 pub mod Moments
 pub mod Calls
 pub mod Recorded
+pub mod Ranges

@@ -26,7 +26,7 @@ pub use list::{ListSink, ListSource};
 pub use list_disk::ListDisk;
 pub use list_shelf::{ListFile, ListShelf};
 pub use real::{FileSource, StdoutSink};
-pub use recorded_file::RecordedFile;
+pub use recorded_file::{Fill, RecordedFile};
 pub use shelves::{Refusal, Shelf};
 pub use sinks::{Sink, write_whole};
 pub use sources::{ReadWhole, Source, read_whole};

@@ -1,11 +1,11 @@
 //! A disk in memory, of which chosen calls fail.
 ghost use Rattle.std.specs.Prelude.{◌≡◌, ◌↔◌, ◌-◌, IsTrue, IfOk, OnOk, OnErr, IsErr, length, take, drop, min};
 ghost use Rattle.house_io.specs.ListForms.{begun, counted, IsToFail, faults_after};
-ghost use Rattle.house_io.specs.Moments.{opened, wrote, synced_at};
+ghost use Rattle.house_io.specs.Moments.{IsImage, opened, wrote, synced_at};
 ghost use Rattle.house_io.specs.Calls.{tore, room_for};
 
 use crate::failing::FailingCalls;
-use crate::{Disk, Failed, RecordedFile};
+use crate::{Disk, Failed, Fill, RecordedFile};
 use lot_base::NoMemory;
 use std::alloc::Global;
 
@@ -48,6 +48,13 @@ impl ListDisk {
         ensures { result.now ≡ self.now.file.bytes.items }
     {
         &self.file.bytes
+    }
+
+    /// An image: what a crash now may leave, with this in the ranges that were written since the last good sync.
+    pub fn image(&self, alloc: Global, fill: Fill) -> Result<Vec<u8>, NoMemory>
+        ensures { IfOk result (λ image. IsTrue self.now.file.told → IsImage (moments_of self.now.file).now image.items) }
+    {
+        self.file.image(alloc, fill)
     }
 
     /// Counts one call, and its fault where it is to fail.

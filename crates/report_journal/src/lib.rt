@@ -15,3 +15,6 @@ pub use faults::{JournalFault, Mended, NotFormed};
 pub use journal::Journal;
 pub use places::{Place, Places};
 pub use scanning::{Scanned, scan};
+
+#[cfg(test)]
+mod tests;
