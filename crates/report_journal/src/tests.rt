@@ -27,7 +27,7 @@ enum Seen {
     Damaged(u32),
 }
 
-fn seen(scanned: &Scanned) -> Seen {
+fn seen_by(scanned: &Scanned) -> Seen {
     match scanned {
         Scanned::Unformed => Seen::Unformed,
         Scanned::Formed { records, .. } => Seen::Formed(records.as_slice().len()),
@@ -39,11 +39,11 @@ fn seen(scanned: &Scanned) -> Seen {
 fn seen_in(alloc: Global, file: &[u8]) -> Result<Seen, Fail> {
     let mut disk = SureDisk::new(alloc, file.to_vec(alloc)?, ROOM)?;
     let scanned = scan(alloc, &mut disk)?;
-    Ok(seen(&scanned))
+    Ok(seen_by(&scanned))
 }
 
-fn formed<D: Disk>(result: Result<Journal<D>, NotFormed<D>>) -> Result<Journal<D>, D> {
-    match result {
+fn formed<D: Disk>(answer: Result<Journal<D>, NotFormed<D>>) -> Result<Journal<D>, D> {
+    match answer {
         Ok(journal) => Ok(journal),
         Err(NotFormed { disk, fault: _ }) => Err(disk),
     }
@@ -82,7 +82,10 @@ fn a_scan_finds_the_places_and_the_header(rt: HostRuntime) -> Result<(), Fail> {
     assert_eq!(rt; clock, 3);
     assert_eq!(rt; found, digest());
     assert_eq!(rt; end, 56);
-    assert_eq!(rt; records.as_slice(), [Place { at: 46, length: 10 }].as_slice());
+    assert_eq!(rt;
+        records.as_slice(),
+        [Place { at: 46, length: 10 }].as_slice()
+    );
     Ok(())
 }
 
@@ -104,9 +107,17 @@ fn each_cut_of_a_file_is_read_for_what_it_is(rt: HostRuntime) -> Result<(), Fail
     let alloc = rt.alloc();
     for cut in 0..58 {
         let mut file = FILE;
-        assert_eq!(rt; seen_in(alloc, &file[..cut])?, expected_at(cut, true), "open, cut at {cut}");
+        assert_eq!(rt;
+            seen_in(alloc, &file[..cut])?,
+            expected_at(cut, true),
+            "open, cut at {cut}"
+        );
         file[41] = 0;
-        assert_eq!(rt; seen_in(alloc, &file[..cut])?, expected_at(cut, false), "closed, cut at {cut}");
+        assert_eq!(rt;
+            seen_in(alloc, &file[..cut])?,
+            expected_at(cut, false),
+            "closed, cut at {cut}"
+        );
     }
     Ok(())
 }
@@ -127,17 +138,65 @@ fn altered(alloc: Global, at: usize, bytes: &[u8], cut: usize) -> Result<Vec<u8>
 fn a_hostile_file_is_read_for_what_it_is(rt: HostRuntime) -> Result<(), Fail> {
     let alloc = rt.alloc();
     let table: [(&str, usize, &[u8], usize, Seen); 12] = [
-        ("the greatest length", 42, &[0xff, 0xff, 0xff, 0xff], 57, Seen::Damaged(1)),
-        ("a length past the limit", 42, &[0, 0, 0x80, 1], 57, Seen::Damaged(1)),
-        ("a length past the file", 42, &[0, 0, 0, 11], 57, Seen::Damaged(1)),
-        ("a shorter length, on a closed gate", 42, &[0, 0, 0, 9, 1, 0, 0, 0, 1, 1, 0, 1, 0, 0], 57, Seen::Formed(1)),
-        ("a second record, past the file", 56, &[0xa5], 57, Seen::Damaged(2)),
+        (
+            "the greatest length",
+            42,
+            &[0xff, 0xff, 0xff, 0xff],
+            57,
+            Seen::Damaged(1),
+        ),
+        (
+            "a length past the limit",
+            42,
+            &[0, 0, 0x80, 1],
+            57,
+            Seen::Damaged(1),
+        ),
+        (
+            "a length past the file",
+            42,
+            &[0, 0, 0, 11],
+            57,
+            Seen::Damaged(1),
+        ),
+        (
+            "a shorter length, on a closed gate",
+            42,
+            &[0, 0, 0, 9, 1, 0, 0, 0, 1, 1, 0, 1, 0, 0],
+            57,
+            Seen::Formed(1),
+        ),
+        (
+            "a second record, past the file",
+            56,
+            &[0xa5],
+            57,
+            Seen::Damaged(2),
+        ),
         ("another name", 1, b"AHJ2", 57, Seen::Damaged(0)),
-        ("another name and no record", 1, b"BHJ1", 42, Seen::Damaged(0)),
+        (
+            "another name and no record",
+            1,
+            b"BHJ1",
+            42,
+            Seen::Damaged(0),
+        ),
         ("another first gate", 0, &[0xa4], 57, Seen::Unformed),
         ("41 bytes", 0, &[], 41, Seen::Unformed),
-        ("42 bytes, an open gate the last", 0, &[], 42, Seen::Damaged(1)),
-        ("42 bytes, a closed gate the last", 41, &[0x5a], 42, Seen::Formed(0)),
+        (
+            "42 bytes, an open gate the last",
+            0,
+            &[],
+            42,
+            Seen::Damaged(1),
+        ),
+        (
+            "42 bytes, a closed gate the last",
+            41,
+            &[0x5a],
+            42,
+            Seen::Formed(0),
+        ),
         ("43 bytes", 0, &[], 43, Seen::Damaged(1)),
     ];
     for (story, at, bytes, cut, expected) in table {
@@ -167,9 +226,15 @@ fn a_record_whose_last_sync_fails_is_counted_once(rt: HostRuntime) -> Result<(),
     let Ok(mut journal) = formed(Journal::form(alloc, listed(alloc, 10)?, 3, digest())) else {
         return Err("not formed".into());
     };
-    assert_eq!(rt; journal.append(alloc, &PAYLOAD), Err(JournalFault::DiskFault));
+    assert_eq!(rt;
+        journal.append(alloc, &PAYLOAD),
+        Err(JournalFault::DiskFault)
+    );
     assert_eq!(rt; journal.count(), 0);
-    assert_eq!(rt; journal.append(alloc, &PAYLOAD), Err(JournalFault::NotMended));
+    assert_eq!(rt;
+        journal.append(alloc, &PAYLOAD),
+        Err(JournalFault::NotMended)
+    );
     assert_eq!(rt; journal.mend(), Ok(Mended::Counted));
     assert_eq!(rt; journal.count(), 1);
     assert_eq!(rt; journal.mend(), Ok(Mended::Nothing));
@@ -183,7 +248,10 @@ fn a_record_whose_body_fails_is_dropped_and_put_again(rt: HostRuntime) -> Result
     let Ok(mut journal) = formed(Journal::form(alloc, listed(alloc, 7)?, 3, digest())) else {
         return Err("not formed".into());
     };
-    assert_eq!(rt; journal.append(alloc, &PAYLOAD), Err(JournalFault::DiskFault));
+    assert_eq!(rt;
+        journal.append(alloc, &PAYLOAD),
+        Err(JournalFault::DiskFault)
+    );
     assert_eq!(rt; journal.mend(), Ok(Mended::Dropped));
     assert_eq!(rt; journal.append(alloc, &PAYLOAD), Ok(1));
     assert_eq!(rt; journal.into_disk().bytes(), FILE.as_slice());
@@ -243,7 +311,10 @@ fn each_stop_leaves_what_was_acknowledged(rt: HostRuntime) -> Result<(), Fail> {
         for fill in fills {
             let image = disk.image(alloc, fill)?;
             let found = seen_in(alloc, &image)?;
-            assert!(rt; is_left_by(came, found), "{came:?} at {stop}: {fill:?} is {found:?}");
+            assert!(rt;
+                is_left_by(came, found),
+                "{came:?} at {stop}: {fill:?} is {found:?}"
+            );
         }
     }
     Ok(())
@@ -258,7 +329,10 @@ fn each_failing_call_is_mended(rt: HostRuntime) -> Result<(), Fail> {
         for fill in fills {
             let image = disk.image(alloc, fill)?;
             let found = seen_in(alloc, &image)?;
-            assert!(rt; is_left_by(came, found), "{came:?} at {failing}: {fill:?} is {found:?}");
+            assert!(rt;
+                is_left_by(came, found),
+                "{came:?} at {failing}: {fill:?} is {found:?}"
+            );
         }
     }
     Ok(())
