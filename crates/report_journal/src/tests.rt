@@ -1,4 +1,8 @@
 //! What no clause says: the calls answer with ample memory, the format's bytes, and what is left at each stop.
+ghost use Rattle.std.specs.Prelude.{◌≡◌, [], IfOk};
+ghost use Rattle.house_io.specs.Moments.{opened};
+ghost use Rattle.house_io.specs.Recorded.{moments_of};
+
 use crate::{Journal, JournalFault, Mended, NotFormed, Place, Scanned, scan};
 use house_io::{Disk, Fill, ListDisk, SureDisk};
 use std::alloc::Global;
@@ -214,7 +218,9 @@ fn a_file_of_open_gates_has_another_name(rt: HostRuntime) -> Result<(), Fail> {
 }
 
 /// A journal on a disk whose call of this number fails, and how far it came.
-fn listed(alloc: Global, failing: u64) -> Result<ListDisk, Fail> {
+fn listed(alloc: Global, failing: u64) -> Result<ListDisk, Fail>
+    ensures { IfOk result (λ disk. moments_of disk.file ≡ opened []) }
+{
     let mut calls = Vec::new(alloc);
     calls.push(failing)?;
     Ok(ListDisk::new(alloc, Vec::new(alloc), ROOM, calls)?)
@@ -267,7 +273,9 @@ enum Came {
 }
 
 /// Runs on a disk until a call fails for good, and gives it back.
-fn run(alloc: Global, disk: ListDisk) -> (ListDisk, Came) {
+fn run(alloc: Global, disk: ListDisk) -> (ListDisk, Came)
+    requires { moments_of disk.file ≡ opened [] }
+{
     let mut journal = match formed(Journal::form(alloc, disk, 3, digest())) {
         Ok(journal) => journal,
         Err(disk) => return (disk, Came::NotFormed),
@@ -283,7 +291,9 @@ fn run(alloc: Global, disk: ListDisk) -> (ListDisk, Came) {
 }
 
 /// A disk all of whose calls fail from this number on.
-fn stopped_at(alloc: Global, stop: u64) -> Result<ListDisk, Fail> {
+fn stopped_at(alloc: Global, stop: u64) -> Result<ListDisk, Fail>
+    ensures { IfOk result (λ disk. moments_of disk.file ≡ opened []) }
+{
     let mut calls = Vec::new(alloc);
     for call in 0..32 {
         calls.push(stop.saturating_add(call))?;
@@ -351,6 +361,7 @@ fn a_scan_and_a_payload_hand_on_a_fault(rt: HostRuntime) -> Result<(), Fail> {
     };
     assert_eq!(rt; journal.append(alloc, &PAYLOAD), Ok(1));
     assert!(rt; journal.payload(alloc, 1).is_err());
+    assert_eq!(rt; journal.count(), 1);
     assert_eq!(rt; journal.payload(alloc, 1)?.as_slice(), PAYLOAD.as_slice());
     Ok(())
 }
