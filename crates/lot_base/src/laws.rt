@@ -1,0 +1,1 @@
+//! Laws on the definitions: that they are the right ones.
