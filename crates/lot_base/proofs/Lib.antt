@@ -1,3 +1,12 @@
 pub mod Cells
 pub mod Sums
 pub mod Within
+pub mod Vectors
+pub mod Vec
+pub mod Exchange
+pub mod Lists
+pub mod Demand
+pub mod Meet
+pub mod Loops
+pub mod Steps
+pub mod Sets

@@ -4,7 +4,7 @@
 -- "An Efficient Dynamic Auction for Heterogeneous Commodities", American Economic Review 96(3), 2006; Milgrom and Strulovici,
 -- "Substitute Goods, Auctions, and Equilibrium", Journal of Economic Theory 144, 2009 (strong substitutes); Murota, "Discrete
 -- Convex Analysis", 2003 (the exchange property of M-natural-concave functions).
-use Rattle.std.specs.Prelude.{◌==◌, not, ◌≡◌, ◌⊎◌, ◌≤◌, ◌<◌, ℕ, ◌+◌, List, [], ◌∷◌, filter, ℤ, pos, ◌+ℤ◌, ◌-ℤ◌, ◌≤ℤ◌}
+use Rattle.std.specs.Prelude.{◌==◌, not, ◌≡◌, ◌⊎◌, ◌<◌, ℕ, ◌+◌, List, [], ◌∷◌, filter, ℤ, pos, ◌+ℤ◌, ◌-ℤ◌, ◌≤ℤ◌}
 use Rattle.std.specs.List.{AllByRecursion}
 use Rattle.std.specs.Int.{int_max}
 use Rattle.std.specs.Ordering.{int_eq}

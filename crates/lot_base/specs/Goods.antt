@@ -77,11 +77,10 @@ abbrev pub AllBelow : ℕ → List ℕ → ℕ → Type 0
 AllBelow limit [] set = Unit {0}
 AllBelow limit (p ∷ ps) set = (set % 2 ≡ 1 → p < limit) × AllBelow limit ps (set / 2)
 
--- each price of the set is above that of the opening
-abbrev pub AllAbove : List ℕ → List ℕ → ℕ → Type 0
-AllAbove [] ps set = Unit {0}
-AllAbove (o ∷ opening) [] set = Unit {0}
-AllAbove (o ∷ opening) (p ∷ ps) set = (set % 2 ≡ 1 → o < p) × AllAbove opening ps (set / 2)
+-- each price of the set is above 0
+abbrev pub AllPriced : List ℕ → ℕ → Type 0
+AllPriced [] set = Unit {0}
+AllPriced (p ∷ ps) set = (set % 2 ≡ 1 → 0 < p) × AllPriced ps (set / 2)
 
 -- the number is from low to high
 pub record IsRange (low high n : ℕ) : Type 0 where
