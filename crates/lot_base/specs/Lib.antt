@@ -4,5 +4,6 @@ pub mod Box
 pub mod Demands
 pub mod Economy
 pub mod Equilibrium
+pub mod Choices
 pub mod Steps
 pub mod Limits
