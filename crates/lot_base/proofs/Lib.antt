@@ -1,4 +1,5 @@
 pub mod Cells
+pub mod Costs
 pub mod Sums
 pub mod Within
 pub mod Vectors

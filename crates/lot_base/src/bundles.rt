@@ -3,7 +3,7 @@ ghost use Rattle.std.specs.Prelude.{◌≡◌, ◌↔◌, ℕ, ◌<◌, ◌≤�
 ghost use Rattle.std.specs.List.{list_all};
 ghost use Rattle.std.specs.Cmp.Lexicographic.{slice_cmp};
 ghost use Rattle.std.specs.Ordering.{nat_cmp};
-ghost use Rattle.lot_base.specs.Goods.{quantity_in, is_within, box_size, AtMost};
+ghost use Rattle.lot_base.specs.Goods.{quantity_in, cost, is_within, box_size, AtMost};
 ghost use Rattle.lot_base.specs.Box.{index_of, bundle_at};
 
 use crate::supply::{GoodSet, six_cells, sum_in};
@@ -68,6 +68,14 @@ impl Bundle {
     {
         within(supply, &self.cells[..self.count as usize])
     }
+
+    /// What the bundle costs at the prices.
+    pub(crate) fn cost_at(&self, prices: &[u32]) -> u64
+        requires { length prices.now ≤ 6 }
+        ensures { result ≡ cost prices.now self.now }
+    {
+        cost_of(prices, &self.cells[..self.count as usize])
+    }
 }
 
 fn within(supply: &[u16], quantities: &[u16]) -> bool
@@ -83,6 +91,18 @@ fn each_within(supply: &[u16], quantities: &[u16]) -> bool
         .iter()
         .zip(quantities.iter())
         .all(|(units, quantity)| *quantity <= *units)
+}
+
+/// The sum of each price times its quantity.
+fn cost_of(prices: &[u32], quantities: &[u16]) -> u64
+    requires { length prices.now ≤ 6 }
+    ensures { result ≡ cost prices.now quantities.now }
+{
+    let mut total = 0u64;
+    for (price, quantity) in prices.iter().zip(quantities) {
+        total += *price as u64 * *quantity as u64;
+    }
+    total
 }
 
 /// The units of the goods of a set.
