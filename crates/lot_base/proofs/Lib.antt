@@ -1,6 +1,8 @@
 pub mod Cells
 pub mod Costs
 pub mod Sums
+pub mod Index
+pub mod Digits
 pub mod Within
 pub mod Vectors
 pub mod Vec
