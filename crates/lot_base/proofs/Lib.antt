@@ -2,6 +2,7 @@ pub mod Cells
 pub mod Costs
 pub mod Sums
 pub mod Index
+pub mod Ascending
 pub mod Digits
 pub mod Within
 pub mod Vectors
