@@ -1,5 +1,6 @@
 pub mod Cells
 pub mod Costs
+pub mod Order
 pub mod Sums
 pub mod Index
 pub mod Ascending
