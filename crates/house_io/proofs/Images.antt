@@ -1,5 +1,5 @@
 -- What a crash may leave: the file of the last sync, and an image with other bytes in a range that was written.
-use Rattle.std.proofs.Common.{◌≡◌, ◌⊎◌, inl, inr, ⊎_elim, ℕ, zero, suc, ◌+◌, ◌<◌, ◌≤◌, max, List, [], ◌∷◌, ◌++◌, length, get_or, refl, sym, ◌∙◌, ap, subst, arith}
+use Rattle.std.proofs.Common.{◌≡◌, ◌⊎◌, inl, inr, ⊎_elim, ℕ, zero, suc, ◌+◌, ◌<◌, ◌≤◌, List, [], ◌∷◌, ◌++◌, length, get_or, refl, ◌∙◌, subst, arith}
 use Rattle.house_io.specs.Moments.{Moment, IsImage, IsOutside, Torn, end_of}
 use Rattle.house_io.specs.Ranges.{latest_first}
 use Rattle.house_io.specs.declared.recorded_file.Range.{Range}

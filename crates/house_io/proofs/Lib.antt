@@ -8,3 +8,5 @@ pub mod Moments
 pub mod Overlays
 mod Replays
 mod Images
+mod Shelving
+mod ListShelving

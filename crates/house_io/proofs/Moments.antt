@@ -1,5 +1,5 @@
 -- How a run of device calls goes on, and which images a moment has.
-use Rattle.std.proofs.Common.{Bool, IsTrue, true, false, ◌≡◌, ◌⊎◌, inl, inr, ⊎_elim, ℕ, ◌+◌, ◌<◌, ◌≤◌, max, List, [], ◌∷◌, ◌++◌, length, get_or, refl, sym, ◌∙◌, ap, subst, arith, append_assoc}
+use Rattle.std.proofs.Common.{IsTrue, false, ◌≡◌, ℕ, List, [], ◌∷◌, ◌++◌, length, get_or, refl, sym, ◌∙◌, ap, subst, arith, append_assoc}
 use Rattle.std.proofs.lemmas.List.{ext_get_or}
 use Rattle.house_io.specs.Moments.{Moment, Moments, all, IsImage, Torn, settled, IsSettled, written, then, Leaves, EachLeaves, AtEach, Since}
 

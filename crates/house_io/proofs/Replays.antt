@@ -1,7 +1,7 @@
 -- One more call of a record, and that what a read gives is always one of the images.
-use Rattle.std.proofs.Common.{◌≡◌, ◌⊎◌, ℕ, ◌+◌, ◌≤◌, ◌<◌, List, [], ◌∷◌, ◌++◌, length, take, drop, get_or, refl, sym, ◌∙◌, ap, arith, length-drop}
+use Rattle.std.proofs.Common.{◌≡◌, ℕ, ◌+◌, ◌≤◌, List, [], ◌∷◌, ◌++◌, length, take, drop, refl, ◌∙◌, ap, arith, length-drop}
 use Rattle.std.proofs.lemmas.List.{take-append-le, drop-append-le, take_all}
-use Rattle.house_io.specs.Moments.{Moment, Moments, IsImage, Torn, overlaid, opened, written, wrote, synced_at}
+use Rattle.house_io.specs.Moments.{Moments, IsImage, overlaid, opened, wrote, synced_at}
 use Rattle.house_io.specs.Calls.{replay, total, tore}
 use Rattle.house_io.specs.declared.recorded_file.Call.{Call}
 use Rattle.house_io.specs.declared.recorded_file.Call.TheVariants.{Write, Tear, Sync}

@@ -1,5 +1,5 @@
 -- The moments that a record of calls stands for.
-use Rattle.std.specs.Prelude.{ℕ, ◌+◌, ◌-◌, List, [], ◌∷◌, length, take, drop}
+use Rattle.std.specs.Prelude.{ℕ, ◌+◌, ◌-◌, List, [], ◌∷◌, take, drop}
 use Rattle.house_io.specs.Moments.{Moments, written, then, wrote, synced_at}
 use Rattle.house_io.specs.declared.recorded_file.Call.{Call}
 use Rattle.house_io.specs.declared.recorded_file.Call.TheVariants.{Write, Tear, Sync}

@@ -15,3 +15,4 @@ pub mod Moments
 pub mod Calls
 pub mod Recorded
 pub mod Ranges
+pub mod Places

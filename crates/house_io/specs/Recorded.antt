@@ -1,5 +1,5 @@
 -- A file in memory as its callers see it.
-use Rattle.std.specs.Prelude.{◌≡◌, ◌↔◌, ℕ, ◌+◌, ◌-◌, ◌≤◌, IsTrue, length}
+use Rattle.std.specs.Prelude.{◌≡◌, ◌↔◌, ℕ, ◌+◌, ◌≤◌, IsTrue}
 use Rattle.house_io.specs.Moments.{Moments, opened}
 use Rattle.house_io.specs.Calls.{replay}
 use Rattle.house_io.specs.declared.recorded_file.RecordedFile.{RecordedFile}

@@ -11,6 +11,7 @@ pub mod list_disk;
 pub mod list_shelf;
 pub mod real;
 pub mod recorded_file;
+mod shelved;
 pub mod shelves;
 pub mod sinks;
 pub mod sources;
@@ -38,5 +39,7 @@ pub use sure_shelf::{SureFile, SureShelf};
 #[derive(Clone, Copy, Debug, PartialEq, Eq)]
 pub struct Failed;
 
+#[cfg(test)]
+mod disk_tests;
 #[cfg(test)]
 mod tests;

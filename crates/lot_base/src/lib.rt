@@ -1,6 +1,25 @@
 //! Goods, bundles, prices and terms: what every layer of the auction house speaks of.
 #![tactic(auto)]
 
+pub mod auction_terms;
+pub mod bundles;
+pub mod laws;
+pub mod phases;
+pub mod pricing;
+pub mod raw;
+pub mod supply;
+pub mod tables;
+#[cfg(test)]
+mod tests;
+
+pub use auction_terms::{Terms, TermsFault};
+pub use bundles::{Bundle, compare, quantity_in};
+pub use phases::Phase;
+pub use pricing::{Prices, cost};
+pub use raw::{RawDemand, RawReport};
+pub use supply::{GoodSet, Goods, GoodsFault};
+pub use tables::{Excess, LeastTable};
+
 /// Want of memory.
 #[derive(Clone, Copy, Debug, PartialEq, Eq)]
 pub struct NoMemory;

@@ -1,4 +1,4 @@
-use Rattle.std.proofs.Common.{◌≡◌, ◌+◌, ◌∙◌, refl, length, arith, rules}
+use Rattle.std.proofs.Common.{◌≡◌, ◌+◌, ◌∙◌, refl, length, rules}
 use Rattle.house_io.proofs.Overlays.{put_back}
 use Rattle.house_io.proofs.recorded_file.overwrite.Goals as goal
 

@@ -1,4 +1,4 @@
-use Rattle.std.proofs.Common.{◌≡◌, ◌+◌, ◌-◌, ◌≤◌, IsTrue, vec_len, vec_capacity, rules, ◌++◌, [], ◌∷◌, ◌∙◌, ap, sym, length, arith, length-append}
+use Rattle.std.proofs.Common.{◌≡◌, ◌+◌, ◌-◌, ◌≤◌, IsTrue, vec_len, vec_capacity, rules, ◌++◌, [], ◌∷◌, ◌∙◌, ap, sym, arith}
 use Rattle.house_io.specs.Moments.{opened}
 use Rattle.house_io.specs.Calls.{replay, total}
 use Rattle.house_io.specs.declared.recorded_file.Call.TheVariants.{Sync}

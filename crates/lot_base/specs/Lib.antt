@@ -1,0 +1,12 @@
+pub mod Goods
+pub mod Padded
+pub mod Box
+pub mod Demands
+pub mod Economy
+pub mod Equilibrium
+pub mod Choices
+pub mod Steps
+pub mod Limits
+pub mod RowsTables
+pub mod RowsMarkets
+pub mod RowsSteps

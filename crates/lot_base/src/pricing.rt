@@ -1,0 +1,125 @@
+//! Prices.
+ghost use Rattle.std.specs.Prelude.{◌≡◌, ◌⊎◌, ℕ, ◌<◌, ◌≤◌, ◌^◌, ◌%◌, ◌/◌, ◌-◌, ◌+◌, ◌*◌, List, length, slice_index, IfSome, IfNone};
+ghost use Rattle.lot_base.specs.Goods.{cost, raised, zeros, AllBelow};
+ghost use Rattle.lot_base.specs.Padded.{padded};
+
+use crate::bundles::Bundle;
+use crate::supply::{GoodSet, Goods};
+use std::marker::Model;
+
+/// A price of each of 1 to 6 goods, seen as the list of the prices.
+#[derive(Clone, Copy, Debug)]
+pub struct Prices {
+    cells: [u32; 6],
+    count: u8,
+}
+
+impl Model for Prices {
+    ghost use Rattle.std.specs.Prelude.{ℕ, List, length, take};
+    ghost use Rattle.lot_base.specs.Padded.{padded, IsPadded};
+
+    ghost Value = { List ℕ };
+
+    ghost view = { λ p. take p.count p.cells };
+
+    ghost invariant = { λ p. IsPadded p.cells p.count };
+
+    ghost inverse = { λ prices. record { cells = padded prices; count = length prices } };
+
+    ghost inverse_ok = { λ p h i. record { cells = h.zeros i; count = h.count_is i } };
+}
+
+impl Prices {
+    /// A price of 0 for each good.
+    pub fn zero(goods: &Goods) -> Prices
+        ensures { result ≡ zeros goods.now }
+    {
+        Prices {
+            cells: [0; 6],
+            count: goods.count(),
+        }
+    }
+
+    /// These prices, of which there are 1 to 6.
+    pub fn read(prices: &[u32]) -> Option<Prices>
+        ensures some { IfSome result (λ p. (p ≡ prices.now) × (1 ≤ length prices.now) × (length prices.now ≤ 6)) }
+        ensures none { IfNone result ((length prices.now ≡ 0) ⊎ (6 < length prices.now)) }
+    {
+        if prices.is_empty() || prices.len() > 6 {
+            return None;
+        }
+        Some(Prices {
+            cells: six_prices(prices),
+            count: prices.len() as u8,
+        })
+    }
+
+    /// How many prices there are.
+    pub fn count(&self) -> u8
+        ensures { result ≡ length self.now }
+    {
+        self.count
+    }
+
+    /// The price of a good.
+    pub fn get(&self, good: u8) -> u32
+        requires { good < length self.now }
+        ensures { result ≡ slice_index self.now good }
+    {
+        self.cells[good as usize]
+    }
+
+    /// One more on each good of the set.
+    pub fn raise(&self, set: GoodSet) -> Prices
+        requires { AllBelow (2 ^ 32 - 1) self.now set.0 }
+        ensures { result ≡ raised self.now set.0 }
+    {
+        Prices {
+            cells: six_raised(&self.cells[..self.count as usize], set.0),
+            count: self.count,
+        }
+    }
+}
+
+/// What a bundle costs at the prices.
+pub fn cost(p: &Prices, x: &Bundle) -> u64
+    ensures { result ≡ cost p.now x.now }
+{
+    x.cost_at(&p.cells[..p.count as usize])
+}
+
+/// The prices, and zeros behind them.
+fn six_prices(prices: &[u32]) -> [u32; 6]
+    requires { length prices.now ≤ 6 }
+    ensures { result ≡ padded prices.now }
+{
+    let mut cells = [0u32; 6];
+    cells[..prices.len()].copy_from_slice(prices);
+    cells
+}
+
+/// One more at each place of the set, and zeros behind them.
+fn six_raised(prices: &[u32], set: u8) -> [u32; 6]
+    requires few { length prices.now ≤ 6 }
+    requires below { AllBelow (2 ^ 32 - 1) prices.now set }
+    ensures { result ≡ padded (raised prices.now set) }
+{
+    let mut cells = [0u32; 6];
+    cells[..prices.len()].copy_from_slice(prices);
+    raise_each(&mut cells[..prices.len()], set);
+    cells
+}
+
+/// One more at each place of the set.
+fn raise_each(prices: &mut [u32], set: u8)
+    requires { AllBelow (2 ^ 32 - 1) prices.old set }
+    ensures { prices.new ≡ raised prices.old set }
+{
+    let mut rest = set;
+    for price in prices.iter_mut() {
+        if rest % 2 == 1 {
+            *price += 1;
+        }
+        rest /= 2;
+    }
+}
