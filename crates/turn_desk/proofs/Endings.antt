@@ -11,12 +11,13 @@ use Rattle.atomic_table.specs.Table.{State, Final, Seen, opening}
 use Rattle.turn_desk.specs.declared.view.Stage.TheVariants.{Rests}
 use Rattle.turn_desk.specs.declared.view.View.{View}
 use Rattle.turn_desk.specs.Histories.{total, one_if, between, times_at, StartsWith, StartsWithAll, StandIn}
-use Rattle.turn_desk.specs.Views.{holding, founder, numbered}
-use Rattle.turn_desk.specs.Rule.{home, Fits, KeepsRule, AtHome}
+use Rattle.turn_desk.specs.Views.{holding, founder, numbered, reached}
+use Rattle.turn_desk.specs.Rule.{home, Fits, KeepsRule, AtHome, InTurn}
 use Rattle.turn_desk.specs.Steps.{Ends}
 use Rattle.turn_desk.proofs.Totals.{total_at, total_two, total_only, total_none}
-use Rattle.turn_desk.proofs.Stages.{out_or_not, hold_le_active, none_of, starts_whole}
+use Rattle.turn_desk.proofs.Stages.{out_or_not, hold_le_active, none_of, starts_whole, hold_fits}
 use Rattle.turn_desk.proofs.Crews.{made_is}
+use Rattle.turn_desk.proofs.Tickets.{only_holder}
 
 one_view : {V : Type 0} (P : V → Type 0) (v : V) (j : ℕ) (u : V) → get_elem? (v ∷ []) j ≡ some u → P v → P u
 one_view P v zero u e h = subst P (some-injective v u e) h
@@ -37,6 +38,10 @@ first_home (x ∷ xs) = x
 home_is : {B : Type 0} (out : Bool) (b book : B) → home out b ∷ [] ≡ some (Some book) ∷ [] → (out ≡ false) × (b ≡ book)
 home_is true b book e = absurd (some-ne-none (Some book) (sym (ap first_home e)))
 home_is false b book e = (refl, cc)
+
+is_out : (b : Bool) → one_if b ≡ 1 → b ≡ true
+is_out true h = refl
+is_out false h = absurd (omega arith)
 
 -- a view that is not spent counts once under its number
 one_numbered : {E O : Type 0} (n : ℕ) (v : View E O) → 0 < v.seats → n ≡ v.number → numbered n v ≡ 1
@@ -91,6 +96,22 @@ module _ {B E O : Type 0} (history : B → List E) (origin : B → O) (first : B
         origins = λ j v at some_v. ((k.each j v at).origin_is some_v, (k.each j v at).start_is some_v);
         queue = let a = ap (λ (ws : List ℕ). slice_index ws 0) k.words_are in let b = ap (λ (ws : List ℕ). slice_index ws 1) k.words_are in let c = k.queue.length_is in omega arith;
         holders = none_holds;
+      }
+
+  pub in_turn : (place : ℕ) (w : View E O) (s : State (Option B) (View E O)) → KeepsRule history origin first s → get_elem? s.views place ≡ some w → holding w.stage ≡ 1 → InTurn history origin first place w s
+  in_turn place w s k at holds =
+      let only = only_holder history origin first s k place w at holds in
+      let mine = hold_fits k.serving k.log w.stage holds (k.each place w at).turn_is in
+      let log_is : k.log ≡ reached w.stage = sym mine.1 in record {
+        slot = k.homes_are ∙ ap (λ (z : Bool). home z k.book ∷ []) (is_out k.out only.0);
+        serving = ap (λ (ws : List ℕ). slice_index ws 1) k.words_are ∙ ap (λ (z : ℕ). z % 2 ^ 64) (sym mine.0);
+        alone = only.1;
+        count = ap (λ (ws : List ℕ). slice_index ws 2) k.words_are ∙ ap (λ (z : List E). length z % 2 ^ 64) log_is;
+        goes_on = subst (λ (z : List E). StartsWith z (history first)) log_is k.goes_on;
+        seen = λ j v here. subst (λ (z : List E). StartsWith z v.seen) log_is (k.each j v here).seen;
+        own = λ j v here. subst (λ (z : List E). StandIn z v.own) log_is (k.each j v here).own;
+        places = λ n. k.places n ∙ ap (λ (z : List E). between (length (history first)) (length z) n) log_is;
+        queue = let a = ap (λ (ws : List ℕ). slice_index ws 0) k.words_are in let b = ap (λ (ws : List ℕ). slice_index ws 1) k.words_are in let c = k.queue.length_is in omega arith;
       }
 
   ends : (id : ℕ) (v : View E O) (ws : List ℕ) (xs : List (Option B)) → v.stage ≡ Rests → v.seats ≡ v.made → 0 < v.made → Final (Seen (KeepsRule history origin first) id v) ws xs → (b : B) × (get_elem? xs 0 ≡ some (Some b)) × Ends history origin first v b

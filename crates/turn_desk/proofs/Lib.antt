@@ -7,3 +7,4 @@ pub mod Seats
 pub mod Endings
 pub mod Growth
 pub mod Gathering
+pub mod Rounds

@@ -1,7 +1,8 @@
 -- The rule of the desk: what holds of its words, its slot and all views between any two steps.
 -- Word 0 is the next ticket, word 1 the ticket that is served, word 2 the number of entries, each modulo 2^64.
 -- The slot has the book, or is out with the seat whose turn it is.
--- `AtHome` says it in the words of the README for a desk whose book lies on it; `KeepsRule` is what every step keeps.
+-- `KeepsRule` is what every step keeps. `AtHome` says in plain words what it comes to while the book lies on the desk, and `InTurn`
+-- while a seat has it.
 use Rattle.std.specs.Prelude.{◌≡◌, ◌≢◌, ℕ, ◌+◌, ◌%◌, ◌^◌, ◌<◌, ◌≤◌, List, [], ◌∷◌, ◌++◌, length, Option, Some, Bool, true, false, ltb, slice_index}
 use mathlib.Core.Option.{some, none}
 use mathlib.Core.Option as maybe
@@ -11,7 +12,7 @@ use Rattle.turn_desk.specs.declared.view.Stage.{Stage}
 use Rattle.turn_desk.specs.declared.view.Stage.TheVariants.{Rests, Waits, Holds}
 use Rattle.turn_desk.specs.declared.view.View.{View}
 use Rattle.turn_desk.specs.Histories.{StartsWith, StartsWithAll, StandIn, times_at, total, one_if, between}
-use Rattle.turn_desk.specs.Views.{active, holding, at_ticket, numbered}
+use Rattle.turn_desk.specs.Views.{active, holding, at_ticket, ticket_of, reached, numbered}
 
 -- the slot: empty while its value is out
 abbrev pub home : {B : Type 0} → Bool → B → maybe.Option (Option B)
@@ -85,3 +86,20 @@ module _ {B E O : Type 0} (history : B → List E) (origin : B → O) (first : B
     -- the next ticket is the one that is served and the number of views that wait, since none holds the turn
     pub queue : slice_index s.words 0 ≡ (slice_index s.words 1 + total (λ (v : View E O). active v.stage) s.views) % 2 ^ 64
     pub holders : total (λ (v : View E O). holding v.stage) s.views ≡ 0
+
+  -- what is so while the view w, at this place among the views, has the turn
+  pub record InTurn (place : ℕ) (w : View E O) (s : State (Option B) (View E O)) : Type 0 where
+    -- the book is out, its ticket is the one that is served, and no other view has the turn
+    pub slot : s.homes ≡ none ∷ []
+    pub serving : slice_index s.words 1 ≡ ticket_of w.stage % 2 ^ 64
+    pub alone : (j : ℕ) (v : View E O) → j ≢ place → get_elem? s.views j ≡ some v → holding v.stage ≡ 0
+
+    -- the count is that of the history that it has reached, which begins with what each view has seen and has each view's own entries
+    pub count : slice_index s.words 2 ≡ length (reached w.stage) % 2 ^ 64
+    pub goes_on : StartsWith (reached w.stage) (history first)
+    pub seen : (j : ℕ) (v : View E O) → get_elem? s.views j ≡ some v → StartsWith (reached w.stage) v.seen
+    pub own : (j : ℕ) (v : View E O) → get_elem? s.views j ≡ some v → StandIn (reached w.stage) v.own
+    pub places : (k : ℕ) → total (λ (v : View E O). times_at k v.own) s.views ≡ between (length (history first)) (length (reached w.stage)) k
+
+    -- the next ticket is the one that is served and the number of views that wait or have the turn
+    pub queue : slice_index s.words 0 ≡ (slice_index s.words 1 + total (λ (v : View E O). active v.stage) s.views) % 2 ^ 64
