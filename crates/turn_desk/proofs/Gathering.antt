@@ -9,7 +9,7 @@ use Rattle.turn_desk.specs.declared.view.View.{View}
 use Rattle.turn_desk.specs.Histories.{StartsWith, StandIn, total, times_at}
 use Rattle.turn_desk.specs.Views.{began, unsteady}
 use Rattle.turn_desk.specs.Steps.{both_of, Ends}
-use Rattle.turn_desk.specs.Passes.{Known, known, turn_of, new_pass, AreLater, AreNew, owns, Gathers, Closes}
+use Rattle.turn_desk.specs.Passes.{Known, known, turn_of, new_pass, AreLater, AreNew, AreAll, owns, Gathers, Closes}
 use Rattle.turn_desk.proofs.Totals.{times_at-append}
 
 -- parts of a list of which each element meets P
@@ -99,3 +99,21 @@ module _ {E O : Type 0} (desk : TableId) (history : List E) (origin : O) where
         grows ∙ ap (λ (z : Known E O). record z { made = z.made + 1 }) here,
         later_snoc 1 ps q new.2 (made ∙ (ap (λ (z : Known E O). record z { number = z.made; own = []; turn = None; made = 0 }) here ∙ ap (new_pass desk history origin 0) (let c = new.0 in omega arith))),
       )
+
+  later_made : (k : ℕ) (ps : List (Known E O)) → AreLater desk history origin k ps → total (λ (p : Known E O). p.made) ps ≡ 0
+  later_made k [] new = refl
+  later_made k (p ∷ ps) new = let here : p.made ≡ 0 = ap (λ (z : Known E O). z.made) new.0 in let more = later_made (k + 1) ps new.1 in omega arith
+
+  later_each : (P : Known E O → Type 0) (k : ℕ) (ps : List (Known E O)) → ((n : ℕ) → P (new_pass desk history origin 0 n)) → AreLater desk history origin k ps → AllByRecursion P ps
+  later_each P k [] holds new = tt
+  later_each P k (p ∷ ps) holds new = (subst P (sym new.0) (holds k), later_each P (k + 1) ps holds new.1)
+
+  -- new passes are all that there are
+  pub all_new : (n : ℕ) (ps : List (Known E O)) → 0 < n → AreNew n desk history origin ps → AreAll desk ps
+  all_new n [] some_pass new = absurd (omega arith)
+  all_new n (p ∷ ps) some_pass new = record {
+    desks = (ap (λ (z : Known E O). z.desk) new.1, later_each (λ (q : Known E O). q.desk ≡ desk) 1 ps (λ k. refl) new.2);
+    rest = (ap (λ (z : Known E O). z.turn) new.1, later_each (λ (q : Known E O). q.turn ≡ None) 1 ps (λ k. refl) new.2);
+    some_pass = omega arith;
+    all = let here : p.made ≡ n = ap (λ (z : Known E O). z.made) new.1 in let more = later_made 1 ps new.2 in let long = new.0 in omega arith;
+  }

@@ -93,13 +93,11 @@ module _ {B E O : Type 0} (history : B → List E) (origin : B → O) (first : B
     pub slot : s.homes ≡ none ∷ []
     pub serving : slice_index s.words 1 ≡ ticket_of w.stage % 2 ^ 64
     pub alone : (j : ℕ) (v : View E O) → j ≢ place → get_elem? s.views j ≡ some v → holding v.stage ≡ 0
-
     -- the count is that of the history that it has reached, which begins with what each view has seen and has each view's own entries
     pub count : slice_index s.words 2 ≡ length (reached w.stage) % 2 ^ 64
     pub goes_on : StartsWith (reached w.stage) (history first)
     pub seen : (j : ℕ) (v : View E O) → get_elem? s.views j ≡ some v → StartsWith (reached w.stage) v.seen
     pub own : (j : ℕ) (v : View E O) → get_elem? s.views j ≡ some v → StandIn (reached w.stage) v.own
     pub places : (k : ℕ) → total (λ (v : View E O). times_at k v.own) s.views ≡ between (length (history first)) (length (reached w.stage)) k
-
     -- the next ticket is the one that is served and the number of views that wait or have the turn
     pub queue : slice_index s.words 0 ≡ (slice_index s.words 1 + total (λ (v : View E O). active v.stage) s.views) % 2 ^ 64

@@ -86,6 +86,7 @@ impl<B: Book> Desk<B> {
         requires { (1 ≤ passes) × (passes ≤ 64) }
         ensures desk { IfOk result (λ r. r.0.book ≡ book) }
         ensures passes { IfOk result (λ r. AreNew passes r.0.id (B.history book) (B.origin book) r.1.items) }
+        ensures all { IfOk result (λ r. AreAll r.0.id r.1.items) }
         ensures err { IfErr result (λ r. r.book ≡ book) }
     {
         let Ok(mut list) = Vec::with_capacity(alloc, passes as usize) else {

@@ -17,5 +17,4 @@ pub fn desk_at_home<B: Book>()
 /// While a view holds the turn, all that `InTurn` lists is so.
 pub fn desk_in_turn<B: Book>()
     ensures { (first : B) (place : ℕ) (w : View B.Entry B.Origin) (s : State (Option B) (View B.Entry B.Origin)) → KeepsRule B.history B.origin first s → get_elem? s.views place ≡ some w → holding w.stage ≡ 1 → InTurn B.history B.origin first place w s }
-{
-}
+{}

@@ -176,18 +176,11 @@ fn two_threads<T: Threads + Wait + Sync>(rt: &T, alloc: Global) -> Result<Notes,
 #[test]
 fn two_threads_write_one_history_with_every_entry_once(rt: HostRuntime) -> Result<(), Fail> {
     let book = two_threads(&rt, rt.alloc())?;
-    let mut low = 0;
-    let mut high = 50;
-    for &note in &book.notes {
-        if note < 50 {
-            assert_eq!(rt; note, low);
-            low += 1;
-        } else {
-            assert_eq!(rt; note, high);
-            high += 1;
-        }
+    assert_eq!(rt; book.notes.len(), 100);
+    for want in 0..100 {
+        let times = book.notes.iter().filter(|&&note| note == want).count();
+        assert_eq!(rt; times, 1, "at {want}");
     }
-    assert_eq!(rt; (low, high), (50, 100));
     Ok(())
 }
 
@@ -205,10 +198,8 @@ fn two_rounds<T: Wait>(rt: &T, alloc: Global) -> Result<Notes, Fail> {
 fn sixty_four_passes_write_their_numbers_in_two_rounds(rt: HostRuntime) -> Result<(), Fail> {
     let book = two_rounds(&rt, rt.alloc())?;
     assert_eq!(rt; book.notes.len(), 128);
-    let mut want = 0;
-    for &note in &book.notes {
-        assert_eq!(rt; note, want % 64);
-        want += 1;
+    for (place, &note) in book.notes.iter().enumerate() {
+        assert_eq!(rt; note as usize, place % 64, "at {place}");
     }
     Ok(())
 }
