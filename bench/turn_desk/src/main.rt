@@ -6,6 +6,7 @@ ghost use Rattle.turn_desk.specs.Histories.{GoesOn};
 
 use std::alloc::{AllocError, Global};
 use std::io;
+use std::mem;
 use std::sync::{Mutex, Wait};
 use std::thread;
 use std::thread::Threads;
@@ -107,7 +108,7 @@ fn desk_two<T: Threads + Wait + Sync>(rt: &T, alloc: Global) -> Option<usize> {
     Some(desk.close(passes).notes.len())
 }
 
-/// The notes that four threads wrote.
+/// The notes that four threads wrote, as one of their passes finds them.
 fn desk_four<T: Threads + Wait + Sync>(rt: &T, alloc: Global) -> Option<usize> {
     let notes = Notes::with_room(alloc).ok()?;
     let Ok((desk, mut passes)) = Desk::new(alloc, notes, 4) else {
@@ -118,16 +119,16 @@ fn desk_four<T: Threads + Wait + Sync>(rt: &T, alloc: Global) -> Option<usize> {
     let second = passes.pop().unwrap();
     let first = passes.pop().unwrap();
     let shared = &desk;
-    let ((first, second), (third, fourth)) = thread::join(
+    let ((mut first, _second), (_third, _fourth)) = thread::join(
         rt,
         move || desk_by_two(rt, shared, first, second, TURNS / 4),
         move || desk_by_two(rt, shared, third, fourth, TURNS / 4),
     );
-    passes.push_reserved(first);
-    passes.push_reserved(second);
-    passes.push_reserved(third);
-    passes.push_reserved(fourth);
-    Some(desk.close(passes).notes.len())
+    let book = desk.take(rt, &mut first);
+    let found = book.notes.len();
+    desk.give(&mut first, book);
+    mem::forget(desk);
+    Some(found)
 }
 
 fn mutex_turns<T: Wait>(rt: &T, lock: &Mutex<Notes>, turns: u32) {
