@@ -1,1 +1,2 @@
 pub mod Excesses
+pub mod Paths

@@ -1,0 +1,15 @@
+use Rattle.std.proofs.Common.{◌∙◌}
+use Rattle.std.proofs.lemmas.List.{length-replicate}
+use Rattle.lot_base.specs.Goods.{zeros}
+use Rattle.lyapunov.specs.Paths.{prices_along}
+use Rattle.lyapunov.proofs.Digits.{length-prices}
+use Rattle.lyapunov.proofs.Moments.{as_many, highest-zeros}
+use Rattle.lyapunov.proofs.laws.steps_law.Goals as goal
+
+pub returns-clause-rise : goal.returns-clause-rise
+returns-clause-rise c = λ supply js opening sets u strong same steps. as_many supply u js strong opening sets same steps
+
+pub returns-clause-price : goal.returns-clause-price
+returns-clause-price c = λ supply js sets u strong steps.
+    as_many supply u js strong (zeros supply) sets (length-replicate _ _) steps
+    ∙ highest-zeros supply (prices_along (zeros supply) sets) (length-prices (zeros supply) sets ∙ length-replicate _ _)
