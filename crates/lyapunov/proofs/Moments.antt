@@ -48,7 +48,7 @@ few_steps s u js strong values p (set ∷ sets) same steps =
     let rest = few_steps s u js strong values (raised p set) sets (length-raised p set ∙ same) steps.2 in
     omega (arith, ints)
 
-highest-above : (o p : List ℕ) → length p ≡ length o → highest_rise o p ≡ highest (above p o)
+pub highest-above : (o p : List ℕ) → length p ≡ length o → highest_rise o p ≡ highest (above p o)
 highest-above [] [] same = refl
 highest-above [] (q ∷ p) same = absurd (omega arith)
 highest-above (a ∷ o) [] same = absurd (omega arith)

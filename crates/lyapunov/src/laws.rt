@@ -1,10 +1,12 @@
 //! Laws of the ascending clock auction, over the definitions of the economy: what a path of prices does when every bidder
 //! truly demands what its valuation says. The opening of a path is any price vector with one price per good.
-ghost use Rattle.std.specs.Prelude.{◌≡◌, ◌≢◌, ◌≤◌, ◌<◌, ℕ, List, length, ℤ, pos, ◌+ℤ◌, ◌-ℤ◌, ◌≤ℤ◌};
-ghost use Rattle.lot_base.specs.Goods.{AtMost, raised, zeros};
-ghost use Rattle.lot_base.specs.Economy.{demand, AllStrongSubstitutes, AllValuations, lyapunov, IsLeastMinimiser};
+ghost use Rattle.std.specs.Prelude.{◌≡◌, ◌≢◌, ◌≤◌, ◌<◌, ℕ, List, length, map, ℤ, pos, ◌+ℤ◌, ◌-ℤ◌, ◌≤ℤ◌};
+ghost use Rattle.lot_base.specs.Goods.{AtMost, at, cost, raised, zeros};
+ghost use Rattle.lot_base.specs.Economy.{demand, without, AllStrongSubstitutes, AllValuations, AllBelowCeiling, lyapunov, IsMinimiser, IsLeastMinimiser};
+ghost use Rattle.lot_base.specs.Equilibrium.{IsAllocation, IsWelfare, IsWalrasian, IsWalrasianPrices, IsLeastWalrasian, IsVcgPayment, worth};
+ghost use Rattle.lot_base.specs.Choices.{IsClearingChoice};
 ghost use Rattle.lot_base.specs.Steps.{excess};
-ghost use Rattle.lyapunov.specs.Paths.{true_step, prices_along, AllSteps, account_along, highest, highest_rise, IsNear, halfway_down, halfway_up};
+ghost use Rattle.lyapunov.specs.Paths.{IsOneOf, true_step, prices_along, AllSteps, account_along, highest, highest_rise, IsNear, halfway_down, halfway_up};
 
 /// The Lyapunov function is convex: over the two price vectors halfway between two others, one rounded down and one rounded
 /// up, it sums to no more than over those two.
@@ -63,4 +65,78 @@ pub fn end_law()
     ensures { (supply js opening sets : List ℕ) (u : ℕ → List ℕ → ℤ) → AllStrongSubstitutes supply u js →
         length opening ≡ length supply → AllSteps supply u js opening sets → true_step supply u js (prices_along opening sets) ≡ 0 →
         IsLeastMinimiser opening (lyapunov supply u js) (prices_along opening sets) }
+{}
+
+/// Where every bundle is worth less than the ceiling, no price that opened below the ceiling reaches it.
+pub fn ceiling_law()
+    ensures { (supply js opening sets : List ℕ) (u : ℕ → List ℕ → ℤ) (ceiling k : ℕ) → AllStrongSubstitutes supply u js →
+        AllValuations supply u js → AllBelowCeiling supply u ceiling js → length opening ≡ length supply →
+        AllSteps supply u js opening sets → at opening k < ceiling → at (prices_along opening sets) k < ceiling }
+{}
+
+/// Weak duality: no allocation is worth more than the Lyapunov function at any prices from the opening on.
+pub fn duality_law()
+    ensures { (supply opening js p : List ℕ) (u : ℕ → List ℕ → ℤ) (x : ℕ → List ℕ) → AtMost opening p → IsAllocation supply js x →
+        worth supply opening u js x ≤ℤ lyapunov supply u js p }
+{}
+
+/// A choice of demanded bundles that clears is a Walrasian equilibrium, and the other way round.
+pub fn clearing_law()
+    ensures equilibrium { (supply opening js p : List ℕ) (u : ℕ → List ℕ → ℤ) (x : ℕ → List ℕ) → AtMost opening p →
+        IsClearingChoice supply opening p (map (λ j. demand supply (u j) p) js) (map x js) → IsWalrasian supply opening u js p x }
+    ensures clears { (supply opening js p : List ℕ) (u : ℕ → List ℕ → ℤ) (x : ℕ → List ℕ) → length opening ≡ length supply →
+        IsWalrasian supply opening u js p x → IsClearingChoice supply opening p (map (λ j. demand supply (u j) p) js) (map x js) }
+{}
+
+/// In a Walrasian equilibrium the allocation has the greatest worth of all, which is the Lyapunov function at its prices, and
+/// the prices minimise that function.
+pub fn welfare_law()
+    ensures welfare { (supply opening js p : List ℕ) (u : ℕ → List ℕ → ℤ) (x : ℕ → List ℕ) → IsWalrasian supply opening u js p x →
+        IsWelfare supply opening u js (worth supply opening u js x) }
+    ensures value { (supply opening js p : List ℕ) (u : ℕ → List ℕ → ℤ) (x : ℕ → List ℕ) → IsWalrasian supply opening u js p x →
+        worth supply opening u js x ≡ lyapunov supply u js p }
+    ensures minimiser { (supply opening js p : List ℕ) (u : ℕ → List ℕ → ℤ) (x : ℕ → List ℕ) → IsWalrasian supply opening u js p x →
+        IsMinimiser opening (lyapunov supply u js) p }
+{}
+
+/// Where no set of goods is in excess demand at the end of a path, some choice of demanded bundles clears.
+pub fn existence_law()
+    ensures { (supply js opening sets : List ℕ) (u : ℕ → List ℕ → ℤ) → AllStrongSubstitutes supply u js → length opening ≡ length supply →
+        AllSteps supply u js opening sets → true_step supply u js (prices_along opening sets) ≡ 0 →
+        ((choice : List (List ℕ)) × IsClearingChoice supply opening (prices_along opening sets) (map (λ j. demand supply (u j) (prices_along opening sets)) js) choice) }
+{}
+
+/// Such prices are at most all Walrasian prices, good by good.
+pub fn least_walrasian_law()
+    ensures below { (supply js opening sets q : List ℕ) (u : ℕ → List ℕ → ℤ) → AllStrongSubstitutes supply u js → length opening ≡ length supply →
+        AllSteps supply u js opening sets → true_step supply u js (prices_along opening sets) ≡ 0 →
+        IsWalrasianPrices supply opening u js q → AtMost (prices_along opening sets) q }
+    ensures least { (supply js opening sets : List ℕ) (u : ℕ → List ℕ → ℤ) (x : ℕ → List ℕ) → AllStrongSubstitutes supply u js → length opening ≡ length supply →
+        AllSteps supply u js opening sets → true_step supply u js (prices_along opening sets) ≡ 0 →
+        IsClearingChoice supply opening (prices_along opening sets) (map (λ j. demand supply (u j) (prices_along opening sets)) js) (map x js) →
+        IsLeastWalrasian supply opening u js (prices_along opening sets) }
+{}
+
+/// A bidder pays what Vickrey, Clarke and Groves ask: the price of its award at the end of the path of all, more by what the
+/// others' account keeps on the path without it, and less by what that account keeps on the path of all.
+pub fn payment_law()
+    ensures { (supply opening js sets rests : List ℕ) (u : ℕ → List ℕ → ℤ) (i : ℕ) (x y : ℕ → List ℕ) → AllStrongSubstitutes supply u js →
+        IsOneOf i js → length opening ≡ length supply →
+        IsWalrasian supply opening u js (prices_along opening sets) x →
+        IsWalrasian supply opening u (without i js) (prices_along opening rests) y →
+        IsVcgPayment supply opening u js x i ((pos (cost (prices_along opening sets) (x i)) +ℤ account_along supply u (without i js) opening rests) -ℤ account_along supply u (without i js) opening sets) }
+{}
+
+/// Without a bidder the prices are at most those of the path of all bidders in the same round, and at most those at its end;
+/// and the path without the bidder takes no more steps.
+pub fn without_law()
+    ensures round { (supply opening js sets rests : List ℕ) (u : ℕ → List ℕ → ℤ) (i : ℕ) → AllStrongSubstitutes supply u js →
+        IsOneOf i js → length opening ≡ length supply → AllSteps supply u js opening sets → AllSteps supply u (without i js) opening rests →
+        length rests ≤ length sets → AtMost (prices_along opening rests) (prices_along opening sets) }
+    ensures end { (supply opening js sets rests : List ℕ) (u : ℕ → List ℕ → ℤ) (i : ℕ) → AllStrongSubstitutes supply u js →
+        IsOneOf i js → length opening ≡ length supply → AllSteps supply u js opening sets → true_step supply u js (prices_along opening sets) ≡ 0 →
+        AllSteps supply u (without i js) opening rests → AtMost (prices_along opening rests) (prices_along opening sets) }
+    ensures steps { (supply opening js sets rests : List ℕ) (u : ℕ → List ℕ → ℤ) (i : ℕ) → AllStrongSubstitutes supply u js →
+        IsOneOf i js → length opening ≡ length supply → AllSteps supply u js opening sets → true_step supply u js (prices_along opening sets) ≡ 0 →
+        AllSteps supply u (without i js) opening rests → length rests ≤ length sets }
 {}
