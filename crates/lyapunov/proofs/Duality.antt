@@ -181,3 +181,18 @@ walrasian-clearing s o u js p x same h =
       chosen = demanded-choice s u p x js h.demanded;
       clears = subst P (sym (sum-total s x js)) (unsold-clears o p (total_bundle s x js) s same h.prices h.allocation.within h.unsold);
     }
+
+-- at an opening of 0
+pub AtMost-any : (s p : List ℕ) → length p ≡ length s → AtMost (zeros s) p
+AtMost-any [] [] same = tt
+AtMost-any [] (a ∷ p) same = absurd (omega arith)
+AtMost-any (m ∷ s) [] same = absurd (omega arith)
+AtMost-any (m ∷ s) (a ∷ p) same = let same' : length p ≡ length s = omega arith in (omega arith, AtMost-any s p same')
+
+pub zeros-cost : (s x : List ℕ) → cost (zeros s) x ≡ 0
+zeros-cost [] x = refl
+zeros-cost (m ∷ s) [] = refl
+zeros-cost (m ∷ s) (a ∷ x) = let i = zeros-cost s x in omega arith
+
+pub worth-zeros : (s : List ℕ) (u : ℕ → List ℕ → ℤ) (js : List ℕ) (x : ℕ → List ℕ) → worth s (zeros s) u js x ≡ total_value u js x
+worth-zeros s u js x = let i = zeros-cost s s in let k = zeros-cost s (total_bundle s x js) in omega (arith, ints)

@@ -14,6 +14,8 @@ use Rattle.lot_base.proofs.Exchange.{Moved, moved_one, moved_two}
 use Rattle.lot_base.proofs.Meet.{demanded_from}
 use Rattle.lot_base.proofs.Demand.{surplus_reached, demanded_at, IsIn-demand, demand-IsIn}
 use Rattle.lot_base.proofs.Steps.{greatest_of_step}
+use Rattle.lot_base.specs.Equilibrium.{IsWalrasianPrices}
+use Rattle.lyapunov.specs.Bidders.{AllDifferent, bundle_of}
 use Rattle.lyapunov.specs.Paths.{true_step, prices_along, AllSteps}
 use Rattle.lyapunov.proofs.Convex.{length-above, length-plus, length-inside, Bits-inside}
 use Rattle.lyapunov.proofs.Entrywise.{at-rest, at-sum, same-at, AtMost-at}
@@ -21,8 +23,10 @@ use Rattle.lyapunov.proofs.Descent.{lyapunov-plus}
 use Rattle.lyapunov.proofs.Chosen.{IsSet}
 use Rattle.lyapunov.proofs.Digits.{still, length-prices}
 use Rattle.lyapunov.proofs.Moments.{ended-least}
+use Rattle.lyapunov.proofs.Duality.{clearing-walrasian}
+use Rattle.lyapunov.proofs.Bidders.{map-bundle_of, length-choice}
 use Rattle.lyapunov.proofs.Taking.{reached}
-use Rattle.lyapunov.proofs.Totals.{HasExchange, AreDemands, IsPriced, HasNoExcess, HasNoOvershoot, IsTotal, cap, length-cap, AtMost-cap, total-below, total_gives, total_takes, total-dec, low_total, high_total, free_of, cost-priced, priced-inside, parts_of, clears_from, length-choice}
+use Rattle.lyapunov.proofs.Totals.{HasExchange, AreDemands, IsPriced, HasNoExcess, HasNoOvershoot, IsTotal, cap, length-cap, AtMost-cap, total-below, total_gives, total_takes, total-dec, low_total, high_total, free_of, cost-priced, priced-inside, parts_of, clears_from, length-sum}
 
 -- where no set is in excess and none overshoots, the demands clear
 pub clearing_exists : (o p s : List ℕ) (d : ℕ → List (List ℕ)) (js : List ℕ) → AtMost o p → length o ≡ length s → AreDemands s d js → HasNoExcess s d js → HasNoOvershoot s d js (above p o)
@@ -35,7 +39,7 @@ clearing_exists o p s d js op lo h ended none =
     let t = reached (cap s js) (IsTotal w s d js) (total_gives w s d js h) (total_takes w s d js h) (λ x i. total-below w s d js h x i) (λ x. total-dec w s d js h x) s (AtMost-cap s js)
     (λ e b k. low w e b k (low_total w s d js h l e)) (λ e b k. high l e b k (high_total w s d js h l e)) (distance a.0 s) a.0 a.1 (omega arith) in
     let r = parts_of w s d js s t in
-    (r.choice, record { chosen = r.listed; clears = clears_from o p s (sum_of s r.choice) r.unsold op r.free (length-choice s d js r.choice h r.listed) r.is })
+    (r.choice, record { chosen = r.listed; clears = clears_from o p s (sum_of s r.choice) r.unsold op r.free (length-sum s d js r.choice h r.listed) r.is })
   where
     low : (w e : List ℕ) → Bits e → length e ≡ length (cap s js) → (y : List ℕ) × IsTotal w s d js y × (cost e y ≡ total_units (λ j. least_of (cost e) (d j)) js) → (y : List ℕ) × IsTotal w s d js y × (cost e y ≤ cost e s)
     low w e b k t = let lc = length-cap s js in let i = t.2 in let j = ended e (b, k ∙ lc) in (t.0, t.1, omega (arith, ints))
@@ -127,3 +131,14 @@ choice_exists s u js strong o sets lo steps none =
     clearing_exists o p s (λ j. demand s (u j) p) js m.0 lo (true_demands s u p js strong)
     (λ e is_set. let i = lyapunov-plus s u js strong p e is_set.0 in let j = rest e is_set in omega (arith, ints))
     (no_overshoot s o u js p strong lo m)
+
+-- and where its bidders are all different, a Walrasian equilibrium
+pub ended-walrasian : (s : List ℕ) (u : ℕ → List ℕ → ℤ) (js : List ℕ) → AllDifferent js → AllStrongSubstitutes s u js → (o sets : List ℕ) → length o ≡ length s → AllSteps s u js o sets
+    → true_step s u js (prices_along o sets) ≡ 0 → IsWalrasianPrices s o u js (prices_along o sets)
+ended-walrasian s u js different strong o sets lo steps none =
+    let p = prices_along o sets in
+    let t = choice_exists s u js strong o sets lo steps none in
+    let c = t.1 in
+    let e = map-bundle_of js t.0 different (length-choice (λ j. demand s (u j) p) js t.0 c.chosen) in
+    let P : List (List ℕ) → Type 0 = IsClearingChoice s o p (map (λ j. demand s (u j) p) js) in
+    (bundle_of js t.0, clearing-walrasian s o u js p (bundle_of js t.0) (ended-least s u js strong o sets lo steps none).0.0 (subst P (sym e) c))

@@ -7,7 +7,7 @@ use Rattle.lot_base.specs.Demands.{least}
 use Rattle.lot_base.specs.Economy.{demand, indirect_utility, sum_over, total_units, AllStrongSubstitutes, AllValuations, lyapunov, IsMinimiser, IsLeastMinimiser}
 use Rattle.lot_base.proofs.Vectors.{above}
 use Rattle.lot_base.proofs.Demand.{surplus_bounds, AtMost-zeros}
-use Rattle.lyapunov.specs.Paths.{true_step, prices_along, AllSteps, account_along, highest, highest_rise, IsNear}
+use Rattle.lyapunov.specs.Paths.{true_step, prices_along, AllSteps, account_along, highest, highest_rise, IsLeastNear}
 use Rattle.lyapunov.proofs.Convex.{IsMidConvex}
 use Rattle.lyapunov.proofs.Descent.{lyapunov-convex, lyapunov-raised}
 use Rattle.lyapunov.proofs.Lattice.{AtMost-self}
@@ -85,15 +85,17 @@ stands s u js strong o sets same steps =
     let Q : List ℕ → Type 0 = λ q. Standing (lyapunov s u js) o (length (digits_of s sets)) q in
     subst P (length-digits s sets) (subst Q (sym (prices-digits s o sets same)) t)
 
--- the prices after t steps minimise the function over all prices within t of the opening, and are the least that do
-pub best_within : (s : List ℕ) (u : ℕ → List ℕ → ℤ) (js : List ℕ) → AllStrongSubstitutes s u js → (o sets : List ℕ) → length o ≡ length s → AllSteps s u js o sets
-    → (q : List ℕ) → AtMost o q → IsNear o (length sets) q → lyapunov s u js (prices_along o sets) ≤ℤ lyapunov s u js q
-best_within s u js strong o sets same steps q oq near = (stands s u js strong o sets same steps).best q oq near
-
-pub least_within : (s : List ℕ) (u : ℕ → List ℕ → ℤ) (js : List ℕ) → AllStrongSubstitutes s u js → (o sets : List ℕ) → length o ≡ length s → AllSteps s u js o sets
-    → (q : List ℕ) → AtMost o q → IsNear o (length sets) q → lyapunov s u js q ≤ℤ lyapunov s u js (prices_along o sets) → AtMost (prices_along o sets) q
-least_within s u js strong o sets same steps q oq near low =
-    least_near (lyapunov s u js) (lyapunov-convex s u js strong) o (length sets) (prices_along o sets) (stands s u js strong o sets same steps) q oq near low
+-- the prices after t steps are the least that minimise the function over all prices within t of the opening
+pub least_near_opening : (s : List ℕ) (u : ℕ → List ℕ → ℤ) (js : List ℕ) → AllStrongSubstitutes s u js → (o sets : List ℕ) → length o ≡ length s → AllSteps s u js o sets
+    → IsLeastNear o (length sets) (lyapunov s u js) (prices_along o sets)
+least_near_opening s u js strong o sets same steps =
+    let t = stands s u js strong o sets same steps in
+    record {
+      above = t.above_opening;
+      near = t.near;
+      best = λ q oq near. t.best q oq near;
+      least = λ q oq near low. least_near (lyapunov s u js) (lyapunov-convex s u js strong) o (length sets) (prices_along o sets) t q oq near low;
+    }
 
 -- where no set is in excess demand, the prices are the least minimiser
 pub ended-least : (s : List ℕ) (u : ℕ → List ℕ → ℤ) (js : List ℕ) → AllStrongSubstitutes s u js → (o sets : List ℕ) → length o ≡ length s → AllSteps s u js o sets

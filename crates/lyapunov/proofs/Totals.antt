@@ -320,8 +320,8 @@ clears_from (q ∷ o) (b ∷ p) (m ∷ s) (a ∷ t) (c ∷ f) op h l e =
     let l' : length t ≡ length s = omega arith in
     (omega arith, (λ z. let k = h.1 (omega arith) in omega arith), clears_from o p s t f op.1 h.2 l' j)
 
-pub length-choice : (s : List ℕ) (d : ℕ → List (List ℕ)) (js : List ℕ) (xs : List (List ℕ)) → AreDemands s d js → IsChoice (map d js) xs → length (sum_of s xs) ≡ length s
-length-choice s d [] [] h c = length-below (zeros s) s (AtMost-zeros s)
-length-choice s d [] (x ∷ xs) h c = absurd c
-length-choice s d (j ∷ js) [] h c = absurd c
-length-choice s d (j ∷ js) (x ∷ xs) h c = let i = length-choice s d js xs h.1 c.1 in let k = length-below x s (h.0.1 x c.0) in omega (arith, length-plus x (sum_of s xs))
+pub length-sum : (s : List ℕ) (d : ℕ → List (List ℕ)) (js : List ℕ) (xs : List (List ℕ)) → AreDemands s d js → IsChoice (map d js) xs → length (sum_of s xs) ≡ length s
+length-sum s d [] [] h c = length-below (zeros s) s (AtMost-zeros s)
+length-sum s d [] (x ∷ xs) h c = absurd c
+length-sum s d (j ∷ js) [] h c = absurd c
+length-sum s d (j ∷ js) (x ∷ xs) h c = let i = length-sum s d js xs h.1 c.1 in let k = length-below x s (h.0.1 x c.0) in omega (arith, length-plus x (sum_of s xs))

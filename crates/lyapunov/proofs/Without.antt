@@ -7,7 +7,8 @@ use Rattle.lot_base.specs.Economy.{indirect_utility, without, AllStrongSubstitut
 use Rattle.lot_base.proofs.Vectors.{above, join, lower}
 use Rattle.lot_base.proofs.Vec.{cost-plus_left, length-below, at-below}
 use Rattle.lot_base.proofs.Demand.{surplus_bounds, surplus_reached}
-use Rattle.lyapunov.specs.Paths.{IsOneOf, true_step, prices_along, AllSteps, highest, highest_rise}
+use Rattle.lyapunov.specs.Bidders.{IsOneOf}
+use Rattle.lyapunov.specs.Paths.{true_step, prices_along, AllSteps, highest, highest_rise}
 use Rattle.lyapunov.proofs.Convex.{plus-above}
 use Rattle.lyapunov.proofs.Descent.{lyapunov-convex}
 use Rattle.lyapunov.proofs.Entrywise.{at-join, at-rest, same-at, highest-within}
@@ -15,7 +16,7 @@ use Rattle.lyapunov.proofs.Lattice.{lattice, length-join, AtMost-more, join-left
 use Rattle.lyapunov.proofs.Nearest.{best_still}
 use Rattle.lyapunov.proofs.Digits.{still, length-prices}
 use Rattle.lyapunov.proofs.Moments.{stands, as_many, highest-above}
-use Rattle.lyapunov.proofs.Payment.{sum-without, strong-without}
+use Rattle.lyapunov.proofs.Bidders.{sum-without, strong-without}
 
 -- at higher prices a bidder gains no more
 indirect_utility-falls : (s : List ℕ) (u : List ℕ → ℤ) (p q : List ℕ) → AtMost p q → indirect_utility s u q ≤ℤ indirect_utility s u p

@@ -1,8 +1,8 @@
 -- Paths of prices: from an opening, prices rise by one on the step set of what the bidders truly demand, again and again, as in
 -- the ascending clock auction of Ausubel 2006. Bidder j has the valuation u j; the bidders of a path are a list of numbers.
 -- A path need not have ended: it is the steps up to some moment.
-use Rattle.std.specs.Prelude.{◌≡◌, ◌≢◌, ◌≤◌, ℕ, ◌+◌, ◌-◌, ◌/◌, max, map, List, [], ◌∷◌, ℤ, pos, ◌+ℤ◌, ◌-ℤ◌, count_by, ◌==◌}
-use Rattle.lot_base.specs.Goods.{quantity_in, raised, plus, at}
+use Rattle.std.specs.Prelude.{◌≡◌, ◌≢◌, ◌≤◌, ℕ, ◌+◌, ◌-◌, ◌/◌, max, map, List, [], ◌∷◌, ℤ, pos, ◌+ℤ◌, ◌-ℤ◌, ◌≤ℤ◌}
+use Rattle.lot_base.specs.Goods.{quantity_in, raised, plus, at, AtMost}
 use Rattle.lot_base.specs.Demands.{least}
 use Rattle.lot_base.specs.Economy.{demand, total_units}
 use Rattle.lot_base.specs.Steps.{step_set}
@@ -41,13 +41,17 @@ highest_rise (o ∷ opening) (p ∷ ps) = max (p - o) (highest_rise opening ps)
 abbrev pub IsNear : List ℕ → ℕ → List ℕ → Type 0
 IsNear opening n p = (k : ℕ) → at p k ≤ at opening k + n
 
+-- the prices are at most so far above the opening, no others as near have a lower value of g, and those that have as low a
+-- one are at least these
+pub record IsLeastNear (opening : List ℕ) (n : ℕ) (g : List ℕ → ℤ) (p : List ℕ) : Type 0 where
+  pub above : AtMost opening p
+  pub near : IsNear opening n p
+  pub best : (q : List ℕ) → AtMost opening q → IsNear opening n q → g p ≤ℤ g q
+  pub least : (q : List ℕ) → AtMost opening q → IsNear opening n q → g q ≤ℤ g p → AtMost p q
+
 -- halfway between two price vectors, rounded down and rounded up on each good
 abbrev pub halfway_down : List ℕ → List ℕ → List ℕ
 halfway_down p q = map (λ n. n / 2) (plus p q)
 
 abbrev pub halfway_up : List ℕ → List ℕ → List ℕ
 halfway_up p q = map (λ n. (n + 1) / 2) (plus p q)
-
--- bidder i is one of them, and stands in the list once
-abbrev pub IsOneOf : ℕ → List ℕ → Type 0
-IsOneOf i js = count_by (λ j. j == i) js ≡ 1

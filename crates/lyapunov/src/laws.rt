@@ -3,10 +3,11 @@
 ghost use Rattle.std.specs.Prelude.{◌≡◌, ◌≢◌, ◌≤◌, ◌<◌, ℕ, List, length, map, ℤ, pos, ◌+ℤ◌, ◌-ℤ◌, ◌≤ℤ◌};
 ghost use Rattle.lot_base.specs.Goods.{AtMost, at, cost, raised, zeros};
 ghost use Rattle.lot_base.specs.Economy.{demand, without, AllStrongSubstitutes, AllValuations, AllBelowCeiling, lyapunov, IsMinimiser, IsLeastMinimiser};
-ghost use Rattle.lot_base.specs.Equilibrium.{IsAllocation, IsWelfare, IsWalrasian, IsWalrasianPrices, IsLeastWalrasian, IsVcgPayment, worth};
+ghost use Rattle.lot_base.specs.Equilibrium.{IsAllocation, IsWelfare, IsWalrasian, IsWalrasianPrices, IsLeastWalrasian, IsVcgPayment, total_value, worth};
 ghost use Rattle.lot_base.specs.Choices.{IsClearingChoice};
 ghost use Rattle.lot_base.specs.Steps.{excess};
-ghost use Rattle.lyapunov.specs.Paths.{IsOneOf, true_step, prices_along, AllSteps, account_along, highest, highest_rise, IsNear, halfway_down, halfway_up};
+ghost use Rattle.lyapunov.specs.Bidders.{IsOneOf, AllDifferent, bundle_of};
+ghost use Rattle.lyapunov.specs.Paths.{IsLeastNear, true_step, prices_along, AllSteps, account_along, highest, highest_rise, halfway_down, halfway_up};
 
 /// The Lyapunov function is convex: over the two price vectors halfway between two others, one rounded down and one rounded
 /// up, it sums to no more than over those two.
@@ -48,15 +49,9 @@ pub fn steps_law()
 /// The prices after so many steps minimise the Lyapunov function over all prices at most that far above the opening, and are
 /// the least that do.
 pub fn moment_law()
-    ensures best { (supply js opening sets q : List ℕ) (u : ℕ → List ℕ → ℤ) → AllStrongSubstitutes supply u js →
-        length opening ≡ length supply → AllSteps supply u js opening sets → AtMost opening q → IsNear opening (length sets) q →
-        lyapunov supply u js (prices_along opening sets) ≤ℤ lyapunov supply u js q }
-    ensures least { (supply js opening sets q : List ℕ) (u : ℕ → List ℕ → ℤ) → AllStrongSubstitutes supply u js →
-        length opening ≡ length supply → AllSteps supply u js opening sets → AtMost opening q → IsNear opening (length sets) q →
-        lyapunov supply u js q ≤ℤ lyapunov supply u js (prices_along opening sets) → AtMost (prices_along opening sets) q }
-    ensures reached { (supply js opening sets : List ℕ) (u : ℕ → List ℕ → ℤ) → AllStrongSubstitutes supply u js →
+    ensures { (supply js opening sets : List ℕ) (u : ℕ → List ℕ → ℤ) → AllStrongSubstitutes supply u js →
         length opening ≡ length supply → AllSteps supply u js opening sets →
-        AtMost opening (prices_along opening sets) × IsNear opening (length sets) (prices_along opening sets) }
+        IsLeastNear opening (length sets) (lyapunov supply u js) (prices_along opening sets) }
 {}
 
 /// Where no set of goods is in excess demand, the prices of the path minimise the Lyapunov function over all prices from the
@@ -106,14 +101,18 @@ pub fn existence_law()
         ((choice : List (List ℕ)) × IsClearingChoice supply opening (prices_along opening sets) (map (λ j. demand supply (u j) (prices_along opening sets)) js) choice) }
 {}
 
-/// Such prices are at most all Walrasian prices, good by good.
+/// A choice of different bidders is what it gives to each of them.
+pub fn choice_law()
+    ensures { (js : List ℕ) (choice : List (List ℕ)) → AllDifferent js → length choice ≡ length js → map (bundle_of js choice) js ≡ choice }
+{}
+
+/// Such prices, at the end of a path, are at most all Walrasian prices, good by good, and are Walrasian prices themselves.
 pub fn least_walrasian_law()
     ensures below { (supply js opening sets q : List ℕ) (u : ℕ → List ℕ → ℤ) → AllStrongSubstitutes supply u js → length opening ≡ length supply →
         AllSteps supply u js opening sets → true_step supply u js (prices_along opening sets) ≡ 0 →
         IsWalrasianPrices supply opening u js q → AtMost (prices_along opening sets) q }
-    ensures least { (supply js opening sets : List ℕ) (u : ℕ → List ℕ → ℤ) (x : ℕ → List ℕ) → AllStrongSubstitutes supply u js → length opening ≡ length supply →
+    ensures least { (supply js opening sets : List ℕ) (u : ℕ → List ℕ → ℤ) → AllDifferent js → AllStrongSubstitutes supply u js → length opening ≡ length supply →
         AllSteps supply u js opening sets → true_step supply u js (prices_along opening sets) ≡ 0 →
-        IsClearingChoice supply opening (prices_along opening sets) (map (λ j. demand supply (u j) (prices_along opening sets)) js) (map x js) →
         IsLeastWalrasian supply opening u js (prices_along opening sets) }
 {}
 
@@ -139,4 +138,11 @@ pub fn without_law()
     ensures steps { (supply opening js sets rests : List ℕ) (u : ℕ → List ℕ → ℤ) (i : ℕ) → AllStrongSubstitutes supply u js →
         IsOneOf i js → length opening ≡ length supply → AllSteps supply u js opening sets → true_step supply u js (prices_along opening sets) ≡ 0 →
         AllSteps supply u (without i js) opening rests → length rests ≤ length sets }
+{}
+
+/// With an opening of 0 every price vector is open, and the worth of an allocation is the summed value of the bidders.
+pub fn zero_opening_law()
+    ensures opening { (supply p : List ℕ) → length p ≡ length supply → AtMost (zeros supply) p }
+    ensures goods { (supply : List ℕ) → length (zeros supply) ≡ length supply }
+    ensures worth { (supply js : List ℕ) (u : ℕ → List ℕ → ℤ) (x : ℕ → List ℕ) → worth supply (zeros supply) u js x ≡ total_value u js x }
 {}
