@@ -1,6 +1,6 @@
 -- Lists of bidders: all but one of them, sums over them, and the bundles that a choice gives to them.
-use Rattle.std.proofs.Common.{◌≡◌, ◌⊎◌, inl, inr, ℕ, zero, suc, ◌+◌, ◌≤◌, ◌<◌, Bool, true, false, not, nat_eq, cond, List, [], ◌∷◌, length, map, arith, ap, refl, sym, subst, ◌∙◌}
-use Rattle.std.specs.Prelude.{ℤ, ◌+ℤ◌, filter, count_by}
+use Rattle.std.proofs.Common.{◌≡◌, ℕ, zero, suc, ◌+◌, ◌≤◌, ◌<◌, Bool, true, false, not, nat_eq, cond, List, [], ◌∷◌, length, map, arith, ap, refl, sym, ◌∙◌}
+use Rattle.std.specs.Prelude.{ℤ, ◌+ℤ◌, count_by}
 use Rattle.std.specs.List.{AllByRecursion, range_with_len}
 use Rattle.std.proofs.lemmas.Int.{ints}
 use Rattle.std.proofs.lemmas.Bool.Decides.{nat_tests}

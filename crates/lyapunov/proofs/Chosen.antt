@@ -1,15 +1,15 @@
 -- Steps that are chosen by a convex function of prices: each leads to its least value within reach, by as few goods as can be.
 -- Such steps keep to the first of the best prices, and are as many as the highest rise of a price.
-use Rattle.std.proofs.Common.{◌≡◌, ℕ, ◌+◌, ◌-◌, ◌≤◌, ◌<◌, List, [], ◌∷◌, length, arith, ap, sym, ◌∙◌}
+use Rattle.std.proofs.Common.{◌≡◌, ℕ, ◌+◌, ◌-◌, ◌≤◌, ◌<◌, List, [], ◌∷◌, length, arith, ap}
 use Rattle.std.specs.Prelude.{ℤ, ◌≤ℤ◌}
 use Rattle.std.proofs.lemmas.Int.{ints}
 use Prim.Native.Nat.{suc}
 use Rattle.lot_base.proofs.Vec.{at-below, at-bits, length-below}
-use Rattle.lot_base.proofs.Vectors.{Bits, above, join, lower, total}
+use Rattle.lot_base.proofs.Vectors.{Bits, above, lower, total}
 use Rattle.lot_base.specs.Goods.{AtMost, at, plus}
 use Rattle.lyapunov.proofs.Convex.{IsMidConvex, join-above, length-above, length-plus, plus_assoc}
-use Rattle.lyapunov.proofs.Entrywise.{AtMost-at, Bits-at, at-join, at-lower, at-rest, at-sum, highest-bounds, highest-reached, highest-within, same-at, same-total, total-some}
-use Rattle.lyapunov.proofs.Lattice.{AtMost-more, AtMost-raised, AtMost-same, AtMost-self, below_of_lower, lattice, length-join, length-lower, lower-both, lower-left}
+use Rattle.lyapunov.proofs.Entrywise.{AtMost-at, Bits-at, at-lower, at-rest, at-sum, highest-bounds, highest-reached, highest-within, same-at, same-total, total-some}
+use Rattle.lyapunov.proofs.Lattice.{AtMost-more, AtMost-raised, AtMost-same, AtMost-self, lattice, lower-both, lower-left}
 use Rattle.lyapunov.proofs.Layers.{layer}
 use Rattle.lyapunov.specs.Paths.{highest}
 
@@ -139,4 +139,3 @@ count_after s g mid o p (e ∷ es) l op h some first =
 pub rise_at_most : (s : List ℕ) (g : List ℕ → ℤ) (p : List ℕ) (es : List (List ℕ)) → AllChosen s g p es → (k : ℕ) → at (prices_over p es) k ≤ at p k + length es
 rise_at_most s g p [] h k = omega arith
 rise_at_most s g p (e ∷ es) h k = let t = h.0 in let i = rise_at_most s g (plus p e) es h.1 k in omega (arith, at-sum p e k, at-bits e k t.set.0)
-

@@ -7,6 +7,7 @@ use Prim.Native.Nat.{suc, zero, min, max}
 use Rattle.lot_base.proofs.Vec.{cost-plus_left}
 use Rattle.lot_base.proofs.Vectors.{Apart, Bits, Within, above, inside, join, reduced, support, total}
 use Rattle.lot_base.specs.Goods.{cost, plus, AtMost}
+
 pub plus_comm : (p q : List ℕ) → plus p q ≡ plus q p
 plus_comm [] [] = refl
 plus_comm [] (b ∷ q) = refl

@@ -1,16 +1,16 @@
 -- Paths by the numbers of their sets and by the digits of these: each true step is chosen by the Lyapunov function.
-use Rattle.std.proofs.Common.{◌≡◌, ◌≢◌, ℕ, zero, suc, ◌+◌, ◌/◌, ◌≤◌, ◌<◌, ◌^◌, List, [], ◌∷◌, length, map, arith, ap, refl, sym, subst, ◌∙◌}
+use Rattle.std.proofs.Common.{◌≡◌, ◌≢◌, ℕ, zero, suc, ◌/◌, ◌<◌, ◌^◌, List, [], ◌∷◌, length, map, arith, ap, refl, sym, subst, ◌∙◌}
 use Rattle.std.specs.Prelude.{ℤ, pos, ◌+ℤ◌, ◌-ℤ◌, ◌≤ℤ◌}
 use Rattle.std.proofs.lemmas.Int.{ints, by_lt_z}
-use Rattle.lot_base.specs.Goods.{plus, raised, size_of}
+use Rattle.lot_base.specs.Goods.{plus, raised}
 use Rattle.lot_base.specs.Economy.{demand, AllStrongSubstitutes, lyapunov}
 use Rattle.lot_base.specs.Steps.{IsStepSet, excess, step_set}
-use Rattle.lot_base.proofs.Vectors.{Bits, set_of, total}
+use Rattle.lot_base.proofs.Vectors.{set_of, total}
 use Rattle.lot_base.proofs.Loops.{Bits-set_of}
 use Rattle.lot_base.proofs.Sets.{numbered, length-set_of, size_of-total, size_of-some}
 use Rattle.step_choice.proofs.StepSet.{first_set-step_set}
 use Rattle.lyapunov.specs.Paths.{true_step, prices_along, AllSteps}
-use Rattle.lyapunov.proofs.Descent.{excess_on, lyapunov-plus, excess-digits, raised-digits, lyapunov-raised}
+use Rattle.lyapunov.proofs.Descent.{lyapunov-plus, excess-digits, raised-digits}
 use Rattle.lyapunov.proofs.Chosen.{IsSet, Chosen, prices_over, NoneEmpty, AllChosen}
 use Rattle.lyapunov.proofs.Nearest.{IsStill}
 
@@ -38,18 +38,18 @@ pub step-chosen : (s : List ℕ) (u : ℕ → List ℕ → ℤ) (js : List ℕ) 
 step-chosen s u js strong p set step = record {
   set = (Bits-set_of (length s) set, length-set_of (length s) set);
   best = λ f is_set.
-    let n = number_of s f is_set in
-    let a = excess-is s u js strong p (set_of (length s) set) set refl in
-    let b = excess-is s u js strong p f n.number n.is in
-    let c = step.greatest n.number n.below in
-    omega (arith, ints);
+      let n = number_of s f is_set in
+      let a = excess-is s u js strong p (set_of (length s) set) set refl in
+      let b = excess-is s u js strong p f n.number n.is in
+      let c = step.greatest n.number n.below in
+      omega (arith, ints);
   fewest = λ f is_set h.
-    let n = number_of s f is_set in
-    let a = excess-is s u js strong p (set_of (length s) set) set refl in
-    let b = excess-is s u js strong p f n.number n.is in
-    let c = step.greatest n.number n.below in
-    let d = step.fewest n.number n.below (omega (arith, ints)) in
-    omega (arith, d, size_of-total (length s) set, size_of-total (length s) n.number, ap total n.is);
+      let n = number_of s f is_set in
+      let a = excess-is s u js strong p (set_of (length s) set) set refl in
+      let b = excess-is s u js strong p f n.number n.is in
+      let c = step.greatest n.number n.below in
+      let d = step.fewest n.number n.below (omega (arith, ints)) in
+      omega (arith, d, size_of-total (length s) set, size_of-total (length s) n.number, ap total n.is);
 }
 
 pub true_step-is : (s : List ℕ) (u : ℕ → List ℕ → ℤ) (js p : List ℕ) → IsStepSet (length s) (excess s (λ j. demand s (u j) p) js) (true_step s u js p)
@@ -96,9 +96,9 @@ true_step-lowers s u js strong p same some =
     by_lt_z (lyapunov s u js (plus p e)) (lyapunov s u js p)
     (λ lt. omega (arith, ints))
     (λ le. absurd (
-        let few = c.fewest z (Bits-set_of (length s) 0, length-set_of (length s) 0) (omega (arith, ints)) in
-        let size = size_of-some (length s) set (true_step-is s u js p).is_set some in
-        omega (arith, few, size, size_of-total (length s) set, total-none (length s))))
+    let few = c.fewest z (Bits-set_of (length s) 0, length-set_of (length s) 0) (omega (arith, ints)) in
+    let size = size_of-some (length s) set (true_step-is s u js p).is_set some in
+    omega (arith, few, size, size_of-total (length s) set, total-none (length s))))
 
 -- a path by the digits of its sets
 abbrev pub digits_of : List ℕ → List ℕ → List (List ℕ)
@@ -122,8 +122,7 @@ pub chosen_along : (s : List ℕ) (u : ℕ → List ℕ → ℤ) (js : List ℕ)
 chosen_along s u js strong p [] same steps = tt
 chosen_along s u js strong p (set ∷ sets) same steps =
     let P : ℕ → Type 0 = λ n. Chosen s (lyapunov s u js) p (set_of (length s) n) in
-    let Q : List ℕ → Type 0 = λ q. AllChosen s (lyapunov s u js) q (digits_of s sets) in
-    (
+    let Q : List ℕ → Type 0 = λ q. AllChosen s (lyapunov s u js) q (digits_of s sets) in (
       subst P (sym steps.1) (true_step-chosen s u js strong p),
       subst Q (raised-digits s p set same) (chosen_along s u js strong (raised p set) sets (length-raised p set ∙ same) steps.2),
     )

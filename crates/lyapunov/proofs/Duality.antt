@@ -1,15 +1,14 @@
 -- Weak duality: no allocation is worth more than the Lyapunov function at any prices from the opening on, and a choice of demanded
 -- bundles that clears is worth as much. So such a choice has the greatest worth, and its prices minimise the function.
-use Rattle.std.proofs.Common.{◌≡◌, ◌⊎◌, inl, inr, ℕ, zero, suc, ◌+◌, ◌-◌, ◌*◌, ◌≤◌, ◌<◌, List, [], ◌∷◌, length, map, arith, ap, refl, sym, subst, ◌∙◌}
-use Rattle.std.specs.Prelude.{ℤ, pos, ◌+ℤ◌, ◌-ℤ◌, ◌≤ℤ◌}
+use Rattle.std.proofs.Common.{◌≡◌, inl, inr, ℕ, zero, suc, ◌+◌, ◌-◌, ◌*◌, ◌≤◌, ◌<◌, List, [], ◌∷◌, length, map, arith, ap, refl, sym, subst}
+use Rattle.std.specs.Prelude.{ℤ, pos, ◌+ℤ◌, ◌≤ℤ◌}
 use Rattle.std.specs.List.{AllByRecursion}
 use Rattle.std.proofs.lemmas.Int.{ints}
-use Rattle.std.proofs.lemmas.Bool.{cases_lt, cases_eq}
+use Rattle.std.proofs.lemmas.Bool.{cases_lt}
 use Rattle.std.proofs.Math.Nat.{mul-le-mul_left}
 use Rattle.lot_base.specs.Goods.{cost, plus, zeros, at, AtMost}
-use Rattle.lot_base.specs.Box.{IsIn}
 use Rattle.lot_base.specs.Economy.{indirect_utility, demand, sum_over, lyapunov, IsMinimiser}
-use Rattle.lot_base.specs.Equilibrium.{total_bundle, IsAllocation, total_value, unsold_value, worth, IsWelfare, AllDemanded, IsWalrasian}
+use Rattle.lot_base.specs.Equilibrium.{total_bundle, IsAllocation, total_value, worth, IsWelfare, AllDemanded, IsWalrasian}
 use Rattle.lot_base.specs.Choices.{sum_of, Clears, IsChoice, IsClearingChoice}
 use Rattle.lot_base.proofs.Vec.{cost-plus_right}
 use Rattle.lot_base.proofs.Demand.{surplus_bounds, worth_of_demanded, demand-IsIn}

@@ -5,6 +5,7 @@ use Prim.Native.Nat.{suc, zero, min, max}
 use Rattle.lot_base.proofs.Vectors.{Bits, Within, above, join, lower, reduced, support, total}
 use Rattle.lot_base.specs.Goods.{AtMost, at, plus}
 use Rattle.lyapunov.specs.Paths.{highest}
+
 -- the operations on vectors, entry by entry
 pub at-sum : (a b : List ℕ) (k : ℕ) → at (plus a b) k ≡ at a k + at b k
 at-sum [] b k = omega arith

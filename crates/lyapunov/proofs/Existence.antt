@@ -1,13 +1,12 @@
 -- Where no set of goods is in excess demand and none overshoots, the demands have a clearing choice: the supply lies, on each set of
 -- goods, between two sums of a demanded bundle of each bidder and of what may stay unsold. At the end of a path this is so.
-use Rattle.std.proofs.Common.{◌≡◌, ◌⊎◌, inl, inr, ℕ, zero, suc, ◌+◌, ◌-◌, ◌≤◌, ◌<◌, List, [], ◌∷◌, length, map, arith, ap, refl, sym, subst, ◌∙◌}
-use Rattle.std.specs.Prelude.{ℤ, pos, ◌+ℤ◌, ◌-ℤ◌, ◌≤ℤ◌}
+use Rattle.std.proofs.Common.{◌≡◌, inl, inr, ℕ, zero, suc, ◌+◌, ◌≤◌, List, [], ◌∷◌, length, map, arith, ap, sym, subst, ◌∙◌}
+use Rattle.std.specs.Prelude.{ℤ, pos, ◌-ℤ◌}
 use Rattle.std.proofs.lemmas.Int.{ints}
 use Rattle.lot_base.specs.Goods.{cost, plus, zeros, at, one_more, one_less, AtMost}
-use Rattle.lot_base.specs.Box.{IsIn}
 use Rattle.lot_base.specs.Demands.{least_of, greatest_of}
 use Rattle.lot_base.specs.Economy.{NoWorse, IsStrongSubstitutes, IsDemanded, indirect_utility, demand, sum_over, total_units, AllStrongSubstitutes, lyapunov, IsMinimiser}
-use Rattle.lot_base.specs.Choices.{sum_of, Clears, IsChoice, IsClearingChoice}
+use Rattle.lot_base.specs.Choices.{sum_of, IsClearingChoice}
 use Rattle.lot_base.proofs.Vectors.{distance, Bits, above, inside}
 use Rattle.lot_base.proofs.Vec.{cost-plus_left, length-below, at-below}
 use Rattle.lot_base.proofs.Exchange.{Moved, moved_one, moved_two}
@@ -20,7 +19,6 @@ use Rattle.lyapunov.specs.Paths.{true_step, prices_along, AllSteps}
 use Rattle.lyapunov.proofs.Convex.{length-above, length-plus, length-inside, Bits-inside}
 use Rattle.lyapunov.proofs.Entrywise.{at-rest, at-sum, same-at, AtMost-at}
 use Rattle.lyapunov.proofs.Descent.{lyapunov-plus}
-use Rattle.lyapunov.proofs.Chosen.{IsSet}
 use Rattle.lyapunov.proofs.Digits.{still, length-prices}
 use Rattle.lyapunov.proofs.Moments.{ended-least}
 use Rattle.lyapunov.proofs.Duality.{clearing-walrasian}

@@ -8,6 +8,7 @@ use Rattle.lot_base.proofs.Vectors.{Apart, above, join, lower, total}
 use Rattle.lot_base.specs.Goods.{AtMost, at, plus}
 use Rattle.lyapunov.proofs.Convex.{IsMidConvex, Within-total, join-above, length-above, length-plus, submodular}
 use Rattle.lyapunov.proofs.Entrywise.{AtMost-at, at-join, at-lower, at-rest, at-sum, same-at}
+
 pub length-lower : (p q : List ℕ) → length (lower p q) ≡ min (length p) (length q)
 length-lower [] q = omega arith
 length-lower (a ∷ p) [] = omega arith

@@ -10,6 +10,7 @@ use Rattle.lot_base.proofs.Vectors.{Bits, Within, above, reduced, support}
 use Rattle.lot_base.specs.Goods.{AtMost, at, cost, plus}
 use Rattle.lyapunov.proofs.Convex.{plus-above, IsMidConvex, length-above, length-plus, plus_assoc, support-reduced}
 use Rattle.lyapunov.proofs.Entrywise.{AtMost-at, Bits-at, Within-at, at-reduced, at-rest, at-sum, at-support, same-at}
+
 -- b has n units of each good of the set v, and at most n of any good
 abbrev pub IsLevel : ℕ → List ℕ → List ℕ → Type 0
 IsLevel n v b = (k : ℕ) → (at v k ≤ 1) × (at b k ≤ n) × (0 < at v k → at b k ≡ n)

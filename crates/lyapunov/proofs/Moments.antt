@@ -1,14 +1,12 @@
 -- At every moment of a path: how many steps it has taken, and what its prices minimise.
-use Rattle.std.proofs.Common.{◌≡◌, ℕ, zero, suc, ◌+◌, ◌-◌, ◌≤◌, ◌<◌, List, [], ◌∷◌, length, arith, ap, refl, sym, subst, ◌∙◌}
-use Rattle.std.specs.Prelude.{ℤ, pos, ◌+ℤ◌, ◌-ℤ◌, ◌≤ℤ◌, max}
+use Rattle.std.proofs.Common.{◌≡◌, ℕ, ◌-◌, List, [], ◌∷◌, length, arith, ap, refl, sym, subst, ◌∙◌}
+use Rattle.std.specs.Prelude.{ℤ, pos, ◌-ℤ◌, ◌≤ℤ◌, max}
 use Rattle.std.proofs.lemmas.Int.{ints}
-use Rattle.lot_base.specs.Goods.{cost, zeros, raised, quantity_in, at, AtMost}
-use Rattle.lot_base.specs.Demands.{least}
-use Rattle.lot_base.specs.Economy.{demand, indirect_utility, sum_over, total_units, AllStrongSubstitutes, AllValuations, lyapunov, IsMinimiser, IsLeastMinimiser}
+use Rattle.lot_base.specs.Goods.{cost, zeros, raised}
+use Rattle.lot_base.specs.Economy.{indirect_utility, sum_over, AllStrongSubstitutes, AllValuations, lyapunov, IsLeastMinimiser}
 use Rattle.lot_base.proofs.Vectors.{above}
 use Rattle.lot_base.proofs.Demand.{surplus_bounds, AtMost-zeros}
 use Rattle.lyapunov.specs.Paths.{true_step, prices_along, AllSteps, account_along, highest, highest_rise, IsLeastNear}
-use Rattle.lyapunov.proofs.Convex.{IsMidConvex}
 use Rattle.lyapunov.proofs.Descent.{lyapunov-convex, lyapunov-raised}
 use Rattle.lyapunov.proofs.Lattice.{AtMost-self}
 use Rattle.lyapunov.proofs.Chosen.{count_after, first_from}

@@ -5,7 +5,7 @@ use Rattle.std.specs.Prelude.{ℤ, ◌≤ℤ◌}
 use Rattle.std.proofs.lemmas.Int.{ints}
 use Prim.Native.Nat.{suc, zero}
 use Rattle.lot_base.proofs.Vec.{at-below, at-bits, length-below}
-use Rattle.lot_base.proofs.Vectors.{Bits, above, join, lower}
+use Rattle.lot_base.proofs.Vectors.{above, join, lower}
 use Rattle.lot_base.specs.Goods.{AtMost, at, plus}
 use Rattle.lyapunov.proofs.Chosen.{IsSet, Chosen, prices_over, AllChosen, IsFirst, above_start, first_from, rise_at_most}
 use Rattle.lyapunov.proofs.Convex.{IsMidConvex, length-above, length-plus, plus-above}

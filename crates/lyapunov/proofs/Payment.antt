@@ -1,16 +1,12 @@
 -- Payments: the price of an award, more by what the others' account keeps on the path without the bidder, and less by what it
 -- keeps on the path of all, is the payment of Vickrey, Clarke and Groves.
-use Rattle.std.proofs.Common.{◌≡◌, ◌⊎◌, inl, inr, ℕ, ◌+◌, Bool, true, false, not, nat_eq, cond, List, [], ◌∷◌, length, map, arith, ap, refl, sym, subst, ◌∙◌}
-use Rattle.std.specs.Prelude.{ℤ, pos, ◌+ℤ◌, ◌-ℤ◌, filter, count_by}
-use Rattle.std.specs.List.{AllByRecursion}
+use Rattle.std.proofs.Common.{◌≡◌, ℕ, List, [], ◌∷◌, length, arith, ap, sym, subst, ◌∙◌}
+use Rattle.std.specs.Prelude.{ℤ, pos, ◌+ℤ◌, ◌-ℤ◌}
 use Rattle.std.proofs.lemmas.Int.{ints}
-use Rattle.std.proofs.lemmas.Bool.{cases_Bool}
-use Rattle.std.proofs.lemmas.Bool.Decides.{nat_tests}
-use Rattle.std.proofs.lemmas.List.Sums.{sum_by-cons}
-use Rattle.lot_base.specs.Goods.{cost, plus, zeros, raised, AtMost}
+use Rattle.lot_base.specs.Goods.{cost}
 use Rattle.lot_base.specs.Box.{IsIn}
-use Rattle.lot_base.specs.Economy.{demand, sum_over, without, IsStrongSubstitutes, AllStrongSubstitutes, lyapunov}
-use Rattle.lot_base.specs.Equilibrium.{total_bundle, total_value, unsold_value, worth, AllDemanded, IsWalrasian, IsVcgPayment}
+use Rattle.lot_base.specs.Economy.{demand, sum_over, without, AllStrongSubstitutes, lyapunov}
+use Rattle.lot_base.specs.Equilibrium.{total_bundle, worth, IsWalrasian, IsVcgPayment}
 use Rattle.lot_base.proofs.Vec.{cost-plus_right}
 use Rattle.lyapunov.specs.Bidders.{IsOneOf}
 use Rattle.lyapunov.specs.Paths.{prices_along, account_along}
@@ -31,13 +27,13 @@ pays-vcg s o u js i p q x y z one wx wy = record {
   others = worth s o u (without i js) y;
   welfare = walrasian-welfare s o u (without i js) q y wy;
   pays =
-    let c = walrasian-worth s o u (without i js) q y wy in
-    let d = met s u p x (without i js) (all-without (λ j. IsIn (x j) (demand s (u j) p)) i js wx.demanded) in
-    let e = cost-sold o p (total_bundle s x js) s wx.prices wx.allocation.within wx.unsold in
-    let f = cost-total s p x js in
-    let g = cost-total s p x (without i js) in
-    let k = sum-without (λ j. pos (cost p (x j))) i js one in
-    omega (arith, ints);
+      let c = walrasian-worth s o u (without i js) q y wy in
+      let d = met s u p x (without i js) (all-without (λ j. IsIn (x j) (demand s (u j) p)) i js wx.demanded) in
+      let e = cost-sold o p (total_bundle s x js) s wx.prices wx.allocation.within wx.unsold in
+      let f = cost-total s p x js in
+      let g = cost-total s p x (without i js) in
+      let k = sum-without (λ j. pos (cost p (x j))) i js one in
+      omega (arith, ints);
 }
 
 pub account-pays : (s o : List ℕ) (u : ℕ → List ℕ → ℤ) (js : List ℕ) (i : ℕ) (sets rests : List ℕ) (x y : ℕ → List ℕ) → AllStrongSubstitutes s u js → IsOneOf i js
@@ -50,4 +46,4 @@ account-pays s o u js i sets rests x y strong one same wx wy =
     let credit = account-rises s u (without i js) (strong-without s u i js strong) o sets same in
     let P : ℤ → Type 0 = IsVcgPayment s o u js x i in
     subst P (ap (λ z. (pos (cost p (x i)) +ℤ z) -ℤ (lyapunov s u (without i js) p -ℤ lyapunov s u (without i js) o)) (sym debit) ∙ ap (λ z. (pos (cost p (x i)) +ℤ account_along s u (without i js) o rests) -ℤ z) (sym credit))
-      (pays-vcg s o u js i p q x y (lyapunov s u (without i js) o) one wx wy)
+    (pays-vcg s o u js i p q x y (lyapunov s u (without i js) o) one wx wy)

@@ -1,24 +1,22 @@
 -- The sums of a listed bundle of each bidder and of what may stay unsold: they give and take, and on each set of goods one of them
 -- has the least and one the greatest that the lists allow.
 use Rattle.std.proofs.Common.{◌≡◌, ℕ, ◌+◌, ◌*◌, ◌-◌, ◌≤◌, ◌<◌, List, [], ◌∷◌, length, map, arith, ap, refl, inl, inr, subst, sym, ◌∙◌}
-use Rattle.std.specs.Prelude.{◌⊎◌, ℤ, pos, ◌≤ℤ◌}
-use Rattle.std.proofs.lemmas.Int.{ints}
+use Rattle.std.specs.Prelude.{◌⊎◌, pos, ◌≤ℤ◌}
 use Rattle.std.proofs.lemmas.Bool.{cases_lt, cases_eq}
 use Prim.Native.Nat.{suc, zero, min}
-use Rattle.lot_base.proofs.Demand.{AtMost-zeros, greatest_bounds_units, greatest_found, least_found}
+use Rattle.lot_base.proofs.Demand.{AtMost-zeros, greatest_found, least_found}
 use Rattle.lot_base.proofs.Vec.{cost-plus_right, length-below}
-use Rattle.lot_base.proofs.Vectors.{Bits, above, distance, inside}
+use Rattle.lot_base.proofs.Vectors.{Bits, above, inside}
 use Rattle.lot_base.specs.Box.{IsIn}
-use Rattle.lot_base.specs.Choices.{Clears, IsChoice, IsClearingChoice, sum_of}
+use Rattle.lot_base.specs.Choices.{Clears, IsChoice, sum_of}
 use Rattle.lot_base.specs.Demands.{greatest_of, least_of}
 use Rattle.lot_base.specs.Economy.{total_units}
 use Rattle.lot_base.specs.Goods.{AtMost, at, cost, one_less, one_more, plus, zeros}
-use Rattle.lyapunov.proofs.Convex.{Bits-inside, length-inside, length-plus, plus_assoc}
+use Rattle.lyapunov.proofs.Convex.{length-plus, plus_assoc}
 use Rattle.lyapunov.proofs.Chosen.{IsSet}
 use Rattle.lyapunov.proofs.Descent.{excess_on}
 use Rattle.lyapunov.proofs.Duality.{cost-zeros}
 use Rattle.lyapunov.proofs.Units.{CanGive, CanTake}
-use Rattle.lyapunov.proofs.Taking.{reached}
 use Rattle.lyapunov.proofs.Sums.{SumOf, sum_gives, sum_takes, AtMost-plus}
 
 -- a list of bundles with the exchange property

@@ -1,8 +1,8 @@
 -- Units that move from one bundle to another, one after the other.
-use Rattle.std.proofs.Common.{◌≡◌, ◌≢◌, ◌≤◌, ◌<◌, ℕ, ◌+◌, ◌-◌, List, [], ◌∷◌, length, arith, ap, refl}
+use Rattle.std.proofs.Common.{◌≡◌, ◌≢◌, ◌≤◌, ◌<◌, ℕ, ◌-◌, List, [], ◌∷◌, length, arith, ap, refl}
 use Rattle.std.specs.Prelude.{◌⊎◌}
 use Prim.Native.Nat.{suc, zero}
-use Rattle.lot_base.specs.Goods.{at, plus, one_less, one_more}
+use Rattle.lot_base.specs.Goods.{at, one_less, one_more}
 
 pub one_less-one_less : (x : List ℕ) (k l : ℕ) → one_less (one_less x k) l ≡ one_less (one_less x l) k
 one_less-one_less [] k l = refl

@@ -1,14 +1,14 @@
 -- The path without a bidder is never above the path of all bidders in the same round, nor above its end, and takes no more steps.
-use Rattle.std.proofs.Common.{◌≡◌, ℕ, ◌+◌, ◌≤◌, List, length, arith, ap, sym, ◌∙◌}
+use Rattle.std.proofs.Common.{◌≡◌, ℕ, ◌≤◌, List, length, arith, ap, sym, ◌∙◌}
 use Rattle.std.specs.Prelude.{ℤ, ◌+ℤ◌, ◌≤ℤ◌}
 use Rattle.std.proofs.lemmas.Int.{ints}
-use Rattle.lot_base.specs.Goods.{cost, plus, at, AtMost}
+use Rattle.lot_base.specs.Goods.{cost, AtMost}
 use Rattle.lot_base.specs.Economy.{indirect_utility, without, AllStrongSubstitutes, lyapunov}
 use Rattle.lot_base.proofs.Vectors.{above, join, lower}
 use Rattle.lot_base.proofs.Vec.{cost-plus_left, length-below, at-below}
 use Rattle.lot_base.proofs.Demand.{surplus_bounds, surplus_reached}
 use Rattle.lyapunov.specs.Bidders.{IsOneOf}
-use Rattle.lyapunov.specs.Paths.{true_step, prices_along, AllSteps, highest, highest_rise}
+use Rattle.lyapunov.specs.Paths.{true_step, prices_along, AllSteps}
 use Rattle.lyapunov.proofs.Convex.{plus-above}
 use Rattle.lyapunov.proofs.Descent.{lyapunov-convex}
 use Rattle.lyapunov.proofs.Entrywise.{at-join, at-rest, same-at, highest-within}
@@ -73,7 +73,7 @@ lower_at_end s u js i o sets rests strong one lo h0 none h1 =
     let l : length p ≡ length r = sym (length-below o p t0.above_opening) ∙ length-below o r t1.above_opening in
     lower_without s u js i o rests strong one lo h1 p t0.above_opening
     (best_still s (lyapunov s u js) (lyapunov-convex s u js strong) o (length sets) p lo t0 (still s u js strong p (length-prices o sets ∙ lo) none)
-        (join p r) (AtMost-more o p (join p r) t0.above_opening (join-left p r l)))
+    (join p r) (AtMost-more o p (join p r) t0.above_opening (join-left p r l)))
 
 -- so it takes no more steps
 pub fewer_without : (s : List ℕ) (u : ℕ → List ℕ → ℤ) (js : List ℕ) (i : ℕ) (o sets rests : List ℕ) → AllStrongSubstitutes s u js → IsOneOf i js → length o ≡ length s

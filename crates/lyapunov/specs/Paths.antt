@@ -1,10 +1,10 @@
 -- Paths of prices: from an opening, prices rise by one on the step set of what the bidders truly demand, again and again, as in
 -- the ascending clock auction of Ausubel 2006. Bidder j has the valuation u j; the bidders of a path are a list of numbers.
 -- A path need not have ended: it is the steps up to some moment.
-use Rattle.std.specs.Prelude.{◌≡◌, ◌≢◌, ◌≤◌, ℕ, ◌+◌, ◌-◌, ◌/◌, max, map, List, [], ◌∷◌, ℤ, pos, ◌+ℤ◌, ◌-ℤ◌, ◌≤ℤ◌}
+use Rattle.std.specs.Prelude.{◌≡◌, ◌≢◌, ◌≤◌, ℕ, ◌+◌, ◌-◌, ◌/◌, max, map, List, [], ◌∷◌, length, ℤ, pos, ◌+ℤ◌, ◌-ℤ◌, ◌≤ℤ◌}
 use Rattle.lot_base.specs.Goods.{quantity_in, raised, plus, at, AtMost}
 use Rattle.lot_base.specs.Demands.{least}
-use Rattle.lot_base.specs.Economy.{demand, total_units}
+use Rattle.lot_base.specs.Economy.{demand, total_units, AllStrongSubstitutes}
 use Rattle.lot_base.specs.Steps.{step_set}
 
 -- the step set of what the bidders truly demand at the prices
@@ -20,6 +20,16 @@ prices_along p (set ∷ sets) = prices_along (raised p set) sets
 abbrev pub AllSteps : List ℕ → (ℕ → List ℕ → ℤ) → List ℕ → List ℕ → List ℕ → Type 0
 AllSteps supply u js p [] = Unit {0}
 AllSteps supply u js p (set ∷ sets) = (set ≢ 0) × (set ≡ true_step supply u js p) × AllSteps supply u js (raised p set) sets
+
+-- a path of step sets from an opening, where the bidders have strong substitutes
+pub record IsPath (supply : List ℕ) (u : ℕ → List ℕ → ℤ) (js opening sets : List ℕ) : Type 0 where
+  pub substitutes : AllStrongSubstitutes supply u js
+  pub goods : length opening ≡ length supply
+  pub steps : AllSteps supply u js opening sets
+
+-- the path has ended: at the prices that it has reached, no set of goods is in excess demand
+abbrev pub HasEnded : List ℕ → (ℕ → List ℕ → ℤ) → List ℕ → List ℕ → List ℕ → Type 0
+HasEnded supply u js opening sets = true_step supply u js (prices_along opening sets) ≡ 0
 
 -- what the account of these bidders keeps of the steps: the supply of each set, less the least that they demanded of it
 abbrev pub account_along : List ℕ → (ℕ → List ℕ → ℤ) → List ℕ → List ℕ → List ℕ → ℤ

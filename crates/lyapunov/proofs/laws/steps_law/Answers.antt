@@ -7,9 +7,9 @@ use Rattle.lyapunov.proofs.Moments.{as_many, highest-zeros}
 use Rattle.lyapunov.proofs.laws.steps_law.Goals as goal
 
 pub returns-clause-rise : goal.returns-clause-rise
-returns-clause-rise c = λ supply js opening sets u strong same steps. as_many supply u js strong opening sets same steps
+returns-clause-rise c = λ supply js opening sets u path. as_many supply u js path.substitutes opening sets path.goods path.steps
 
 pub returns-clause-price : goal.returns-clause-price
-returns-clause-price c = λ supply js sets u strong steps.
-    as_many supply u js strong (zeros supply) sets (length-replicate _ _) steps
+returns-clause-price c = λ supply js sets u path.
+    as_many supply u js path.substitutes (zeros supply) sets path.goods path.steps
     ∙ highest-zeros supply (prices_along (zeros supply) sets) (length-prices (zeros supply) sets ∙ length-replicate _ _)
