@@ -18,7 +18,8 @@ all-without P i (j ∷ js) h = by (not (nat_eq j i)) (all-without P i js h.1)
     by true rest = (h.0, rest)
     by false rest = rest
 
-pub strong-without : (s : List ℕ) (u : ℕ → List ℕ → ℤ) (i : ℕ) (js : List ℕ) → AllStrongSubstitutes s u js → AllStrongSubstitutes s u (without i js)
+pub strong-without : (s : List ℕ) (u : ℕ → List ℕ → ℤ) (i : ℕ) (js : List ℕ) → AllStrongSubstitutes s u js
+    → AllStrongSubstitutes s u (without i js)
 strong-without s u i js h = all-without (λ j. IsStrongSubstitutes s (u j)) i js h
 
 pub count-first : (i j : ℕ) (js : List ℕ) → count_by (λ k. nat_eq k i) (j ∷ js) ≡ cond (nat_eq j i) 1 0 + count_by (λ k. nat_eq k i) js
@@ -29,7 +30,8 @@ sum-absent : (f : ℕ → ℤ) (i : ℕ) (js : List ℕ) → count_by (λ j. nat
 sum-absent f i [] none = refl
 sum-absent f i (j ∷ js) none = by (nat_eq j i) (sym (count-first i j js) ∙ none) (λ h. sum-absent f i js h)
   where
-    by : (b : Bool) → cond b 1 0 + count_by (λ j. nat_eq j i) js ≡ 0 → (count_by (λ j. nat_eq j i) js ≡ 0 → sum_over f js ≡ sum_over f (without i js))
+    by : (b : Bool) → cond b 1 0 + count_by (λ j. nat_eq j i) js ≡ 0
+        → (count_by (λ j. nat_eq j i) js ≡ 0 → sum_over f js ≡ sum_over f (without i js))
         → f j +ℤ sum_over f js ≡ sum_over f (cond (not b) (j ∷ without i js) (without i js))
     by true none rest = absurd (omega arith)
     by false none rest = let r = rest (omega arith) in omega (arith, ints)
@@ -38,7 +40,8 @@ pub sum-without : (f : ℕ → ℤ) (i : ℕ) (js : List ℕ) → IsOneOf i js �
 sum-without f i [] one = absurd (omega arith)
 sum-without f i (j ∷ js) one = by (nat_eq j i) refl (sym (count-first i j js) ∙ one) (λ h. sum-without f i js h)
   where
-    by : (b : Bool) → nat_eq j i ≡ b → cond b 1 0 + count_by (λ j. nat_eq j i) js ≡ 1 → (IsOneOf i js → sum_over f js ≡ f i +ℤ sum_over f (without i js))
+    by : (b : Bool) → nat_eq j i ≡ b → cond b 1 0 + count_by (λ j. nat_eq j i) js ≡ 1
+        → (IsOneOf i js → sum_over f js ≡ f i +ℤ sum_over f (without i js))
         → f j +ℤ sum_over f js ≡ f i +ℤ sum_over f (cond (not b) (j ∷ without i js) (without i js))
     by true same one rest =
         let e : j ≡ i = grind (arith, nat_tests) in
@@ -73,7 +76,8 @@ pub IsOneOf-range : (i a n : ℕ) → a ≤ i → i < a + n → IsOneOf i (range
 IsOneOf-range i a zero low high = absurd (omega arith)
 IsOneOf-range i a (suc n) low high = count-first i a (range_with_len (a + 1) n) ∙ by (nat_eq a i) refl (λ up. IsOneOf-range i (a + 1) n up (omega arith))
   where
-    by : (b : Bool) → nat_eq a i ≡ b → (a + 1 ≤ i → IsOneOf i (range_with_len (a + 1) n)) → cond b 1 0 + count_by (λ j. nat_eq j i) (range_with_len (a + 1) n) ≡ 1
+    by : (b : Bool) → nat_eq a i ≡ b → (a + 1 ≤ i → IsOneOf i (range_with_len (a + 1) n))
+        → cond b 1 0 + count_by (λ j. nat_eq j i) (range_with_len (a + 1) n) ≡ 1
     by true same later = let e : a ≡ i = grind (arith, nat_tests) in let rest = none-before i (a + 1) n (omega arith) in omega arith
     by false other later =
         let apart : a ≡ i → ⊥ = λ e. absurd (let f : nat_eq a i ≡ true = grind (arith, nat_tests) in let g : true ≡ false = sym f ∙ other in cc) in
@@ -85,7 +89,8 @@ absent-without : (k i : ℕ) (js : List ℕ) → count_by (λ j. nat_eq j k) js 
 absent-without k i [] none = refl
 absent-without k i (j ∷ js) none = by (nat_eq j i) (sym (count-first k j js) ∙ none) (λ h. absent-without k i js h)
   where
-    by : (b : Bool) → cond (nat_eq j k) 1 0 + count_by (λ m. nat_eq m k) js ≡ 0 → (count_by (λ m. nat_eq m k) js ≡ 0 → count_by (λ m. nat_eq m k) (without i js) ≡ 0)
+    by : (b : Bool) → cond (nat_eq j k) 1 0 + count_by (λ m. nat_eq m k) js ≡ 0
+        → (count_by (λ m. nat_eq m k) js ≡ 0 → count_by (λ m. nat_eq m k) (without i js) ≡ 0)
         → count_by (λ m. nat_eq m k) (cond (not b) (j ∷ without i js) (without i js)) ≡ 0
     by true none rest = rest (omega arith)
     by false none rest = count-first k j (without i js) ∙ (let r = rest (omega arith) in omega (arith, r))

@@ -40,8 +40,9 @@ cost_single : (p x : List ℕ) (k : ℕ) → 0 < at x k → at p k ≤ cost p x
 cost_single p x k h = let i = cost-one_less p x k h in omega arith
 
 -- at a price of all that any bundle is worth, one more takes nothing from what a bidder can gain
-utility-stays : (s : List ℕ) (u : List ℕ → ℤ) (c : ℕ) (p q : List ℕ) (k : ℕ) → IsValuation s u → ((y : List ℕ) → AtMost y s → (u y +ℤ pos 1) ≤ℤ pos (suc c))
-    → c ≤ at p k → ((x : List ℕ) → cost q x ≡ cost p x + at x k) → indirect_utility s u p ≤ℤ indirect_utility s u q
+utility-stays : (s : List ℕ) (u : List ℕ → ℤ) (c : ℕ) (p q : List ℕ) (k : ℕ) → IsValuation s u
+    → ((y : List ℕ) → AtMost y s → (u y +ℤ pos 1) ≤ℤ pos (suc c)) → c ≤ at p k → ((x : List ℕ) → cost q x ≡ cost p x + at x k)
+    → indirect_utility s u p ≤ℤ indirect_utility s u q
 utility-stays s u c p q k value low high more =
     let b = surplus_reached s u p in
     let z = b.bundle in
@@ -56,16 +57,17 @@ utility-stays s u c p q k value low high more =
       | inr empty ↦ omega (arith, ints)
     ]
 
-utilities-stay : (s : List ℕ) (u : ℕ → List ℕ → ℤ) (c : ℕ) (p q : List ℕ) (k : ℕ) (js : List ℕ) → AllValuations s u js → AllBelowCeiling s u (suc c) js
-    → c ≤ at p k → ((x : List ℕ) → cost q x ≡ cost p x + at x k) → sum_over (λ j. indirect_utility s (u j) p) js ≤ℤ sum_over (λ j. indirect_utility s (u j) q) js
+utilities-stay : (s : List ℕ) (u : ℕ → List ℕ → ℤ) (c : ℕ) (p q : List ℕ) (k : ℕ) (js : List ℕ) → AllValuations s u js
+    → AllBelowCeiling s u (suc c) js → c ≤ at p k → ((x : List ℕ) → cost q x ≡ cost p x + at x k)
+    → sum_over (λ j. indirect_utility s (u j) p) js ≤ℤ sum_over (λ j. indirect_utility s (u j) q) js
 utilities-stay s u c p q k [] values low high more = omega (arith, ints)
 utilities-stay s u c p q k (j ∷ js) values low high more =
     let i = utility-stays s (u j) c p q k values.0 low.0 high more in
     let r = utilities-stay s u c p q k js values.1 low.1 high more in
     omega (arith, ints)
 
-lyapunov-stays : (s : List ℕ) (u : ℕ → List ℕ → ℤ) (c : ℕ) (p q : List ℕ) (k : ℕ) (js : List ℕ) → AllValuations s u js → AllBelowCeiling s u (suc c) js
-    → c ≤ at p k → ((x : List ℕ) → cost q x ≡ cost p x + at x k) → lyapunov s u js p ≤ℤ lyapunov s u js q
+lyapunov-stays : (s : List ℕ) (u : ℕ → List ℕ → ℤ) (c : ℕ) (p q : List ℕ) (k : ℕ) (js : List ℕ) → AllValuations s u js
+    → AllBelowCeiling s u (suc c) js → c ≤ at p k → ((x : List ℕ) → cost q x ≡ cost p x + at x k) → lyapunov s u js p ≤ℤ lyapunov s u js q
 unfolding lyapunov
 lyapunov-stays s u c p q k js values low high more = let i = utilities-stay s u c p q k js values low high more in let j = more s in omega (arith, ints)
 
@@ -83,8 +85,9 @@ never_higher s u c js p e k values low t he = elim (cases_lt (at p k) c) [
 ]
 
 -- and no price that was below the ceiling reaches it
-pub below_ceiling : (s : List ℕ) (u : ℕ → List ℕ → ℤ) (c : ℕ) (js : List ℕ) → AllStrongSubstitutes s u js → AllValuations s u js → AllBelowCeiling s u c js
-    → (p sets : List ℕ) → length p ≡ length s → AllSteps s u js p sets → (k : ℕ) → at p k < c → at (prices_along p sets) k < c
+pub below_ceiling : (s : List ℕ) (u : ℕ → List ℕ → ℤ) (c : ℕ) (js : List ℕ) → AllStrongSubstitutes s u js → AllValuations s u js
+    → AllBelowCeiling s u c js → (p sets : List ℕ) → length p ≡ length s → AllSteps s u js p sets → (k : ℕ) → at p k < c
+    → at (prices_along p sets) k < c
 below_ceiling s u c js strong values low p [] same steps k h = h
 below_ceiling s u c js strong values low p (set ∷ sets) same steps k h =
     let P : ℕ → Type 0 = λ n. Chosen s (lyapunov s u js) p (set_of (length s) n) in

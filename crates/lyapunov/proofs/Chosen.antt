@@ -37,8 +37,8 @@ abbrev pub IsFirst : List ℕ → (List ℕ → ℤ) → List ℕ → Type 0
 IsFirst o g q = (r : List ℕ) → AtMost o r → AtMost r q → g r ≤ℤ g q → r ≡ q
 
 -- the top layer of what is left to q is in the step: else the step and that layer together would be a better one
-pub step_falls : (s : List ℕ) (g : List ℕ → ℤ) → IsMidConvex g → (o p e q : List ℕ) → length p ≡ length s → AtMost o p → IsFirst o g q → AtMost (plus p e) q → Chosen s g p e
-    → (n : ℕ) → ((k : ℕ) → at q k ≤ at p k + suc n) → (k : ℕ) → at q k ≤ at (plus p e) k + n
+pub step_falls : (s : List ℕ) (g : List ℕ → ℤ) → IsMidConvex g → (o p e q : List ℕ) → length p ≡ length s → AtMost o p → IsFirst o g q
+    → AtMost (plus p e) q → Chosen s g p e → (n : ℕ) → ((k : ℕ) → at q k ≤ at p k + suc n) → (k : ℕ) → at q k ≤ at (plus p e) k + n
 step_falls s g mid o p e q lp op first pq t n w =
     let le = t.set.1 in
     let bits = t.set.0 in
@@ -59,7 +59,8 @@ step_falls s g mid o p e q lp op first pq t n w =
     λ k. let i = wd k in let a = ap (λ r. at r k) c in omega (arith, l.is k, at-rest q v k)
 
 -- what a step adds up to other prices, of what they have beyond, is the step, where it is as good
-part_of_step : (s : List ℕ) (g : List ℕ → ℤ) (p e r : List ℕ) → length p ≡ length s → Chosen s g p e → AtMost r (plus p e) → IsSet s (above r p) × AtMost (above r p) e
+part_of_step : (s : List ℕ) (g : List ℕ → ℤ) (p e r : List ℕ) → length p ≡ length s → Chosen s g p e → AtMost r (plus p e)
+    → IsSet s (above r p) × AtMost (above r p) e
 part_of_step s g p e r lp t rp =
     let le = t.set.1 in
     let lr = length-below r (plus p e) rp in
@@ -68,7 +69,8 @@ part_of_step s g p e r lp t rp =
     ((Bits-at (above r p) (λ k. omega (arith, at-below (above r p) e k fe, at-bits e k t.set.0)), omega (arith, length-plus p e)), fe)
 
 -- a step goes to the first prices again
-pub first_step : (s : List ℕ) (g : List ℕ → ℤ) → IsMidConvex g → (o p e : List ℕ) → length p ≡ length s → AtMost o p → Chosen s g p e → IsFirst o g p → IsFirst o g (plus p e)
+pub first_step : (s : List ℕ) (g : List ℕ → ℤ) → IsMidConvex g → (o p e : List ℕ) → length p ≡ length s → AtMost o p → Chosen s g p e
+    → IsFirst o g p → IsFirst o g (plus p e)
 first_step s g mid o p e lp op t first r or rp h =
     let le = t.set.1 in
     let lr = length-below r (plus p e) rp in
@@ -88,26 +90,29 @@ abbrev pub AllChosen : List ℕ → (List ℕ → ℤ) → List ℕ → List (Li
 AllChosen s g p [] = Unit {0}
 AllChosen s g p (e ∷ es) = Chosen s g p e × AllChosen s g (plus p e) es
 
-pub above_start : (s : List ℕ) (g : List ℕ → ℤ) (p : List ℕ) (es : List (List ℕ)) → length p ≡ length s → AllChosen s g p es → AtMost p (prices_over p es)
+pub above_start : (s : List ℕ) (g : List ℕ → ℤ) (p : List ℕ) (es : List (List ℕ)) → length p ≡ length s → AllChosen s g p es
+    → AtMost p (prices_over p es)
 above_start s g p [] l h = AtMost-self p
 above_start s g p (e ∷ es) l h =
     let t = h.0 in
     let le = t.set.1 in
     AtMost-more p (plus p e) (prices_over (plus p e) es) (AtMost-raised p e (omega arith)) (above_start s g (plus p e) es (omega (arith, length-plus p e)) h.1)
 
-pub first_after : (s : List ℕ) (g : List ℕ → ℤ) → IsMidConvex g → (o p : List ℕ) (es : List (List ℕ)) → length p ≡ length s → AtMost o p → AllChosen s g p es → IsFirst o g p → IsFirst o g (prices_over p es)
+pub first_after : (s : List ℕ) (g : List ℕ → ℤ) → IsMidConvex g → (o p : List ℕ) (es : List (List ℕ)) → length p ≡ length s → AtMost o p
+    → AllChosen s g p es → IsFirst o g p → IsFirst o g (prices_over p es)
 first_after s g mid o p [] l op h first = first
 first_after s g mid o p (e ∷ es) l op h first =
     let t = h.0 in
     let le = t.set.1 in
     first_after s g mid o (plus p e) es (omega (arith, length-plus p e)) (AtMost-more o p (plus p e) op (AtMost-raised p e (omega arith))) h.1 (first_step s g mid o p e l op t first)
 
-pub first_from : (s : List ℕ) (g : List ℕ → ℤ) → IsMidConvex g → (o : List ℕ) (es : List (List ℕ)) → length o ≡ length s → AllChosen s g o es → IsFirst o g (prices_over o es)
+pub first_from : (s : List ℕ) (g : List ℕ → ℤ) → IsMidConvex g → (o : List ℕ) (es : List (List ℕ)) → length o ≡ length s
+    → AllChosen s g o es → IsFirst o g (prices_over o es)
 first_from s g mid o es l h = first_after s g mid o o es l (AtMost-self o) h (λ r or ro i. AtMost-same r o ro or)
 
 -- by one step the highest entry of what is left to q falls by one
-pub greatest_falls : (s : List ℕ) (g : List ℕ → ℤ) → IsMidConvex g → (o p e q : List ℕ) → length p ≡ length s → AtMost o p → IsFirst o g q → AtMost (plus p e) q → Chosen s g p e
-    → highest (above q (plus p e)) ≡ highest (above q p) - 1
+pub greatest_falls : (s : List ℕ) (g : List ℕ → ℤ) → IsMidConvex g → (o p e q : List ℕ) → length p ≡ length s → AtMost o p → IsFirst o g q
+    → AtMost (plus p e) q → Chosen s g p e → highest (above q (plus p e)) ≡ highest (above q p) - 1
 greatest_falls s g mid o p e q lp op first pq t =
     let n = highest (above q p) - 1 in
     let w : (k : ℕ) → at q k ≤ at p k + suc n = λ k. omega (arith, highest-bounds (above q p) k, at-rest q p k) in
@@ -119,8 +124,8 @@ greatest_falls s g mid o p e q lp op first pq t =
     omega (arith, at-rest q (plus p e) m.0, at-rest q p m.0, at-sum p e m.0, at-bits e m.0 t.set.0)
 
 -- the steps are as many as the highest rise
-pub count_after : (s : List ℕ) (g : List ℕ → ℤ) → IsMidConvex g → (o p : List ℕ) (es : List (List ℕ)) → length p ≡ length s → AtMost o p → AllChosen s g p es → NoneEmpty es → IsFirst o g (prices_over p es)
-    → length es ≡ highest (above (prices_over p es) p)
+pub count_after : (s : List ℕ) (g : List ℕ → ℤ) → IsMidConvex g → (o p : List ℕ) (es : List (List ℕ)) → length p ≡ length s → AtMost o p
+    → AllChosen s g p es → NoneEmpty es → IsFirst o g (prices_over p es) → length es ≡ highest (above (prices_over p es) p)
 count_after s g mid o p [] l op h some first = let i = highest-within 0 (above p p) (λ k. omega (arith, at-rest p p k)) in omega arith
 count_after s g mid o p (e ∷ es) l op h some first =
     let t = h.0 in
@@ -136,6 +141,7 @@ count_after s g mid o p (e ∷ es) l op h some first =
     let b = highest-bounds (above q p) m.0 in
     omega (arith, at-below (plus p e) q m.0 a, at-rest q p m.0, at-sum p e m.0)
 
-pub rise_at_most : (s : List ℕ) (g : List ℕ → ℤ) (p : List ℕ) (es : List (List ℕ)) → AllChosen s g p es → (k : ℕ) → at (prices_over p es) k ≤ at p k + length es
+pub rise_at_most : (s : List ℕ) (g : List ℕ → ℤ) (p : List ℕ) (es : List (List ℕ)) → AllChosen s g p es → (k : ℕ)
+    → at (prices_over p es) k ≤ at p k + length es
 rise_at_most s g p [] h k = omega arith
 rise_at_most s g p (e ∷ es) h k = let t = h.0 in let i = rise_at_most s g (plus p e) es h.1 k in omega (arith, at-sum p e k, at-bits e k t.set.0)

@@ -26,12 +26,13 @@ IsMidConvex g =
     (a b m e : List ℕ) → Bits e → ((x : List ℕ) → cost a x + cost b x ≡ cost m x + cost (plus m e) x)
     → (g m +ℤ g (plus m e)) ≤ℤ (g a +ℤ g b)
 
-pub square : (g : List ℕ → ℤ) → IsMidConvex g → (r v w : List ℕ) → Bits (plus v w) → (g r +ℤ g (plus r (plus v w))) ≤ℤ (g (plus r v) +ℤ g (plus r w))
+pub square : (g : List ℕ → ℤ) → IsMidConvex g → (r v w : List ℕ) → Bits (plus v w)
+    → (g r +ℤ g (plus r (plus v w))) ≤ℤ (g (plus r v) +ℤ g (plus r w))
 square g mid r v w bits = mid (plus r v) (plus r w) r (plus v w) bits (λ x. omega (arith, cost-plus_left r v x, cost-plus_left r w x, cost-plus_left r (plus v w) x, cost-plus_left v w x))
 
 pub Bits-none : (a : List ℕ) → Within 0 a → Bits a
 Bits-none [] w = tt
-Bits-none (a ∷ az) w = (let i = w.0 in omega arith, Bits-none az w.1)
+Bits-none (a ∷ bs) w = (let i = w.0 in omega arith, Bits-none bs w.1)
 
 pub length-plus : (p q : List ℕ) → length (plus p q) ≡ max (length p) (length q)
 length-plus [] q = omega arith
@@ -69,7 +70,8 @@ pub turned : (r v w : List ℕ) → plus r (plus v w) ≡ plus (plus r w) v
 turned r v w = ap (plus r) (plus_comm v w) ∙ sym (plus_assoc r w v)
 
 -- a step on goods whose prices are the same in r and in r + b gains at r as much as at r + b, or more
-pub submodular_step : (g : List ℕ → ℤ) → IsMidConvex g → (v : List ℕ) → Bits v → (n : ℕ) (r b : List ℕ) → Within n b → Apart v b → (g r +ℤ g (plus (plus r b) v)) ≤ℤ (g (plus r v) +ℤ g (plus r b))
+pub submodular_step : (g : List ℕ → ℤ) → IsMidConvex g → (v : List ℕ) → Bits v → (n : ℕ) (r b : List ℕ) → Within n b → Apart v b
+    → (g r +ℤ g (plus (plus r b) v)) ≤ℤ (g (plus r v) +ℤ g (plus r b))
 submodular_step g mid v bits zero r b w h =
     let i = square g mid r v b (Bits-none_beside v b bits w) in
     let j = ap g (turned r v b) in
@@ -86,7 +88,8 @@ submodular_step g mid v bits (suc n) r b w h =
     omega (arith, ints)
 
 -- the same for any two price vectors, as their goodwise least and what each has above it
-pub submodular : (g : List ℕ → ℤ) → IsMidConvex g → (m : ℕ) (b : List ℕ) → Within m b → (n : ℕ) (r a : List ℕ) → Within n a → Apart a b → (g r +ℤ g (plus (plus r b) a)) ≤ℤ (g (plus r a) +ℤ g (plus r b))
+pub submodular : (g : List ℕ → ℤ) → IsMidConvex g → (m : ℕ) (b : List ℕ) → Within m b → (n : ℕ) (r a : List ℕ) → Within n a → Apart a b
+    → (g r +ℤ g (plus (plus r b) a)) ≤ℤ (g (plus r a) +ℤ g (plus r b))
 submodular g mid m b wb zero r a w h = submodular_step g mid a (Bits-none a w) m r b wb h
 submodular g mid m b wb (suc n) r a w h =
     let s = support a in
@@ -128,9 +131,9 @@ pub Within-total : (b : List ℕ) → Within (total b) b
 Within-total [] = tt
 Within-total (b ∷ bs) = (omega arith, wider (total bs) (b + total bs) bs (omega arith) (Within-total bs))
   where
-    wider : (m n : ℕ) (az : List ℕ) → m ≤ n → Within m az → Within n az
+    wider : (m n : ℕ) (bs : List ℕ) → m ≤ n → Within m bs → Within n bs
     wider m n [] h w = tt
-    wider m n (a ∷ az) h w = (let i = w.0 in omega arith, wider m n az h w.1)
+    wider m n (a ∷ bs) h w = (let i = w.0 in omega arith, wider m n bs h w.1)
 
 pub total-plus : (p q : List ℕ) → total (plus p q) ≡ total p + total q
 total-plus [] q = omega arith

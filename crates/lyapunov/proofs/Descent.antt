@@ -29,7 +29,8 @@ indirect_utility-convex s u strong a b m e bits same =
     let k = same z in
     omega (arith, ints)
 
-sum-convex : (s : List ℕ) (u : ℕ → List ℕ → ℤ) (js : List ℕ) → AllStrongSubstitutes s u js → IsMidConvex (λ p. sum_over (λ j. indirect_utility s (u j) p) js)
+sum-convex : (s : List ℕ) (u : ℕ → List ℕ → ℤ) (js : List ℕ) → AllStrongSubstitutes s u js
+    → IsMidConvex (λ p. sum_over (λ j. indirect_utility s (u j) p) js)
 sum-convex s u [] strong a b m e bits same = omega (arith, ints)
 sum-convex s u (j ∷ js) strong a b m e bits same =
     let i = indirect_utility-convex s (u j) strong.0 a b m e bits same in
@@ -62,15 +63,16 @@ pub excess-digits : (s : List ℕ) (u : ℕ → List ℕ → ℤ) (p js : List �
     → excess s (λ j. demand s (u j) p) js set ≡ excess_on s (λ j. demand s (u j) p) js (set_of (length s) set)
 excess-digits s u p js set = λ i. pos (all js i) -ℤ pos (quantity_in-cost s set i)
   where
-    all : (js : List ℕ) → total_units (λ j. least (demand s (u j) p) set) js ≡ total_units (λ j. least_of (cost (set_of (length s) set)) (demand s (u j) p)) js
+    all : (js : List ℕ)
+        → total_units (λ j. least (demand s (u j) p) set) js ≡ total_units (λ j. least_of (cost (set_of (length s) set)) (demand s (u j) p)) js
     all [] = refl
     all (j ∷ js) = λ i. least-cost s (u j) p set i + all js i
 
 pub raised-digits : (s p : List ℕ) (set : ℕ) → length p ≡ length s → raised p set ≡ plus p (set_of (length s) set)
 raised-digits s p set same = raised-plus p set ∙ ap (λ n. plus p (set_of n set)) same
 
-pub lyapunov-raised : (s : List ℕ) (u : ℕ → List ℕ → ℤ) (js : List ℕ) → AllStrongSubstitutes s u js → (p : List ℕ) (set : ℕ) → length p ≡ length s
-    → excess s (λ j. demand s (u j) p) js set ≡ lyapunov s u js p -ℤ lyapunov s u js (raised p set)
+pub lyapunov-raised : (s : List ℕ) (u : ℕ → List ℕ → ℤ) (js : List ℕ) → AllStrongSubstitutes s u js → (p : List ℕ) (set : ℕ)
+    → length p ≡ length s → excess s (λ j. demand s (u j) p) js set ≡ lyapunov s u js p -ℤ lyapunov s u js (raised p set)
 lyapunov-raised s u js strong p set same =
     excess-digits s u p js set ∙ lyapunov-plus s u js strong p (set_of (length s) set) (Bits-set_of (length s) set)
     ∙ ap (λ q. lyapunov s u js p -ℤ lyapunov s u js q) (sym (raised-digits s p set same))

@@ -28,8 +28,8 @@ number_of s f set =
     record { number = n.number; below = subst P set.1 n.below; is = subst Q set.1 n.is }
 
 -- the excess of a set is what it takes off the function
-excess-is : (s : List ℕ) (u : ℕ → List ℕ → ℤ) (js : List ℕ) → AllStrongSubstitutes s u js → (p f : List ℕ) (set : ℕ) → set_of (length s) set ≡ f
-    → excess s (λ j. demand s (u j) p) js set ≡ lyapunov s u js p -ℤ lyapunov s u js (plus p f)
+excess-is : (s : List ℕ) (u : ℕ → List ℕ → ℤ) (js : List ℕ) → AllStrongSubstitutes s u js → (p f : List ℕ) (set : ℕ)
+    → set_of (length s) set ≡ f → excess s (λ j. demand s (u j) p) js set ≡ lyapunov s u js p -ℤ lyapunov s u js (plus p f)
 excess-is s u js strong p f set is =
     excess-digits s u p js set ∙ lyapunov-plus s u js strong p (set_of (length s) set) (Bits-set_of (length s) set) ∙ ap (λ e. lyapunov s u js p -ℤ lyapunov s u js (plus p e)) is
 
@@ -52,7 +52,8 @@ step-chosen s u js strong p set step = record {
       omega (arith, d, size_of-total (length s) set, size_of-total (length s) n.number, ap total n.is);
 }
 
-pub true_step-is : (s : List ℕ) (u : ℕ → List ℕ → ℤ) (js p : List ℕ) → IsStepSet (length s) (excess s (λ j. demand s (u j) p) js) (true_step s u js p)
+pub true_step-is : (s : List ℕ) (u : ℕ → List ℕ → ℤ) (js p : List ℕ)
+    → IsStepSet (length s) (excess s (λ j. demand s (u j) p) js) (true_step s u js p)
 unfolding step_set
 true_step-is s u js p = first_set-step_set (length s) (excess s (λ j. demand s (u j) p) js)
 
@@ -75,8 +76,8 @@ length-raised [] set = refl
 length-raised (q ∷ p) set = ap (λ n. suc n) (length-raised p (set / 2))
 
 -- where the true step is empty, no set lowers the function
-pub still : (s : List ℕ) (u : ℕ → List ℕ → ℤ) (js : List ℕ) → AllStrongSubstitutes s u js → (p : List ℕ) → length p ≡ length s → true_step s u js p ≡ 0
-    → IsStill s (lyapunov s u js) p
+pub still : (s : List ℕ) (u : ℕ → List ℕ → ℤ) (js : List ℕ) → AllStrongSubstitutes s u js → (p : List ℕ) → length p ≡ length s
+    → true_step s u js p ≡ 0 → IsStill s (lyapunov s u js) p
 still s u js strong p same none f is_set =
     let c = (true_step-chosen s u js strong p).best f is_set in
     let e = ap (λ set. lyapunov s u js (plus p (set_of (length s) set))) none in
@@ -84,8 +85,8 @@ still s u js strong p same none f is_set =
     omega (arith, ints)
 
 -- where it is not, it does
-pub true_step-lowers : (s : List ℕ) (u : ℕ → List ℕ → ℤ) (js : List ℕ) → AllStrongSubstitutes s u js → (p : List ℕ) → length p ≡ length s → true_step s u js p ≢ 0
-    → (lyapunov s u js (raised p (true_step s u js p)) +ℤ pos 1) ≤ℤ lyapunov s u js p
+pub true_step-lowers : (s : List ℕ) (u : ℕ → List ℕ → ℤ) (js : List ℕ) → AllStrongSubstitutes s u js → (p : List ℕ) → length p ≡ length s
+    → true_step s u js p ≢ 0 → (lyapunov s u js (raised p (true_step s u js p)) +ℤ pos 1) ≤ℤ lyapunov s u js p
 true_step-lowers s u js strong p same some =
     let set = true_step s u js p in
     let e = set_of (length s) set in
@@ -117,8 +118,8 @@ pub length-prices : (p sets : List ℕ) → length (prices_along p sets) ≡ len
 length-prices p [] = refl
 length-prices p (set ∷ sets) = length-prices (raised p set) sets ∙ length-raised p set
 
-pub chosen_along : (s : List ℕ) (u : ℕ → List ℕ → ℤ) (js : List ℕ) → AllStrongSubstitutes s u js → (p sets : List ℕ) → length p ≡ length s → AllSteps s u js p sets
-    → AllChosen s (lyapunov s u js) p (digits_of s sets)
+pub chosen_along : (s : List ℕ) (u : ℕ → List ℕ → ℤ) (js : List ℕ) → AllStrongSubstitutes s u js → (p sets : List ℕ) → length p ≡ length s
+    → AllSteps s u js p sets → AllChosen s (lyapunov s u js) p (digits_of s sets)
 chosen_along s u js strong p [] same steps = tt
 chosen_along s u js strong p (set ∷ sets) same steps =
     let P : ℕ → Type 0 = λ n. Chosen s (lyapunov s u js) p (set_of (length s) n) in

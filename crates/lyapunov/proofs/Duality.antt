@@ -38,7 +38,8 @@ cost-within (b ∷ o) (a ∷ p) (n ∷ t) (m ∷ s) op ts = let i = cost-within 
         omega arith
 
 -- and exactly this where each good with an unsold unit is at its opening price
-pub cost-sold : (o p t s : List ℕ) → AtMost o p → AtMost t s → ((k : ℕ) → at t k < at s k → at p k ≡ at o k) → cost p t + cost o s ≡ cost p s + cost o t
+pub cost-sold : (o p t s : List ℕ) → AtMost o p → AtMost t s → ((k : ℕ) → at t k < at s k → at p k ≡ at o k)
+    → cost p t + cost o s ≡ cost p s + cost o t
 cost-sold [] [] t s op ts unsold = omega arith
 cost-sold [] (a ∷ p) t s op ts unsold = absurd op
 cost-sold (b ∷ o) [] t s op ts unsold = absurd op
@@ -71,14 +72,16 @@ met s u p x (j ∷ js) h =
     let l = cost-plus_right p (x j) (total_bundle s x js) in
     omega (arith, ints)
 
-pub weak_duality : (s o : List ℕ) (u : ℕ → List ℕ → ℤ) (js p : List ℕ) (x : ℕ → List ℕ) → AtMost o p → IsAllocation s js x → worth s o u js x ≤ℤ lyapunov s u js p
+pub weak_duality : (s o : List ℕ) (u : ℕ → List ℕ → ℤ) (js p : List ℕ) (x : ℕ → List ℕ) → AtMost o p → IsAllocation s js x
+    → worth s o u js x ≤ℤ lyapunov s u js p
 unfolding lyapunov
 weak_duality s o u js p x op h =
     let i = covered s u p x js h.bundles in
     let k = cost-within o p (total_bundle s x js) s op h.within in
     omega (arith, ints)
 
-pub walrasian-worth : (s o : List ℕ) (u : ℕ → List ℕ → ℤ) (js p : List ℕ) (x : ℕ → List ℕ) → IsWalrasian s o u js p x → worth s o u js x ≡ lyapunov s u js p
+pub walrasian-worth : (s o : List ℕ) (u : ℕ → List ℕ → ℤ) (js p : List ℕ) (x : ℕ → List ℕ) → IsWalrasian s o u js p x
+    → worth s o u js x ≡ lyapunov s u js p
 unfolding lyapunov
 walrasian-worth s o u js p x h =
     let i = met s u p x js h.demanded in
@@ -86,7 +89,8 @@ walrasian-worth s o u js p x h =
     omega (arith, ints)
 
 -- an equilibrium has the greatest worth
-pub walrasian-welfare : (s o : List ℕ) (u : ℕ → List ℕ → ℤ) (js p : List ℕ) (x : ℕ → List ℕ) → IsWalrasian s o u js p x → IsWelfare s o u js (worth s o u js x)
+pub walrasian-welfare : (s o : List ℕ) (u : ℕ → List ℕ → ℤ) (js p : List ℕ) (x : ℕ → List ℕ) → IsWalrasian s o u js p x
+    → IsWelfare s o u js (worth s o u js x)
 walrasian-welfare s o u js p x h = record {
   best = x;
   allocation = h.allocation;
@@ -95,7 +99,8 @@ walrasian-welfare s o u js p x h = record {
 }
 
 -- and its prices minimise the function
-pub walrasian-minimises : (s o : List ℕ) (u : ℕ → List ℕ → ℤ) (js p : List ℕ) (x : ℕ → List ℕ) → IsWalrasian s o u js p x → IsMinimiser o (lyapunov s u js) p
+pub walrasian-minimises : (s o : List ℕ) (u : ℕ → List ℕ → ℤ) (js p : List ℕ) (x : ℕ → List ℕ) → IsWalrasian s o u js p x
+    → IsMinimiser o (lyapunov s u js) p
 walrasian-minimises s o u js p x h =
     (h.prices, λ q oq. let i = weak_duality s o u js q x oq h.allocation in let k = walrasian-worth s o u js p x h in omega (arith, ints))
 
@@ -138,7 +143,8 @@ clears-unsold (b ∷ o) (a ∷ p) (n ∷ t) (m ∷ s) op h zero less = elim (cas
 ]
 clears-unsold (b ∷ o) (a ∷ p) (n ∷ t) (m ∷ s) op h (suc k) less = clears-unsold o p t s op.1 h.2 k less
 
-unsold-clears : (o p t s : List ℕ) → length o ≡ length s → AtMost o p → AtMost t s → ((k : ℕ) → at t k < at s k → at p k ≡ at o k) → Clears o p t s
+unsold-clears : (o p t s : List ℕ) → length o ≡ length s → AtMost o p → AtMost t s → ((k : ℕ) → at t k < at s k → at p k ≡ at o k)
+    → Clears o p t s
 unsold-clears [] [] [] [] same op ts unsold = tt
 unsold-clears [] [] [] (m ∷ s) same op ts unsold = absurd ts
 unsold-clears [] [] (n ∷ t) [] same op ts unsold = absurd ts
@@ -154,7 +160,8 @@ unsold-clears (b ∷ o) (a ∷ p) (n ∷ t) (m ∷ s) same op ts unsold =
     sold : (n m a b : ℕ) → n ≤ m → (n < m → a ≡ b) → b < a → n ≡ m
     sold n m a b low unsold above = elim (cases_lt n m) [ inl less ↦ absurd (let e = unsold less in omega arith) | inr all ↦ omega arith ]
 
-in_box : (s : List ℕ) (u : ℕ → List ℕ → ℤ) (p : List ℕ) (x : ℕ → List ℕ) (js : List ℕ) → AllDemanded s u p js x → AllByRecursion (λ j. AtMost (x j) s) js
+in_box : (s : List ℕ) (u : ℕ → List ℕ → ℤ) (p : List ℕ) (x : ℕ → List ℕ) (js : List ℕ) → AllDemanded s u p js x
+    → AllByRecursion (λ j. AtMost (x j) s) js
 in_box s u p x [] h = tt
 in_box s u p x (j ∷ js) h = ((demand-IsIn s (u j) p (x j) h.0).0, in_box s u p x js h.1)
 

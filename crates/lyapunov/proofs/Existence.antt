@@ -27,8 +27,8 @@ use Rattle.lyapunov.proofs.Taking.{reached}
 use Rattle.lyapunov.proofs.Totals.{HasExchange, AreDemands, IsPriced, HasNoExcess, HasNoOvershoot, IsTotal, cap, length-cap, AtMost-cap, total-below, total_gives, total_takes, total-dec, low_total, high_total, free_of, cost-priced, priced-inside, parts_of, clears_from, length-sum}
 
 -- where no set is in excess and none overshoots, the demands clear
-pub clearing_exists : (o p s : List ℕ) (d : ℕ → List (List ℕ)) (js : List ℕ) → AtMost o p → length o ≡ length s → AreDemands s d js → HasNoExcess s d js → HasNoOvershoot s d js (above p o)
-    → (xs : List (List ℕ)) × IsClearingChoice s o p (map d js) xs
+pub clearing_exists : (o p s : List ℕ) (d : ℕ → List (List ℕ)) (js : List ℕ) → AtMost o p → length o ≡ length s → AreDemands s d js
+    → HasNoExcess s d js → HasNoOvershoot s d js (above p o) → (xs : List (List ℕ)) × IsClearingChoice s o p (map d js) xs
 clearing_exists o p s d js op lo h ended none =
     let w = above p o in
     let l : length w ≡ length s = length-above p o ∙ sym (length-below o p op) ∙ lo in
@@ -39,7 +39,9 @@ clearing_exists o p s d js op lo h ended none =
     let r = parts_of w s d js s t in
     (r.choice, record { chosen = r.listed; clears = clears_from o p s (sum_of s r.choice) r.unsold op r.free (length-sum s d js r.choice h r.listed) r.is })
   where
-    low : (w e : List ℕ) → Bits e → length e ≡ length (cap s js) → (y : List ℕ) × IsTotal w s d js y × (cost e y ≡ total_units (λ j. least_of (cost e) (d j)) js) → (y : List ℕ) × IsTotal w s d js y × (cost e y ≤ cost e s)
+    low : (w e : List ℕ) → Bits e → length e ≡ length (cap s js)
+        → (y : List ℕ) × IsTotal w s d js y × (cost e y ≡ total_units (λ j. least_of (cost e) (d j)) js)
+        → (y : List ℕ) × IsTotal w s d js y × (cost e y ≤ cost e s)
     low w e b k t = let lc = length-cap s js in let i = t.2 in let j = ended e (b, k ∙ lc) in (t.0, t.1, omega (arith, ints))
 
     high : length (above p o) ≡ length s → (e : List ℕ) → Bits e → length e ≡ length (cap s js)
@@ -57,8 +59,8 @@ clearing_exists o p s d js op lo h ended none =
         (t.0, t.1, omega arith)
 
 -- an exchange between demanded bundles that is no worse gives demanded bundles
-both_demanded : (s : List ℕ) (u : List ℕ → ℤ) (p x y x' y' : List ℕ) → IsDemanded s u p x → IsDemanded s u p y → Moved s x y x' y' → NoWorse u x y x' y'
-    → IsDemanded s u p x' × IsDemanded s u p y'
+both_demanded : (s : List ℕ) (u : List ℕ → ℤ) (p x y x' y' : List ℕ) → IsDemanded s u p x → IsDemanded s u p y → Moved s x y x' y'
+    → NoWorse u x y x' y' → IsDemanded s u p x' × IsDemanded s u p y'
 both_demanded s u p x y x' y' dx dy m v =
     let t = m.total p in
     let a = dx.1 x' m.in_x in
@@ -100,8 +102,8 @@ at-priced (a ∷ e) (b ∷ w) zero l h = h.0
 at-priced (a ∷ e) (b ∷ w) (suc k) l h = let l' : length e ≡ length w = omega arith in at-priced e w k l' h.1
 
 -- at a minimiser no set of risen goods overshoots: lowering the prices on it would not raise the function
-no_overshoot : (s o : List ℕ) (u : ℕ → List ℕ → ℤ) (js p : List ℕ) → AllStrongSubstitutes s u js → length o ≡ length s → IsMinimiser o (lyapunov s u js) p
-    → HasNoOvershoot s (λ j. demand s (u j) p) js (above p o)
+no_overshoot : (s o : List ℕ) (u : ℕ → List ℕ → ℤ) (js p : List ℕ) → AllStrongSubstitutes s u js → length o ≡ length s
+    → IsMinimiser o (lyapunov s u js) p → HasNoOvershoot s (λ j. demand s (u j) p) js (above p o)
 unfolding lyapunov
 no_overshoot s o u js p strong lo m e es priced =
     let q = above p e in
@@ -119,8 +121,8 @@ no_overshoot s o u js p strong lo m e es priced =
     omega (arith, ints)
 
 -- a path that has ended has a clearing choice
-pub choice_exists : (s : List ℕ) (u : ℕ → List ℕ → ℤ) (js : List ℕ) → AllStrongSubstitutes s u js → (o sets : List ℕ) → length o ≡ length s → AllSteps s u js o sets
-    → true_step s u js (prices_along o sets) ≡ 0
+pub choice_exists : (s : List ℕ) (u : ℕ → List ℕ → ℤ) (js : List ℕ) → AllStrongSubstitutes s u js → (o sets : List ℕ) → length o ≡ length s
+    → AllSteps s u js o sets → true_step s u js (prices_along o sets) ≡ 0
     → (xs : List (List ℕ)) × IsClearingChoice s o (prices_along o sets) (map (λ j. demand s (u j) (prices_along o sets)) js) xs
 choice_exists s u js strong o sets lo steps none =
     let p = prices_along o sets in
@@ -131,8 +133,9 @@ choice_exists s u js strong o sets lo steps none =
     (no_overshoot s o u js p strong lo m)
 
 -- and where its bidders are all different, a Walrasian equilibrium
-pub ended-walrasian : (s : List ℕ) (u : ℕ → List ℕ → ℤ) (js : List ℕ) → AllDifferent js → AllStrongSubstitutes s u js → (o sets : List ℕ) → length o ≡ length s → AllSteps s u js o sets
-    → true_step s u js (prices_along o sets) ≡ 0 → IsWalrasianPrices s o u js (prices_along o sets)
+pub ended-walrasian : (s : List ℕ) (u : ℕ → List ℕ → ℤ) (js : List ℕ) → AllDifferent js → AllStrongSubstitutes s u js → (o sets : List ℕ)
+    → length o ≡ length s → AllSteps s u js o sets → true_step s u js (prices_along o sets) ≡ 0
+    → IsWalrasianPrices s o u js (prices_along o sets)
 ended-walrasian s u js different strong o sets lo steps none =
     let p = prices_along o sets in
     let t = choice_exists s u js strong o sets lo steps none in

@@ -117,38 +117,39 @@ Bits-tab f zero h = tt
 Bits-tab f (suc n) h = (h 0, Bits-tab (λ i. f (suc i)) n (λ i. h (suc i)))
 
 -- a good of e at which x has more
-dot_find : (e x y : List ℕ) → Bits e → length x ≡ length y → cost e y < cost e x → (t : ℕ) × (0 < at e t) × (at y t < at x t)
-dot_find [] x y b l h = absurd (omega arith)
-dot_find (c ∷ e) [] [] b l h = absurd (omega arith)
-dot_find (c ∷ e) [] (d ∷ y) b l h = absurd (omega arith)
-dot_find (c ∷ e) (a ∷ x) [] b l h = absurd (omega arith)
-dot_find (zero ∷ e) (a ∷ x) (d ∷ y) b l h =
+cost_find : (e x y : List ℕ) → Bits e → length x ≡ length y → cost e y < cost e x → (t : ℕ) × (0 < at e t) × (at y t < at x t)
+cost_find [] x y b l h = absurd (omega arith)
+cost_find (c ∷ e) [] [] b l h = absurd (omega arith)
+cost_find (c ∷ e) [] (d ∷ y) b l h = absurd (omega arith)
+cost_find (c ∷ e) (a ∷ x) [] b l h = absurd (omega arith)
+cost_find (zero ∷ e) (a ∷ x) (d ∷ y) b l h =
     let l' : length x ≡ length y = omega arith in
-    let t = dot_find e x y b.1 l' (omega arith) in
+    let t = cost_find e x y b.1 l' (omega arith) in
     (suc t.0, t.1, t.2)
-dot_find (suc zero ∷ e) (a ∷ x) (d ∷ y) b l h = elim (cases_lt d a) [
+cost_find (suc zero ∷ e) (a ∷ x) (d ∷ y) b l h = elim (cases_lt d a) [
   | inl i ↦ (0, omega arith, i)
   | inr i ↦
       let l' : length x ≡ length y = omega arith in
-      let t = dot_find e x y b.1 l' (omega arith) in
+      let t = cost_find e x y b.1 l' (omega arith) in
       (suc t.0, t.1, t.2)
 ]
-dot_find (suc (suc c) ∷ e) (a ∷ x) (d ∷ y) b l h = absurd (let i = b.0 in omega arith)
+cost_find (suc (suc c) ∷ e) (a ∷ x) (d ∷ y) b l h = absurd (let i = b.0 in omega arith)
 
-dot_le : (e z x : List ℕ) → Bits e → length z ≡ length x → ((l : ℕ) → 0 < at e l → at z l ≤ at x l) → cost e z ≤ cost e x
-dot_le [] z x b l h = omega arith
-dot_le (c ∷ e) [] x b l h = omega arith
-dot_le (c ∷ e) (a ∷ z) [] b l h = absurd (omega arith)
-dot_le (zero ∷ e) (a ∷ z) (d ∷ x) b l h = let l' : length z ≡ length x = omega arith in let i = dot_le e z x b.1 l' (λ j. h (suc j)) in omega arith
-dot_le (suc zero ∷ e) (a ∷ z) (d ∷ x) b l h = let l' : length z ≡ length x = omega arith in let i = dot_le e z x b.1 l' (λ j. h (suc j)) in let k = h 0 (omega arith) in omega arith
-dot_le (suc (suc c) ∷ e) (a ∷ z) (d ∷ x) b l h = absurd (let i = b.0 in omega arith)
+cost_at_most : (e z x : List ℕ) → Bits e → length z ≡ length x → ((l : ℕ) → 0 < at e l → at z l ≤ at x l) → cost e z ≤ cost e x
+cost_at_most [] z x b l h = omega arith
+cost_at_most (c ∷ e) [] x b l h = omega arith
+cost_at_most (c ∷ e) (a ∷ z) [] b l h = absurd (omega arith)
+cost_at_most (zero ∷ e) (a ∷ z) (d ∷ x) b l h = let l' : length z ≡ length x = omega arith in let i = cost_at_most e z x b.1 l' (λ j. h (suc j)) in omega arith
+cost_at_most (suc zero ∷ e) (a ∷ z) (d ∷ x) b l h = let l' : length z ≡ length x = omega arith in let i = cost_at_most e z x b.1 l' (λ j. h (suc j)) in let k = h 0 (omega arith) in omega arith
+cost_at_most (suc (suc c) ∷ e) (a ∷ z) (d ∷ x) b l h = absurd (let i = b.0 in omega arith)
 
-dot_less : (e z x : List ℕ) (k : ℕ) → Bits e → length z ≡ length x → ((l : ℕ) → 0 < at e l → at z l ≤ at x l) → 0 < at e k → at z k < at x k → cost e z < cost e x
-dot_less e z x k b l h i j =
+cost_less : (e z x : List ℕ) (k : ℕ) → Bits e → length z ≡ length x → ((l : ℕ) → 0 < at e l → at z l ≤ at x l) → 0 < at e k → at z k < at x k
+    → cost e z < cost e x
+cost_less e z x k b l h i j =
     let ik = within_from_at x k (omega arith) in
     let iz : k < length z = omega arith in
     let d = cost-one_less e x k (omega arith) in
-    let le = dot_le e z (one_less x k) b (omega (arith, length-one_less x k)) (λ m v. elim (cases_eq m k) [
+    let le = cost_at_most e z (one_less x k) b (omega (arith, length-one_less x k)) (λ m v. elim (cases_eq m k) [
       | inl q ↦ (let P : ℕ → Type 0 = λ r. at z r ≤ at (one_less x k) r in subst P (sym q) (let s = at-one_less_same x k in omega arith))
       | inr n ↦ (let s = at-down_other x k m n in let w = h m v in omega arith)
     ]) in
@@ -202,7 +203,8 @@ module _ (A : List ℕ → Type 0) (give : CanGive A) (n : ℕ) (len : (x : List
     near : distance next x < distance y x
 
   -- x has the least quantity on the places: a member of the set with less leads to one that is nearer to x
-  sink : (x : List ℕ) (k : ℕ) → A x → (A (one_less x k) → ⊥) → 0 < at x k → (y : List ℕ) → A y → cost (places x k) y < cost (places x k) x → Sunk x k y
+  sink : (x : List ℕ) (k : ℕ) → A x → (A (one_less x k) → ⊥) → 0 < at x k → (y : List ℕ) → A y → cost (places x k) y < cost (places x k) x
+      → Sunk x k y
   unfolding InPlace
   sink x k ax none pk y ay h =
       let e = places x k in
@@ -236,7 +238,7 @@ module _ (A : List ℕ → Type 0) (give : CanGive A) (n : ℕ) (len : (x : List
                   record { next = one_more (one_less y l) m.0; «in» = m.2; less = (let z = t.2.0 in omega arith); near = omega arith }
             ]
         | inr f ↦
-            let t = dot_find e x y be (omega arith) h in
+            let t = cost_find e x y be (omega arith) h in
             let ht = t.2 in
             absurd (elim (from_places x k t.0 t.1) [
               | inl same ↦ leaves_k x k t.0 y ax none ay same ht (λ l i j. f l i j)
@@ -247,7 +249,8 @@ module _ (A : List ℕ → Type 0) (give : CanGive A) (n : ℕ) (len : (x : List
       other : (x y : List ℕ) (l m : ℕ) → at x l < at y l → at y m < at x m → m ≢ l
       other x y l m h i e = absurd (omega (arith, ap (at x) e, ap (at y) e))
 
-      leaves_k : (x : List ℕ) (k t : ℕ) (y : List ℕ) → A x → (A (one_less x k) → ⊥) → A y → t ≡ k → at y t < at x t → ((l : ℕ) → l < n → (0 < at (places x k) l) × (at x l < at y l) → ⊥) → ⊥
+      leaves_k : (x : List ℕ) (k t : ℕ) (y : List ℕ) → A x → (A (one_less x k) → ⊥) → A y → t ≡ k → at y t < at x t
+          → ((l : ℕ) → l < n → (0 < at (places x k) l) × (at x l < at y l) → ⊥) → ⊥
       leaves_k x k t y ax none ay same ht f =
           let P : ℕ → Type 0 = λ i. at y i < at x i in
           elim (give x y k ax ay (subst P same ht)) [
@@ -260,7 +263,8 @@ module _ (A : List ℕ → Type 0) (give : CanGive A) (n : ℕ) (len : (x : List
                 f m.0 il (to_places x k m.0 il (inr m.2), hm)
           ]
 
-      leaves : (x : List ℕ) (k t : ℕ) (y : List ℕ) → A x → (A (one_less x k) → ⊥) → 0 < at x k → A y → A (one_more (one_less x k) t) → at y t < at x t → ((l : ℕ) → l < n → (0 < at (places x k) l) × (at x l < at y l) → ⊥) → ⊥
+      leaves : (x : List ℕ) (k t : ℕ) (y : List ℕ) → A x → (A (one_less x k) → ⊥) → 0 < at x k → A y → A (one_more (one_less x k) t)
+          → at y t < at x t → ((l : ℕ) → l < n → (0 < at (places x k) l) × (at x l < at y l) → ⊥) → ⊥
       leaves x k t y ax none pk ay can ht f = elim (cases_eq t k) [
         | inl same ↦ leaves_k x k t y ax none ay same ht f
         | inr nk ↦ elim (give x y t ax ay ht) [
@@ -277,7 +281,8 @@ module _ (A : List ℕ → Type 0) (give : CanGive A) (n : ℕ) (len : (x : List
         ]
       ]
 
-  none_less : (x : List ℕ) (k : ℕ) → A x → (A (one_less x k) → ⊥) → 0 < at x k → (fuel : ℕ) (y : List ℕ) → A y → cost (places x k) y < cost (places x k) x → distance y x ≤ fuel → ⊥
+  none_less : (x : List ℕ) (k : ℕ) → A x → (A (one_less x k) → ⊥) → 0 < at x k → (fuel : ℕ) (y : List ℕ) → A y
+      → cost (places x k) y < cost (places x k) x → distance y x ≤ fuel → ⊥
   none_less x k ax none pk zero y ay h near = let t = sink x k ax none pk y ay h in let i = t.near in omega arith
   none_less x k ax none pk (suc fuel) y ay h near = let t = sink x k ax none pk y ay h in let i = t.near in none_less x k ax none pk fuel t.next t.«in» t.less (omega arith)
 
@@ -287,7 +292,8 @@ module _ (A : List ℕ → Type 0) (give : CanGive A) (n : ℕ) (len : (x : List
     pub near : distance next z < distance x z
 
   -- where x has more than z of some good and some member has no more than z on each set, a member is nearer to z
-  pub nearer_down : (z : List ℕ) → length z ≡ n → ((e : List ℕ) → Bits e → length e ≡ n → (y : List ℕ) × A y × (cost e y ≤ cost e z)) → (x : List ℕ) (k : ℕ) → A x → at z k < at x k → Nearer x z
+  pub nearer_down : (z : List ℕ) → length z ≡ n → ((e : List ℕ) → Bits e → length e ≡ n → (y : List ℕ) × A y × (cost e y ≤ cost e z))
+      → (x : List ℕ) (k : ℕ) → A x → at z k < at x k → Nearer x z
   unfolding InPlace
   nearer_down z lz low x k ax h =
       let lx = len x ax in
@@ -315,12 +321,13 @@ module _ (A : List ℕ → Type 0) (give : CanGive A) (n : ℕ) (len : (x : List
               let e = places x k in
               let y = low e (Bits-places x k) (length-places x k) in
               let yle = y.2 in
-              let lt = dot_less e z x k (Bits-places x k) (omega arith) (λ l v. under l (from_places x k l v) f) (to_places x k k (omega arith) (inl refl)) h in
+              let lt = cost_less e z x k (Bits-places x k) (omega arith) (λ l v. under l (from_places x k l v) f) (to_places x k k (omega arith) (inl refl)) h in
               absurd (none_less x k ax none (omega arith) (distance y.0 x) y.0 y.1 (omega arith) (omega arith))
         ]
       ]
     where
-      both : (l : ℕ) → A (one_more (one_less x k) l) ⊎ (A (one_more (one_less x k) l) → ⊥) → ((at x l < at z l) × A (one_more (one_less x k) l)) ⊎ ((at x l < at z l) × A (one_more (one_less x k) l) → ⊥)
+      both : (l : ℕ) → A (one_more (one_less x k) l) ⊎ (A (one_more (one_less x k) l) → ⊥)
+          → ((at x l < at z l) × A (one_more (one_less x k) l)) ⊎ ((at x l < at z l) × A (one_more (one_less x k) l) → ⊥)
       both l (inl a) = elim (cases_lt (at x l) (at z l)) [ inl i ↦ inl (i, a) | inr i ↦ inr (λ t. let j = t.0 in omega arith) ]
       both l (inr g) = inr (λ t. g t.1)
 

@@ -32,7 +32,8 @@ in_support : (v b n : ℕ) → v ≤ 1 → (0 < v → b ≡ suc n) → v ≤ min
 in_support v b n h t = elim (cases_lt 0 v) [ inl i ↦ (let e = t i in omega arith) | inr i ↦ omega arith ]
 
 -- where every good of the set is at the top of b, the set gains at r as much as at r + b, or more
-pub convex_along : (g : List ℕ → ℤ) → IsMidConvex g → (v : List ℕ) → (n : ℕ) (r b : List ℕ) → length v ≡ length b → IsLevel n v b → (g (plus r v) +ℤ g (plus r b)) ≤ℤ (g r +ℤ g (plus (plus r b) v))
+pub convex_along : (g : List ℕ → ℤ) → IsMidConvex g → (v : List ℕ) → (n : ℕ) (r b : List ℕ) → length v ≡ length b → IsLevel n v b
+    → (g (plus r v) +ℤ g (plus r b)) ≤ℤ (g r +ℤ g (plus (plus r b) v))
 convex_along g mid v zero r b l h =
     let w = Within-at 0 b (λ k. (h k).1) in
     let bits = Bits-at v (λ k. (h k).0) in

@@ -37,8 +37,8 @@ lyapunov-positive s u js p h = let i = all js h in omega (arith, ints)
         let i = all js h.1 in let k = surplus_bounds s (u j) p (zeros s) (AtMost-zeros s) in let z = h.0 in let d = cost-zeros p s in omega (arith, ints)
 
 -- each step takes at least 1 off a function that is never below 0
-pub few_steps : (s : List ℕ) (u : ℕ → List ℕ → ℤ) (js : List ℕ) → AllStrongSubstitutes s u js → AllValuations s u js → (p sets : List ℕ) → length p ≡ length s
-    → AllSteps s u js p sets → pos (length sets) ≤ℤ lyapunov s u js p
+pub few_steps : (s : List ℕ) (u : ℕ → List ℕ → ℤ) (js : List ℕ) → AllStrongSubstitutes s u js → AllValuations s u js → (p sets : List ℕ)
+    → length p ≡ length s → AllSteps s u js p sets → pos (length sets) ≤ℤ lyapunov s u js p
 few_steps s u js strong values p [] same steps = lyapunov-positive s u js p values
 few_steps s u js strong values p (set ∷ sets) same steps =
     let low = true_step-lowers s u js strong p same (λ none. steps.0 (steps.1 ∙ none)) in
@@ -75,8 +75,8 @@ highest-zeros (a ∷ s) (q ∷ p) same =
     omega arith
 
 -- what stands at every moment
-pub stands : (s : List ℕ) (u : ℕ → List ℕ → ℤ) (js : List ℕ) → AllStrongSubstitutes s u js → (o sets : List ℕ) → length o ≡ length s → AllSteps s u js o sets
-    → Standing (lyapunov s u js) o (length sets) (prices_along o sets)
+pub stands : (s : List ℕ) (u : ℕ → List ℕ → ℤ) (js : List ℕ) → AllStrongSubstitutes s u js → (o sets : List ℕ) → length o ≡ length s
+    → AllSteps s u js o sets → Standing (lyapunov s u js) o (length sets) (prices_along o sets)
 stands s u js strong o sets same steps =
     let t = standing s (lyapunov s u js) (lyapunov-convex s u js strong) o (digits_of s sets) same (chosen_along s u js strong o sets same steps) in
     let P : ℕ → Type 0 = λ n. Standing (lyapunov s u js) o n (prices_along o sets) in
@@ -84,8 +84,8 @@ stands s u js strong o sets same steps =
     subst P (length-digits s sets) (subst Q (sym (prices-digits s o sets same)) t)
 
 -- the prices after t steps are the least that minimise the function over all prices within t of the opening
-pub least_near_opening : (s : List ℕ) (u : ℕ → List ℕ → ℤ) (js : List ℕ) → AllStrongSubstitutes s u js → (o sets : List ℕ) → length o ≡ length s → AllSteps s u js o sets
-    → IsLeastNear o (length sets) (lyapunov s u js) (prices_along o sets)
+pub least_near_opening : (s : List ℕ) (u : ℕ → List ℕ → ℤ) (js : List ℕ) → AllStrongSubstitutes s u js → (o sets : List ℕ)
+    → length o ≡ length s → AllSteps s u js o sets → IsLeastNear o (length sets) (lyapunov s u js) (prices_along o sets)
 least_near_opening s u js strong o sets same steps =
     let t = stands s u js strong o sets same steps in
     record {
@@ -96,8 +96,8 @@ least_near_opening s u js strong o sets same steps =
     }
 
 -- where no set is in excess demand, the prices are the least minimiser
-pub ended-least : (s : List ℕ) (u : ℕ → List ℕ → ℤ) (js : List ℕ) → AllStrongSubstitutes s u js → (o sets : List ℕ) → length o ≡ length s → AllSteps s u js o sets
-    → true_step s u js (prices_along o sets) ≡ 0 → IsLeastMinimiser o (lyapunov s u js) (prices_along o sets)
+pub ended-least : (s : List ℕ) (u : ℕ → List ℕ → ℤ) (js : List ℕ) → AllStrongSubstitutes s u js → (o sets : List ℕ) → length o ≡ length s
+    → AllSteps s u js o sets → true_step s u js (prices_along o sets) ≡ 0 → IsLeastMinimiser o (lyapunov s u js) (prices_along o sets)
 ended-least s u js strong o sets same steps none =
     let g = lyapunov s u js in
     let mid = lyapunov-convex s u js strong in

@@ -19,8 +19,9 @@ abbrev pub IsBest : List ℕ → ℕ → (List ℕ → ℤ) → List ℕ → Typ
 IsBest o t g p = (r : List ℕ) → AtMost o r → ((k : ℕ) → at r k ≤ at o k + t) → g p ≤ℤ g r
 
 -- where no prices of t rounds are better, a step is no worse than any prices of one round more: layer after layer of what these have beyond is taken off
-reach_far : (s : List ℕ) (g : List ℕ → ℤ) → IsMidConvex g → (o : List ℕ) (t : ℕ) (p e : List ℕ) → length p ≡ length s → AtMost o p → ((k : ℕ) → at p k ≤ at o k + t) → IsBest o t g p → Chosen s g p e
-    → (n : ℕ) (r : List ℕ) → AtMost p r → ((k : ℕ) → at r k ≤ at o k + suc t) → ((k : ℕ) → at r k ≤ at p k + suc n) → g (plus p e) ≤ℤ g r
+reach_far : (s : List ℕ) (g : List ℕ → ℤ) → IsMidConvex g → (o : List ℕ) (t : ℕ) (p e : List ℕ) → length p ≡ length s → AtMost o p
+    → ((k : ℕ) → at p k ≤ at o k + t) → IsBest o t g p → Chosen s g p e → (n : ℕ) (r : List ℕ) → AtMost p r
+    → ((k : ℕ) → at r k ≤ at o k + suc t) → ((k : ℕ) → at r k ≤ at p k + suc n) → g (plus p e) ≤ℤ g r
 reach_far s g mid o t p e lp op pt best c zero r pr near w =
     let lr = length-below p r pr in
     let i = c.best (above r p) (Bits-at (above r p) (λ k. let i = w k in omega (arith, at-rest r p k)), length-above r p ∙ sym lr ∙ lp) in
@@ -37,8 +38,8 @@ reach_far s g mid o t p e lp op pt best c (suc n) r pr near w =
     (λ k. let m = near k in omega (arith, at-rest r v k)) (λ k. let m = w k in omega (arith, at-rest r v k, l.is k)) in
     omega (arith, ints)
 
-best_step : (s : List ℕ) (g : List ℕ → ℤ) → IsMidConvex g → (o : List ℕ) (t : ℕ) (p e : List ℕ) → length p ≡ length s → AtMost o p → ((k : ℕ) → at p k ≤ at o k + t) → IsBest o t g p → Chosen s g p e
-    → IsBest o (suc t) g (plus p e)
+best_step : (s : List ℕ) (g : List ℕ → ℤ) → IsMidConvex g → (o : List ℕ) (t : ℕ) (p e : List ℕ) → length p ≡ length s → AtMost o p
+    → ((k : ℕ) → at p k ≤ at o k + t) → IsBest o t g p → Chosen s g p e → IsBest o (suc t) g (plus p e)
 best_step s g mid o t p e lp op pt best c r or near =
     let l : length p ≡ length r = sym (length-below o p op) ∙ length-below o r or in
     let z = join p r in
@@ -48,8 +49,9 @@ best_step s g mid o t p e lp op pt best c r or near =
     (λ k. omega (arith, highest-bounds (above z p) k, at-rest z p k)) in
     omega (arith, ints)
 
-best_after : (s : List ℕ) (g : List ℕ → ℤ) → IsMidConvex g → (o : List ℕ) (t : ℕ) (p : List ℕ) (es : List (List ℕ)) → length p ≡ length s → AtMost o p → ((k : ℕ) → at p k ≤ at o k + t) → IsBest o t g p → AllChosen s g p es
-    → (m : ℕ) → m ≡ t + length es → IsBest o m g (prices_over p es)
+best_after : (s : List ℕ) (g : List ℕ → ℤ) → IsMidConvex g → (o : List ℕ) (t : ℕ) (p : List ℕ) (es : List (List ℕ)) → length p ≡ length s
+    → AtMost o p → ((k : ℕ) → at p k ≤ at o k + t) → IsBest o t g p → AllChosen s g p es → (m : ℕ) → m ≡ t + length es
+    → IsBest o m g (prices_over p es)
 best_after s g mid o t p [] lp op pt best h m e = λ r or near. best r or (λ k. let a = near k in omega arith)
 best_after s g mid o t p (e ∷ es) lp op pt best h m i =
     let c = h.0 in
@@ -76,7 +78,8 @@ standing s g mid o es lo steps =
     }
 
 -- prices that are first lie below all others that are no worse, where the join of both is no better than they are
-below_others : (g : List ℕ → ℤ) → IsMidConvex g → (o p r : List ℕ) → AtMost o p → IsFirst o g p → AtMost o r → g r ≤ℤ g p → g p ≤ℤ g (join p r) → AtMost p r
+below_others : (g : List ℕ → ℤ) → IsMidConvex g → (o p r : List ℕ) → AtMost o p → IsFirst o g p → AtMost o r → g r ≤ℤ g p
+    → g p ≤ℤ g (join p r) → AtMost p r
 below_others g mid o p r op first or h j =
     let l : length p ≡ length r = sym (length-below o p op) ∙ length-below o r or in
     let i = lattice g mid p r l in
@@ -94,8 +97,8 @@ least_near g mid o t p stands r or near h =
 abbrev pub IsStill : List ℕ → (List ℕ → ℤ) → List ℕ → Type 0
 IsStill s g p = (e : List ℕ) → IsSet s e → g p ≤ℤ g (plus p e)
 
-pub best_still : (s : List ℕ) (g : List ℕ → ℤ) → IsMidConvex g → (o : List ℕ) (t : ℕ) (p : List ℕ) → length o ≡ length s → Standing g o t p → IsStill s g p
-    → (x : List ℕ) → AtMost o x → g p ≤ℤ g x
+pub best_still : (s : List ℕ) (g : List ℕ → ℤ) → IsMidConvex g → (o : List ℕ) (t : ℕ) (p : List ℕ) → length o ≡ length s → Standing g o t p
+    → IsStill s g p → (x : List ℕ) → AtMost o x → g p ≤ℤ g x
 best_still s g mid o t p lo stands still x ox =
     let lp = length-below o p stands.above_opening in
     let l : length p ≡ length x = sym lp ∙ length-below o x ox in
@@ -106,8 +109,8 @@ best_still s g mid o t p lo stands still x ox =
     (λ k. omega (arith, highest-bounds (above z p) k, at-rest z p k)) in
     omega (arith, ints)
 
-pub least_still : (s : List ℕ) (g : List ℕ → ℤ) → IsMidConvex g → (o : List ℕ) (t : ℕ) (p : List ℕ) → length o ≡ length s → Standing g o t p → IsStill s g p
-    → (x : List ℕ) → AtMost o x → g x ≤ℤ g p → AtMost p x
+pub least_still : (s : List ℕ) (g : List ℕ → ℤ) → IsMidConvex g → (o : List ℕ) (t : ℕ) (p : List ℕ) → length o ≡ length s → Standing g o t p
+    → IsStill s g p → (x : List ℕ) → AtMost o x → g x ≤ℤ g p → AtMost p x
 least_still s g mid o t p lo stands still x ox h =
     let l : length p ≡ length x = sym (length-below o p stands.above_opening) ∙ length-below o x ox in
     let j = best_still s g mid o t p lo stands still (join p x) (AtMost-more o p (join p x) stands.above_opening (join-left p x l)) in

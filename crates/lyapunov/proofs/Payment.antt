@@ -36,8 +36,9 @@ pays-vcg s o u js i p q x y z one wx wy = record {
       omega (arith, ints);
 }
 
-pub account-pays : (s o : List ℕ) (u : ℕ → List ℕ → ℤ) (js : List ℕ) (i : ℕ) (sets rests : List ℕ) (x y : ℕ → List ℕ) → AllStrongSubstitutes s u js → IsOneOf i js
-    → length o ≡ length s → IsWalrasian s o u js (prices_along o sets) x → IsWalrasian s o u (without i js) (prices_along o rests) y
+pub account-pays : (s o : List ℕ) (u : ℕ → List ℕ → ℤ) (js : List ℕ) (i : ℕ) (sets rests : List ℕ) (x y : ℕ → List ℕ)
+    → AllStrongSubstitutes s u js → IsOneOf i js → length o ≡ length s → IsWalrasian s o u js (prices_along o sets) x
+    → IsWalrasian s o u (without i js) (prices_along o rests) y
     → IsVcgPayment s o u js x i ((pos (cost (prices_along o sets) (x i)) +ℤ account_along s u (without i js) o rests) -ℤ account_along s u (without i js) o sets)
 account-pays s o u js i sets rests x y strong one same wx wy =
     let p = prices_along o sets in

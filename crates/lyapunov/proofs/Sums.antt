@@ -52,7 +52,8 @@ record Stopped (A : List ℕ → Type 0) (b v : List ℕ) : Type 0 where
   «in» : A next
   is : plus next b ≡ v
 
-move_left : (A : List ℕ → Type 0) → CanGive A → (a' a b v : List ℕ) (l : ℕ) → A a → A a' → length a ≡ length a' → plus a b ≡ one_more v l → at a' l < at a l → Stopped A b v ⊎ Onward A a' a b v
+move_left : (A : List ℕ → Type 0) → CanGive A → (a' a b v : List ℕ) (l : ℕ) → A a → A a' → length a ≡ length a' → plus a b ≡ one_more v l
+    → at a' l < at a l → Stopped A b v ⊎ Onward A a' a b v
 move_left A give a' a b v l ia ia' len is h =
     let il = within_from_at a l (omega arith) in
     let il' : l < length a' = omega arith in
@@ -92,8 +93,9 @@ module _ (A B : List ℕ → Type 0) (give_a : CanGive A) (give_b : CanGive B) (
     low : at y good ≤ at x good
     near : distance a a' + distance b b' < d
 
-  sum_step : (x y a' b' : List ℕ) (k : ℕ) → A a' → B b' → y ≡ plus a' b' → length x ≡ n → at y k < at x k → (a b : List ℕ) (l : ℕ) → A a → B b
-      → plus a b ≡ one_more (one_less x k) l → l < n → at y l ≤ at x l → Gives (SumOf A B) x y k ⊎ Pending x y a' b' k (distance a a' + distance b b')
+  sum_step : (x y a' b' : List ℕ) (k : ℕ) → A a' → B b' → y ≡ plus a' b' → length x ≡ n → at y k < at x k → (a b : List ℕ) (l : ℕ) → A a
+      → B b → plus a b ≡ one_more (one_less x k) l → l < n → at y l ≤ at x l
+      → Gives (SumOf A B) x y k ⊎ Pending x y a' b' k (distance a a' + distance b b')
   sum_step x y a' b' k ia' ib' ey lx h a b l ia ib is il le = go (over (cases_eq l k))
     where
       over : (l ≡ k) ⊎ (l ≡ k → ⊥) → at a' l + at b' l < at a l + at b l
@@ -149,8 +151,9 @@ module _ (A B : List ℕ → Type 0) (give_a : CanGive A) (give_b : CanGive B) (
       go : at a' l + at b' l < at a l + at b l → Gives (SumOf A B) x y k ⊎ Pending x y a' b' k (distance a a' + distance b b')
       go o = elim (cases_lt (at a' l) (at a l)) [ inl i ↦ left i | inr i ↦ right (omega arith) ]
 
-  sum_loop : (x y a' b' : List ℕ) (k : ℕ) → A a' → B b' → y ≡ plus a' b' → length x ≡ n → at y k < at x k → (fuel : ℕ) (a b : List ℕ) (l : ℕ) → A a → B b
-      → plus a b ≡ one_more (one_less x k) l → l < n → at y l ≤ at x l → distance a a' + distance b b' ≤ fuel → Gives (SumOf A B) x y k
+  sum_loop : (x y a' b' : List ℕ) (k : ℕ) → A a' → B b' → y ≡ plus a' b' → length x ≡ n → at y k < at x k
+      → (fuel : ℕ) (a b : List ℕ) (l : ℕ) → A a → B b → plus a b ≡ one_more (one_less x k) l → l < n → at y l ≤ at x l
+      → distance a a' + distance b b' ≤ fuel → Gives (SumOf A B) x y k
   sum_loop x y a' b' k ia' ib' ey lx h zero a b l ia ib is il le near = elim (sum_step x y a' b' k ia' ib' ey lx h a b l ia ib is il le) [
     | inl g ↦ g
     | inr t ↦ absurd (let i = t.near in omega arith)
@@ -202,7 +205,8 @@ AtMost-plus (z ∷ a) (m ∷ c) (v ∷ b) (w ∷ d) h i l =
     let l' : length c ≡ length d = omega arith in
     (omega arith, AtMost-plus a c b d h.1 i.1 l')
 
-pub sum_takes : (A B : List ℕ → Type 0) → CanTake A → CanTake B → (c d : List ℕ) → length c ≡ length d → ((x : List ℕ) → A x → AtMost x c) → ((x : List ℕ) → B x → AtMost x d) → CanTake (SumOf A B)
+pub sum_takes : (A B : List ℕ → Type 0) → CanTake A → CanTake B → (c d : List ℕ) → length c ≡ length d → ((x : List ℕ) → A x → AtMost x c)
+    → ((x : List ℕ) → B x → AtMost x d) → CanTake (SumOf A B)
 sum_takes A B take_a take_b c d lcd box_a box_b x y k sx sy h =
     let cd = plus c d in
     let bx = below x sx in

@@ -93,7 +93,8 @@ pub record Reaching (A : List ℕ → Type 0) (x z : List ℕ) : Type 0 where
   pub near : distance next z < distance x z
 
 pub nearer_up : (c : List ℕ) (A : List ℕ → Type 0) → CanTake A → ((x : List ℕ) → A x → AtMost x c) → ((x : List ℕ) → A x ⊎ (A x → ⊥))
-    → (z : List ℕ) → AtMost z c → ((e : List ℕ) → Bits e → length e ≡ length c → (y : List ℕ) × A y × (cost e z ≤ cost e y)) → (x : List ℕ) (k : ℕ) → A x → at x k < at z k → Reaching A x z
+    → (z : List ℕ) → AtMost z c → ((e : List ℕ) → Bits e → length e ≡ length c → (y : List ℕ) × A y × (cost e z ≤ cost e y))
+    → (x : List ℕ) (k : ℕ) → A x → at x k < at z k → Reaching A x z
 nearer_up c A take box dec z bz high x k ax h =
     let bx = box x ax in
     let hx = at-above c x k bx in
@@ -134,11 +135,11 @@ nearer_up c A take box dec z bz high x k ax h =
         (above c t.0, (AtMost-above c t.0 b, subst P (sym (above-above c t.0 b)) t.1), omega arith)
 
 -- a set that gives and takes has every bundle of the box that lies, on each set of goods, between two members
-pub reached : (c : List ℕ) (A : List ℕ → Type 0) → CanGive A → CanTake A → ((x : List ℕ) → A x → AtMost x c) → ((x : List ℕ) → A x ⊎ (A x → ⊥))
-    → (z : List ℕ) → AtMost z c
+pub reached : (c : List ℕ) (A : List ℕ → Type 0) → CanGive A → CanTake A → ((x : List ℕ) → A x → AtMost x c)
+    → ((x : List ℕ) → A x ⊎ (A x → ⊥)) → (z : List ℕ) → AtMost z c
     → ((e : List ℕ) → Bits e → length e ≡ length c → (y : List ℕ) × A y × (cost e y ≤ cost e z))
-    → ((e : List ℕ) → Bits e → length e ≡ length c → (y : List ℕ) × A y × (cost e z ≤ cost e y))
-    → (fuel : ℕ) (x : List ℕ) → A x → distance x z ≤ fuel → A z
+    → ((e : List ℕ) → Bits e → length e ≡ length c → (y : List ℕ) × A y × (cost e z ≤ cost e y)) → (fuel : ℕ) (x : List ℕ) → A x
+    → distance x z ≤ fuel → A z
 reached c A give take box dec z bz low high zero x ax near = elim (differ x z c (box x ax) bz) [
   | inl e ↦ (let P : List ℕ → Type 0 = A in subst P e ax)
   | inr t ↦ elim t.1 [

@@ -123,13 +123,15 @@ listed_gives s d j h x y k ax ay l = elim (h.2 x y k ax ay l) [ inl t ↦ inl t.
 listed_takes : (s : List ℕ) (d : ℕ → List (List ℕ)) (j : ℕ) → IsDemandList s (d j) → CanTake (Listed d j)
 listed_takes s d j h x y k ax ay l = elim (h.2 x y k ax ay l) [ inl t ↦ inl t.1 | inr t ↦ inr (t.0, t.1, t.3) ]
 
-pub total-below : (p s : List ℕ) (d : ℕ → List (List ℕ)) (js : List ℕ) → AreDemands s d js → (x : List ℕ) → IsTotal p s d js x → AtMost x (cap s js)
+pub total-below : (p s : List ℕ) (d : ℕ → List (List ℕ)) (js : List ℕ) → AreDemands s d js → (x : List ℕ) → IsTotal p s d js x
+    → AtMost x (cap s js)
 unfolding IsTotal cap
 total-below p s d [] h x t = unsold-below p s x t
 total-below p s d (j ∷ js) h x t = let P : List ℕ → Type 0 = λ w. AtMost w (plus s (cap s js)) in
     subst P (sym t.is) (AtMost-plus t.left s t.right (cap s js) (h.0.1 t.left t.in_left) (total-below p s d js h.1 t.right t.in_right) (sym (length-cap s js)))
 
-total-length : (p s : List ℕ) (d : ℕ → List (List ℕ)) (js : List ℕ) → AreDemands s d js → (x : List ℕ) → IsTotal p s d js x → length x ≡ length s
+total-length : (p s : List ℕ) (d : ℕ → List (List ℕ)) (js : List ℕ) → AreDemands s d js → (x : List ℕ) → IsTotal p s d js x
+    → length x ≡ length s
 total-length p s d js h x t = length-below x (cap s js) (total-below p s d js h x t) ∙ length-cap s js
 
 pub total_gives : (p s : List ℕ) (d : ℕ → List (List ℕ)) (js : List ℕ) → AreDemands s d js → CanGive (IsTotal p s d js)
@@ -151,7 +153,8 @@ same_list (a ∷ x) (b ∷ y) = elim (cases_eq a b) [
   | inl e ↦ elim (same_list x y) [ inl f ↦ inl (cc) | inr f ↦ inr (λ g. f (cc)) ]
 ]
 
-search_in : (Q : List ℕ → Type 0) → ((x : List ℕ) → Q x ⊎ (Q x → ⊥)) → (xs : List (List ℕ)) → ((x : List ℕ) × IsIn x xs × Q x) ⊎ ((x : List ℕ) → IsIn x xs → Q x → ⊥)
+search_in : (Q : List ℕ → Type 0) → ((x : List ℕ) → Q x ⊎ (Q x → ⊥)) → (xs : List (List ℕ))
+    → ((x : List ℕ) × IsIn x xs × Q x) ⊎ ((x : List ℕ) → IsIn x xs → Q x → ⊥)
 search_in Q dec [] = inr (λ x m q. m)
 search_in Q dec (a ∷ xs) = elim (dec a) [
   | inl q ↦ inl (a, inl refl, q)
@@ -167,7 +170,8 @@ above-plus_same [] (v ∷ b) l = refl
 above-plus_same (c ∷ a) [] l = absurd (omega arith)
 above-plus_same (c ∷ a) (v ∷ b) l = let e : (c + v) - c ≡ v = omega arith in let l' : length a ≡ length b = omega arith in let i = above-plus_same a b l' in cc
 
-pub total-dec : (p s : List ℕ) (d : ℕ → List (List ℕ)) (js : List ℕ) → AreDemands s d js → (x : List ℕ) → IsTotal p s d js x ⊎ (IsTotal p s d js x → ⊥)
+pub total-dec : (p s : List ℕ) (d : ℕ → List (List ℕ)) (js : List ℕ) → AreDemands s d js → (x : List ℕ)
+    → IsTotal p s d js x ⊎ (IsTotal p s d js x → ⊥)
 unfolding IsTotal
 total-dec p s d [] h x = unsold-dec p s x
 total-dec p s d (j ∷ js) h x = elim (search_in (λ a. (x ≡ plus a (above x a)) × IsTotal p s d js (above x a)) (λ a. both a (same_list x (plus a (above x a))) (total-dec p s d js h.1 (above x a))) (d j)) [
@@ -175,13 +179,15 @@ total-dec p s d (j ∷ js) h x = elim (search_in (λ a. (x ≡ plus a (above x a
   | inr f ↦ inr (λ t. against f t)
 ]
   where
-    both : (a : List ℕ) → (x ≡ plus a (above x a)) ⊎ (x ≡ plus a (above x a) → ⊥) → IsTotal p s d js (above x a) ⊎ (IsTotal p s d js (above x a) → ⊥)
+    both : (a : List ℕ) → (x ≡ plus a (above x a)) ⊎ (x ≡ plus a (above x a) → ⊥)
+        → IsTotal p s d js (above x a) ⊎ (IsTotal p s d js (above x a) → ⊥)
         → ((x ≡ plus a (above x a)) × IsTotal p s d js (above x a)) ⊎ ((x ≡ plus a (above x a)) × IsTotal p s d js (above x a) → ⊥)
     both a (inl e) (inl t) = inl (e, t)
     both a (inl e) (inr f) = inr (λ t. f t.1)
     both a (inr f) t = inr (λ t. f t.0)
 
-    against : ((a : List ℕ) → IsIn a (d j) → (x ≡ plus a (above x a)) × IsTotal p s d js (above x a) → ⊥) → SumOf (Listed d j) (IsTotal p s d js) x → ⊥
+    against : ((a : List ℕ) → IsIn a (d j) → (x ≡ plus a (above x a)) × IsTotal p s d js (above x a) → ⊥)
+        → SumOf (Listed d j) (IsTotal p s d js) x → ⊥
     against f t =
         let la = length-below t.left s (h.0.1 t.left t.in_left) in
         let lb = total-length p s d js h.1 t.right t.in_right in
@@ -211,7 +217,8 @@ unsold-free (zero ∷ p) (m ∷ s) l = let l' : length p ≡ length s = omega ar
 unsold-free (suc b ∷ p) (m ∷ s) l = let l' : length p ≡ length s = omega arith in (omega arith, (λ z. refl), unsold-free p s l')
 
 -- the priced goods of a set, and the others
-pub cost-priced : (e p s : List ℕ) → Bits e → length e ≡ length s → length p ≡ length s → cost e s ≡ cost (inside e p) s + cost e (free_of p s)
+pub cost-priced : (e p s : List ℕ) → Bits e → length e ≡ length s → length p ≡ length s
+    → cost e s ≡ cost (inside e p) s + cost e (free_of p s)
 unfolding free_of
 cost-priced [] p s b k l = omega arith
 cost-priced (c ∷ e) p [] b k l = absurd (omega arith)
@@ -318,7 +325,8 @@ clears_from (q ∷ o) (b ∷ p) (m ∷ s) (a ∷ t) (c ∷ f) op h l e =
     let l' : length t ≡ length s = omega arith in
     (omega arith, (λ z. let k = h.1 (omega arith) in omega arith), clears_from o p s t f op.1 h.2 l' j)
 
-pub length-sum : (s : List ℕ) (d : ℕ → List (List ℕ)) (js : List ℕ) (xs : List (List ℕ)) → AreDemands s d js → IsChoice (map d js) xs → length (sum_of s xs) ≡ length s
+pub length-sum : (s : List ℕ) (d : ℕ → List (List ℕ)) (js : List ℕ) (xs : List (List ℕ)) → AreDemands s d js → IsChoice (map d js) xs
+    → length (sum_of s xs) ≡ length s
 length-sum s d [] [] h c = length-below (zeros s) s (AtMost-zeros s)
 length-sum s d [] (x ∷ xs) h c = absurd c
 length-sum s d (j ∷ js) [] h c = absurd c

@@ -28,7 +28,8 @@ indirect_utility-falls s u p q h =
     let l = ap (λ z. cost z b.bundle) (plus-above p q h) in
     omega (arith, ints)
 
-lyapunov-without : (s : List ℕ) (u : ℕ → List ℕ → ℤ) (i : ℕ) (js p : List ℕ) → IsOneOf i js → lyapunov s u js p ≡ lyapunov s u (without i js) p +ℤ indirect_utility s (u i) p
+lyapunov-without : (s : List ℕ) (u : ℕ → List ℕ → ℤ) (i : ℕ) (js p : List ℕ) → IsOneOf i js
+    → lyapunov s u js p ≡ lyapunov s u (without i js) p +ℤ indirect_utility s (u i) p
 unfolding lyapunov
 lyapunov-without s u i js p one = let a = sum-without (λ j. indirect_utility s (u j) p) i js one in omega (arith, ints)
 
@@ -36,8 +37,9 @@ join-swap : (r p : List ℕ) → length r ≡ length p → join r p ≡ join p r
 join-swap r p l = same-at (join r p) (join p r) (omega (arith, length-join r p, length-join p r)) (λ k. omega (arith, at-join r p k, at-join p r k))
 
 -- without a bidder the prices are at most any prices that the goodwise greater of both does not better
-lower_without : (s : List ℕ) (u : ℕ → List ℕ → ℤ) (js : List ℕ) (i : ℕ) (o rests : List ℕ) → AllStrongSubstitutes s u js → IsOneOf i js → length o ≡ length s
-    → AllSteps s u (without i js) o rests → (p : List ℕ) → AtMost o p → lyapunov s u js p ≤ℤ lyapunov s u js (join p (prices_along o rests)) → AtMost (prices_along o rests) p
+lower_without : (s : List ℕ) (u : ℕ → List ℕ → ℤ) (js : List ℕ) (i : ℕ) (o rests : List ℕ) → AllStrongSubstitutes s u js → IsOneOf i js
+    → length o ≡ length s → AllSteps s u (without i js) o rests → (p : List ℕ) → AtMost o p
+    → lyapunov s u js p ≤ℤ lyapunov s u js (join p (prices_along o rests)) → AtMost (prices_along o rests) p
 lower_without s u js i o rests strong one lo steps p op best =
     let so = strong-without s u i js strong in
     let g = lyapunov s u (without i js) in
@@ -52,8 +54,9 @@ lower_without s u js i o rests strong one lo steps p op best =
     let d = indirect_utility-falls s (u i) p z (join-left p r (sym l)) in
     below_of_lower r p l (t.first (lower r p) (lower-both o r p t.above_opening op) (lower-left r p l) (omega (arith, ints)))
 
-pub lower_each_round : (s : List ℕ) (u : ℕ → List ℕ → ℤ) (js : List ℕ) (i : ℕ) (o sets rests : List ℕ) → AllStrongSubstitutes s u js → IsOneOf i js → length o ≡ length s
-    → AllSteps s u js o sets → AllSteps s u (without i js) o rests → length rests ≤ length sets → AtMost (prices_along o rests) (prices_along o sets)
+pub lower_each_round : (s : List ℕ) (u : ℕ → List ℕ → ℤ) (js : List ℕ) (i : ℕ) (o sets rests : List ℕ) → AllStrongSubstitutes s u js
+    → IsOneOf i js → length o ≡ length s → AllSteps s u js o sets → AllSteps s u (without i js) o rests → length rests ≤ length sets
+    → AtMost (prices_along o rests) (prices_along o sets)
 lower_each_round s u js i o sets rests strong one lo h0 h1 fewer =
     let p = prices_along o sets in
     let r = prices_along o rests in
@@ -63,8 +66,9 @@ lower_each_round s u js i o sets rests strong one lo h0 h1 fewer =
     lower_without s u js i o rests strong one lo h1 p t0.above_opening
     (t0.best (join p r) (AtMost-more o p (join p r) t0.above_opening (join-left p r l)) (λ k. let a = t0.near k in let b = t1.near k in omega (arith, at-join p r k)))
 
-pub lower_at_end : (s : List ℕ) (u : ℕ → List ℕ → ℤ) (js : List ℕ) (i : ℕ) (o sets rests : List ℕ) → AllStrongSubstitutes s u js → IsOneOf i js → length o ≡ length s
-    → AllSteps s u js o sets → true_step s u js (prices_along o sets) ≡ 0 → AllSteps s u (without i js) o rests → AtMost (prices_along o rests) (prices_along o sets)
+pub lower_at_end : (s : List ℕ) (u : ℕ → List ℕ → ℤ) (js : List ℕ) (i : ℕ) (o sets rests : List ℕ) → AllStrongSubstitutes s u js
+    → IsOneOf i js → length o ≡ length s → AllSteps s u js o sets → true_step s u js (prices_along o sets) ≡ 0
+    → AllSteps s u (without i js) o rests → AtMost (prices_along o rests) (prices_along o sets)
 lower_at_end s u js i o sets rests strong one lo h0 none h1 =
     let p = prices_along o sets in
     let r = prices_along o rests in
@@ -76,8 +80,9 @@ lower_at_end s u js i o sets rests strong one lo h0 none h1 =
     (join p r) (AtMost-more o p (join p r) t0.above_opening (join-left p r l)))
 
 -- so it takes no more steps
-pub fewer_without : (s : List ℕ) (u : ℕ → List ℕ → ℤ) (js : List ℕ) (i : ℕ) (o sets rests : List ℕ) → AllStrongSubstitutes s u js → IsOneOf i js → length o ≡ length s
-    → AllSteps s u js o sets → true_step s u js (prices_along o sets) ≡ 0 → AllSteps s u (without i js) o rests → length rests ≤ length sets
+pub fewer_without : (s : List ℕ) (u : ℕ → List ℕ → ℤ) (js : List ℕ) (i : ℕ) (o sets rests : List ℕ) → AllStrongSubstitutes s u js
+    → IsOneOf i js → length o ≡ length s → AllSteps s u js o sets → true_step s u js (prices_along o sets) ≡ 0
+    → AllSteps s u (without i js) o rests → length rests ≤ length sets
 fewer_without s u js i o sets rests strong one lo h0 none h1 =
     let b = lower_at_end s u js i o sets rests strong one lo h0 none h1 in
     let p = prices_along o sets in
