@@ -1,13 +1,15 @@
 -- At every moment of a path: how many steps it has taken, and what its prices minimise.
-use Rattle.std.proofs.Common.{◌≡◌, ℕ, ◌-◌, List, [], ◌∷◌, length, arith, ap, refl, sym, subst, ◌∙◌}
+use Rattle.std.proofs.Common.{◌≡◌, ℕ, zero, suc, ◌+◌, ◌-◌, ◌≤◌, List, [], ◌∷◌, length, arith, ap, refl, sym, subst, ◌∙◌, ◌/◌, ◌%◌, nat_eq, cond, Bool, true, false}
 use Rattle.std.specs.Prelude.{ℤ, pos, ◌-ℤ◌, ◌≤ℤ◌, max}
 use Rattle.std.proofs.lemmas.Int.{ints}
-use Rattle.lot_base.specs.Goods.{cost, zeros, raised}
+use Rattle.lot_base.specs.Goods.{at, AtMost, cost, zeros, raised}
 use Rattle.lot_base.specs.Economy.{indirect_utility, sum_over, AllStrongSubstitutes, AllValuations, lyapunov, IsLeastMinimiser}
 use Rattle.lot_base.proofs.Vectors.{above}
+use Rattle.lot_base.proofs.Vec.{at-below}
 use Rattle.lot_base.proofs.Demand.{surplus_bounds, AtMost-zeros}
 use Rattle.lyapunov.specs.Paths.{true_step, prices_along, AllSteps, account_along, highest, highest_rise, IsLeastNear}
 use Rattle.lyapunov.proofs.Descent.{lyapunov-convex, lyapunov-raised}
+use Rattle.lyapunov.proofs.Entrywise.{at-rest, highest-within}
 use Rattle.lyapunov.proofs.Lattice.{AtMost-self}
 use Rattle.lyapunov.proofs.Chosen.{count_after, first_from}
 use Rattle.lyapunov.proofs.Nearest.{Standing, standing, least_near, best_still, least_still}
@@ -63,6 +65,28 @@ as_many s u js strong o sets same steps =
     let count = count_after s g mid o o es same (AtMost-self o) chosen (none_empty s u js o sets steps) (first_from s g mid o es same chosen) in
     sym (length-digits s sets) ∙ count ∙ ap (λ q. highest (above q o)) (sym (prices-digits s o sets same))
     ∙ sym (highest-above o (prices_along o sets) (length-prices o sets))
+
+-- no other sets raise the prices as far in fewer steps
+one_higher : (p : List ℕ) (set k : ℕ) → at (raised p set) k ≤ at p k + 1
+one_higher [] set k = omega arith
+one_higher (a ∷ p) set zero = by (nat_eq (set % 2) 1)
+  where
+    by : (b : Bool) → cond b (a + 1) a ≤ a + 1
+    by true = omega arith
+    by false = omega arith
+one_higher (a ∷ p) set (suc k) = one_higher p (set / 2) k
+
+as_high : (p sets : List ℕ) (k : ℕ) → at (prices_along p sets) k ≤ at p k + length sets
+as_high p [] k = omega arith
+as_high p (set ∷ sets) k = let rest = as_high (raised p set) sets k in omega (arith, rest, one_higher p set k)
+
+pub fastest : (s : List ℕ) (u : ℕ → List ℕ → ℤ) (js : List ℕ) → AllStrongSubstitutes s u js → (o sets others : List ℕ) → length o ≡ length s
+    → AllSteps s u js o sets → AtMost (prices_along o sets) (prices_along o others) → length sets ≤ length others
+fastest s u js strong o sets others same steps below =
+    let p = prices_along o sets in
+    let count = as_many s u js strong o sets same steps in
+    let rise = highest-within (length others) (above p o) (λ k. omega (arith, at-rest p o k, at-below p (prices_along o others) k below, as_high o others k)) in
+    omega (arith, count, rise, highest-above o p (length-prices o sets))
 
 -- from an opening of 0 they are as many as the highest price
 pub highest-zeros : (s p : List ℕ) → length p ≡ length s → highest_rise (zeros s) p ≡ highest p

@@ -41,12 +41,14 @@ pub fn few_steps_law()
 {}
 
 /// At every moment a path has taken as many steps as its highest price has risen: some good was in every step. From an
-/// opening of 0 that is the highest price.
+/// opening of 0 that is the highest price. No other sets of goods raise the prices as far in fewer steps.
 pub fn steps_law()
     ensures rise { (supply js opening sets : List ℕ) (u : ℕ → List ℕ → ℤ) →
         IsPath supply u js opening sets → length sets ≡ highest_rise opening (prices_along opening sets) }
     ensures price { (supply js sets : List ℕ) (u : ℕ → List ℕ → ℤ) →
         IsPath supply u js (zeros supply) sets → length sets ≡ highest (prices_along (zeros supply) sets) }
+    ensures fastest { (supply js opening sets others : List ℕ) (u : ℕ → List ℕ → ℤ) →
+        IsPath supply u js opening sets → AtMost (prices_along opening sets) (prices_along opening others) → length sets ≤ length others }
 {}
 
 /// The prices after so many steps minimise the Lyapunov function over all prices at most that far above the opening, and are
