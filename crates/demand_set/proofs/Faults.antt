@@ -9,18 +9,38 @@ use Rattle.lot_base.specs.Goods.{box_size, is_within, AtMost, IsRange}
 use Rattle.lot_base.specs.Demands.{IsAscending, IsDemand}
 use Rattle.lot_base.proofs.Within.{both, within-at_most}
 use Rattle.lot_base.proofs.Order.{box_size-some, is_lt-less}
-use Rattle.demand_set.specs.Reading.{is_after, groups, fault_from, or_else, unless, bundles_of, demand_of}
+use Rattle.demand_set.specs.Reading.{is_after, groups, fault_at, fault_from, or_else, unless, bundles_of, demand_of, IsOrNoMemory}
 use Rattle.demand_set.specs.Held.{IsSomeDemand}
 use Rattle.demand_set.specs.declared.reading.DemandFault.{DemandFault}
-use Rattle.demand_set.specs.declared.reading.DemandFault.TheVariants.{Empty, NotAscending, OutsideSupply, WrongGoods}
+use Rattle.demand_set.specs.declared.reading.DemandFault.TheVariants.{Empty, NotAscending, OutsideSupply, WrongGoods, NoMemory}
 use Rattle.demand_set.proofs.Ranks.{IsRankedAt, ranked-box, ranked-next}
 use Rattle.demand_set.proofs.Groups.{groups-next, length-groups}
 
-pub fault-outside : (supply : List ℕ) (place : ℕ) (before : Option (List ℕ)) (x : List ℕ) (rest : List (List ℕ)) → is_within supply x ≡ false → fault_from supply place before (x ∷ rest) ≡ Some (OutsideSupply place)
-fault-outside supply place before x rest e = ap (λ b. or_else (cond b (cond (is_after before x) None (Some (NotAscending place))) (Some (OutsideSupply place))) (fault_from supply (place + 1) (Some x) rest)) e
+-- an answer that is the wanted one
+pub exactly : (answer wanted : Result (List (List ℕ)) DemandFault) → answer ≡ wanted → IsOrNoMemory answer wanted
+exactly (Ok bundles) wanted e = e
+exactly (Err Empty) wanted e = e
+exactly (Err (NotAscending place)) wanted e = e
+exactly (Err (OutsideSupply place)) wanted e = e
+exactly (Err (WrongGoods goods)) wanted e = e
+exactly (Err NoMemory) wanted e = tt
 
-pub fault-order : (supply : List ℕ) (place : ℕ) (before : Option (List ℕ)) (x : List ℕ) (rest : List (List ℕ)) → is_within supply x ≡ true → is_after before x ≡ false → fault_from supply place before (x ∷ rest) ≡ Some (NotAscending place)
-fault-order supply place before x rest e f = λ i. or_else (cond (e i) (cond (f i) None (Some (NotAscending place))) (Some (OutsideSupply place))) (fault_from supply (place + 1) (Some x) rest)
+-- a bundle with a fault is the first one
+pub fault-here : (supply : List ℕ) (place : ℕ) (before : Option (List ℕ)) (x : List ℕ) (rest : List (List ℕ)) (fault : DemandFault) → Some fault ≡ fault_at supply place before x → fault_from supply place before (x ∷ rest) ≡ Some fault
+fault-here supply place before x rest fault e = ap (λ o. or_else o (fault_from supply (place + 1) (Some x) rest)) (sym e)
+
+-- a bundle without one is within the supply and after the one before
+pub record IsPlaced (supply : List ℕ) (before : Option (List ℕ)) (x : List ℕ) : Type 0 where
+  pub within : is_within supply x ≡ true
+  pub after : is_after before x ≡ true
+
+cond-none : (w a : Bool) (place : ℕ) → cond w (cond a None (Some (NotAscending place))) (Some (OutsideSupply place)) ≡ None → (w ≡ true) × (a ≡ true)
+cond-none true true place e = (refl, refl)
+cond-none true false place e = absurd (let f : Some (NotAscending place) ≡ None = e in cc)
+cond-none false a place e = absurd (let f : Some (OutsideSupply place) ≡ None = e in cc)
+
+pub faultless-placed : (supply : List ℕ) (place : ℕ) (before : Option (List ℕ)) (x : List ℕ) → fault_at supply place before x ≡ None → IsPlaced supply before x
+faultless-placed supply place before x e = let h = cond-none (is_within supply x) (is_after before x) place e in record { within = h.0; after = h.1 }
 
 pub fault-later : (supply : List ℕ) (place : ℕ) (before : Option (List ℕ)) (x : List ℕ) (rest : List (List ℕ)) → is_within supply x ≡ true → is_after before x ≡ true → fault_from supply place before (x ∷ rest) ≡ fault_from supply (place + 1) (Some x) rest
 fault-later supply place before x rest e f = λ i. or_else (cond (e i) (cond (f i) None (Some (NotAscending place))) (Some (OutsideSupply place))) (fault_from supply (place + 1) (Some x) rest)

@@ -4,6 +4,8 @@
 pub mod quantities;
 pub mod reading;
 pub mod reports;
+#[cfg(test)]
+mod tests;
 pub mod writing;
 
 pub use reading::{Demand, DemandFault};

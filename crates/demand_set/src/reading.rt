@@ -3,7 +3,7 @@ ghost use Rattle.std.specs.Prelude.{◌≡◌, ◌↔◌, ◌^◌, ◌<◌, ◌�
 ghost use Rattle.std.specs.List.{list_all};
 ghost use Rattle.std.specs.Cmp.Lexicographic.{slice_cmp};
 ghost use Rattle.std.specs.Ordering.{nat_cmp, is_eq};
-ghost use Rattle.demand_set.specs.Reading.{bundles_of, fault_from, unless, is_after, IsOrNoMemory, seen};
+ghost use Rattle.demand_set.specs.Reading.{bundles_of, fault_from, fault_at, unless, is_after, IsOrNoMemory, seen};
 ghost use Rattle.demand_set.specs.Same.{same_demand};
 
 use lot_base::{Bundle, Goods, NoMemory, RawDemand, compare};
@@ -123,11 +123,8 @@ fn read_bundles(
     for place in 0..quantities.len() / size {
         let (first, others) = rest.split_at(size);
         let bundle = bundle_of(first);
-        if !goods.fits(&bundle) {
-            return Err(DemandFault::OutsideSupply(place as u32));
-        }
-        if !is_after(before, &bundle) {
-            return Err(DemandFault::NotAscending(place as u32));
+        if let Some(fault) = fault_at(goods, place as u32, before, &bundle) {
+            return Err(fault);
         }
         bundles.push(bundle)?;
         rest = others;
@@ -143,6 +140,24 @@ fn bundle_of(quantities: &[u16]) -> Bundle
     ensures { result ≡ quantities.now }
 {
     Bundle::read(quantities).unwrap()
+}
+
+/// The fault of a bundle at a place after another one, if it has a fault.
+fn fault_at(
+    goods: &Goods,
+    place: u32,
+    before: Option<Bundle>,
+    bundle: &Bundle,
+) -> Option<DemandFault>
+    ensures { result ≡ fault_at goods.now place before bundle.now }
+{
+    if !goods.fits(bundle) {
+        return Some(DemandFault::OutsideSupply(place));
+    }
+    if !is_after(before, bundle) {
+        return Some(DemandFault::NotAscending(place));
+    }
+    None
 }
 
 /// Whether a bundle comes after the one before it, if there is one.

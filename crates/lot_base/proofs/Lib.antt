@@ -9,6 +9,7 @@ pub mod Within
 pub mod Vectors
 pub mod Vec
 pub mod Exchange
+pub mod ExchangeTest
 pub mod Lists
 pub mod Demand
 pub mod Meet

@@ -6,11 +6,10 @@ use Rattle.std.specs.Prelude.{ℤ, pos, negsuc, ◌+ℤ◌, ◌-ℤ◌, ◌≤�
 use Rattle.std.specs.List.{AllByRecursion}
 use Rattle.lot_base.specs.Goods.{quantity_in, box_size, IsSupply}
 use Rattle.lot_base.specs.declared.tables.LeastTable.{LeastTable}
-use Rattle.step_choice.specs.Table.{excess_in}
-use Rattle.lyapunov.specs.Excesses.{total_at, IsExcessOf, IsAdded, IsSmall, HasRoom}
+use Rattle.lyapunov.specs.Excesses.{entry, total_at, IsExcessOf, IsAdded, IsSmall, HasRoom}
 
 -- the table at the start is blank
-pub entry-blank : (n set : ℕ) → let nothing : ℤ = pos 0 in excess_in (replicate n nothing) set ≡ nothing
+pub entry-blank : (n set : ℕ) → let nothing : ℤ = pos 0 in entry (replicate n nothing) set ≡ nothing
 entry-blank zero set = refl
 entry-blank (suc n) zero = refl
 entry-blank (suc n) (suc set) = entry-blank n set
@@ -51,7 +50,7 @@ pub IsExcessOf-more : (goods : List ℕ) (tables : List LeastTable) (i : ℕ) (d
 IsExcessOf-more goods tables i d old new below is added = record {
   entries = λ set is_set.
       let before = is.entries set is_set in let after = added.entries set is_set in let more = total_at-more tables i d set below in
-      entry-more (excess_in old set) (excess_in new set) (total_at (take i tables) set) (slice_index (get_or tables i d).0 set) (quantity_in goods set) _ before after more;
+      entry-more (entry old set) (entry new set) (total_at (take i tables) set) (slice_index (get_or tables i d).0 set) (quantity_in goods set) _ before after more;
   others = λ set behind. added.others set behind ∙ is.others set behind;
 }
   where
@@ -70,7 +69,7 @@ IsFew-supply goods supply set is_set = let units = quantity_in-box goods set in 
 -- where nobody demands anything there is room for a table, and the other way round
 pub IsFew-room : (goods : List ℕ) (table : List ℤ) → IsExcessOf goods [] table → HasRoom table → IsFew goods
 IsFew-room goods table is room set is_set =
-    units_of (excess_in table set) (quantity_in goods set) (is.entries set is_set) (room.at_least set)
+    units_of (entry table set) (quantity_in goods set) (is.entries set is_set) (room.at_least set)
   where
     units_of : (e : ℤ) (units : ℕ) → e ≡ pos 0 -ℤ pos units → negsuc 2046 ≤ℤ e → units ≤ 2047
     units_of e units is low = omega (arith, ints, is, low)
@@ -87,27 +86,27 @@ IsExcessOf-room goods tables i table few small below is = record { at_least = λ
     nothing_room : (e : ℤ) → e ≡ pos 0 → (negsuc 2046 ≤ℤ e) × (e ≤ℤ pos 22517)
     nothing_room e is = (omega (arith, ints, is), omega (arith, ints, is))
 
-    bounds : (set : ℕ) → (negsuc 2046 ≤ℤ excess_in table set) × (excess_in table set ≤ℤ pos 22517)
+    bounds : (set : ℕ) → (negsuc 2046 ≤ℤ entry table set) × (entry table set ≤ℤ pos 22517)
     bounds set = elim (cases_lt set (2 ^ length goods)) [
       | inl is_set ↦
           (let units = few set is_set in let total = total_at-small tables i set small in
-          room_of (excess_in table set) (total_at (take i tables) set) (quantity_in goods set) (is.entries set is_set) (omega (arith, total)) units)
-      | inr behind ↦ nothing_room (excess_in table set) (is.others set behind)
+          room_of (entry table set) (total_at (take i tables) set) (quantity_in goods set) (is.entries set is_set) (omega (arith, total)) units)
+      | inr behind ↦ nothing_room (entry table set) (is.others set behind)
     ]
 
 -- a table that is filled from the front with the values of f
 pub entry-set : (table : List ℤ) (i : ℕ) (value : ℤ) (f : ℕ → ℤ) → i < length table → value ≡ f i
-    → ((k : ℕ) → k < i → excess_in table k ≡ f k) →
-    (k : ℕ) → k < i + 1 → excess_in (set table i value) k ≡ f k
+    → ((k : ℕ) → k < i → entry table k ≡ f k) →
+    (k : ℕ) → k < i + 1 → entry (set table i value) k ≡ f k
 entry-set table i value f below is before k within =
     elim (cases_eq k i) [
-      | inl same ↦ (let P : ℕ → Type 0 = λ n. excess_in (set table i value) n ≡ f n in subst P (sym same) (get_or-set_same table i value (pos 0) below ∙ is))
+      | inl same ↦ (let P : ℕ → Type 0 = λ n. entry (set table i value) n ≡ f n in subst P (sym same) (get_or-set_same table i value (pos 0) below ∙ is))
       | inr other ↦ get_or-set_other table i k value (pos 0) other ∙ before k (let apart = other in omega arith)
     ]
 
 -- a table that is filled up to the last set
 pub IsExcessOf-opening : (goods : List ℕ) (table : List ℤ) (last : ℕ) → 2 ^ length goods ≤ last → last ≤ 2 ^ length goods →
-    ((k : ℕ) → k < last → excess_in table k ≡ pos 0 -ℤ pos (quantity_in goods k)) → ((k : ℕ) → last ≤ k → excess_in table k ≡ pos 0) → IsExcessOf goods [] table
+    ((k : ℕ) → k < last → entry table k ≡ pos 0 -ℤ pos (quantity_in goods k)) → ((k : ℕ) → last ≤ k → entry table k ≡ pos 0) → IsExcessOf goods [] table
 IsExcessOf-opening goods table last at_least at_most before behind = record {
   entries = λ set is_set. before set (omega arith);
   others = λ set is_behind. behind set (omega arith);
