@@ -2,7 +2,7 @@
 use Rattle.std.proofs.Common.{◌≡◌, ℕ, zero, suc, ◌+◌, ◌-◌, ◌≤◌, List, [], ◌∷◌, length, arith, ap, refl, sym, subst, ◌∙◌, ◌/◌, ◌%◌, nat_eq, cond, Bool, true, false}
 use Rattle.std.specs.Prelude.{ℤ, pos, ◌-ℤ◌, ◌≤ℤ◌, max}
 use Rattle.std.proofs.lemmas.Int.{ints}
-use Rattle.lot_base.specs.Goods.{at, AtMost, cost, zeros, raised}
+use Rattle.lot_base.specs.Goods.{at, AtMost, zeros, raised}
 use Rattle.lot_base.specs.Economy.{indirect_utility, sum_over, AllStrongSubstitutes, AllValuations, lyapunov, IsLeastMinimiser}
 use Rattle.lot_base.proofs.Vectors.{above}
 use Rattle.lot_base.proofs.Vec.{at-below}
@@ -10,6 +10,7 @@ use Rattle.lot_base.proofs.Demand.{surplus_bounds, AtMost-zeros}
 use Rattle.lyapunov.specs.Paths.{true_step, prices_along, AllSteps, account_along, highest, highest_rise, IsLeastNear}
 use Rattle.lyapunov.proofs.Descent.{lyapunov-convex, lyapunov-raised}
 use Rattle.lyapunov.proofs.Entrywise.{at-rest, highest-within}
+use Rattle.lyapunov.proofs.Duality.{cost-zeros}
 use Rattle.lyapunov.proofs.Lattice.{AtMost-self}
 use Rattle.lyapunov.proofs.Chosen.{count_after, first_from}
 use Rattle.lyapunov.proofs.Nearest.{Standing, standing, least_near, best_still, least_still}
@@ -23,11 +24,6 @@ account-rises s u js strong p (set ∷ sets) same =
     let step = lyapunov-raised s u js strong p set same in
     let rest = account-rises s u js strong (raised p set) sets (length-raised p set ∙ same) in
     omega (arith, ints)
-
-cost-zeros : (p s : List ℕ) → cost p (zeros s) ≡ 0
-cost-zeros [] s = refl
-cost-zeros (a ∷ p) [] = refl
-cost-zeros (a ∷ p) (c ∷ s) = let i = cost-zeros p s in omega arith
 
 pub lyapunov-positive : (s : List ℕ) (u : ℕ → List ℕ → ℤ) (js p : List ℕ) → AllValuations s u js → pos 0 ≤ℤ lyapunov s u js p
 unfolding lyapunov

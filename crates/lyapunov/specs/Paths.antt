@@ -2,9 +2,10 @@
 -- the ascending clock auction of Ausubel 2006. Bidder j has the valuation u j; the bidders of a path are a list of numbers.
 -- A path need not have ended: it is the steps up to some moment.
 use Rattle.std.specs.Prelude.{◌≡◌, ◌≢◌, ◌≤◌, ℕ, ◌+◌, ◌-◌, ◌/◌, max, map, List, [], ◌∷◌, length, ℤ, pos, ◌+ℤ◌, ◌-ℤ◌, ◌≤ℤ◌}
-use Rattle.lot_base.specs.Goods.{quantity_in, raised, plus, at, AtMost}
+use Rattle.lot_base.specs.Goods.{quantity_in, raised, cost, plus, at, AtMost}
 use Rattle.lot_base.specs.Demands.{least}
-use Rattle.lot_base.specs.Economy.{demand, total_units, AllStrongSubstitutes}
+use Rattle.lot_base.specs.Economy.{demand, total_units, without, AllStrongSubstitutes}
+use Rattle.lot_base.specs.Choices.{IsClearingChoice}
 use Rattle.lot_base.specs.Steps.{step_set}
 
 -- the step set of what the bidders truly demand at the prices
@@ -36,6 +37,17 @@ abbrev pub account_along : List ℕ → (ℕ → List ℕ → ℤ) → List ℕ 
 account_along supply u js p [] = pos 0
 account_along supply u js p (set ∷ sets) =
     (pos (quantity_in supply set) -ℤ pos (total_units (λ j. least (demand supply (u j) p) set) js)) +ℤ account_along supply u js (raised p set) sets
+
+-- what bidder i pays for a bundle: its price on the path of all, more by what the others' account keeps on the path without i,
+-- and less by what it keeps on the path of all
+abbrev pub payment_along : List ℕ → (ℕ → List ℕ → ℤ) → List ℕ → List ℕ → List ℕ → List ℕ → ℕ → List ℕ → ℤ
+payment_along supply u js opening sets rests i x =
+    (pos (cost (prices_along opening sets) x) +ℤ account_along supply u (without i js) opening rests) -ℤ account_along supply u (without i js) opening sets
+
+-- a choice of what the bidders truly demand at the prices reached, one bundle each, that clears
+abbrev pub IsTrueChoice : List ℕ → List ℕ → (ℕ → List ℕ → ℤ) → List ℕ → List ℕ → List (List ℕ) → Type 0
+IsTrueChoice supply opening u js sets choice =
+    IsClearingChoice supply opening (prices_along opening sets) (map (λ j. demand supply (u j) (prices_along opening sets)) js) choice
 
 -- the highest of the prices, and the most that one of them is above its opening
 abbrev pub highest : List ℕ → ℕ

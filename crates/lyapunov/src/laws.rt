@@ -1,13 +1,28 @@
 //! Laws of the ascending clock auction, over the definitions of the economy: what a path of prices does where every bidder
 //! truly demands what its valuation says. A path may start at any opening and need not have ended.
-ghost use Rattle.std.specs.Prelude.{◌≡◌, ◌≢◌, ◌≤◌, ◌<◌, ℕ, List, length, map, ℤ, pos, ◌+ℤ◌, ◌-ℤ◌, ◌≤ℤ◌};
-ghost use Rattle.lot_base.specs.Goods.{AtMost, at, cost, raised, zeros};
+ghost use Rattle.std.specs.Prelude.{◌≡◌, ◌≢◌, ◌≤◌, ◌<◌, ℕ, List, [], ◌∷◌, length, map, ℤ, pos, negsuc, ◌+ℤ◌, ◌-ℤ◌, ◌≤ℤ◌};
+ghost use Rattle.lot_base.specs.Goods.{AtMost, at, raised, zeros};
 ghost use Rattle.lot_base.specs.Economy.{demand, without, AllStrongSubstitutes, AllValuations, AllBelowCeiling, lyapunov, IsMinimiser, IsLeastMinimiser};
 ghost use Rattle.lot_base.specs.Equilibrium.{IsAllocation, IsWelfare, IsWalrasian, IsWalrasianPrices, IsLeastWalrasian, IsVcgPayment, total_value, worth};
 ghost use Rattle.lot_base.specs.Choices.{IsClearingChoice};
 ghost use Rattle.lot_base.specs.Steps.{excess};
+ghost use Rattle.lot_base.specs.RowsTables.{one, two};
+ghost use Rattle.lyapunov.specs.RowsPaths.{three_bidders, two_bidders};
 ghost use Rattle.lyapunov.specs.Bidders.{IsOneOf, AllDifferent, bundle_of};
-ghost use Rattle.lyapunov.specs.Paths.{true_step, prices_along, IsPath, HasEnded, account_along, highest, highest_rise, IsLeastNear, halfway_down, halfway_up};
+ghost use Rattle.lyapunov.specs.Paths.{true_step, prices_along, IsPath, HasEnded, account_along, payment_along, IsTrueChoice, highest, highest_rise, IsLeastNear, halfway_down, halfway_up};
+
+/// The premises can be met. Three bidders take one good in two units from 0 to 6, and two of them to 3. Two bidders raise one
+/// of two goods to 1 and stop there, where larger sets of goods are in balance too.
+pub fn path_examples()
+    ensures three { IsPath (one 2) three_bidders (1 ∷ 2 ∷ 3 ∷ []) (one 0) (1 ∷ 1 ∷ 1 ∷ 1 ∷ 1 ∷ 1 ∷ []) }
+    ensures three_ended { HasEnded (one 2) three_bidders (1 ∷ 2 ∷ 3 ∷ []) (one 0) (1 ∷ 1 ∷ 1 ∷ 1 ∷ 1 ∷ 1 ∷ []) }
+    ensures without_first { IsPath (one 2) three_bidders (2 ∷ 3 ∷ []) (one 0) (1 ∷ 1 ∷ 1 ∷ []) }
+    ensures without_first_ended { HasEnded (one 2) three_bidders (2 ∷ 3 ∷ []) (one 0) (1 ∷ 1 ∷ 1 ∷ []) }
+    ensures credit { account_along (one 2) three_bidders (2 ∷ 3 ∷ []) (one 0) (1 ∷ 1 ∷ 1 ∷ 1 ∷ 1 ∷ 1 ∷ []) ≡ negsuc 3 }
+    ensures debit { account_along (one 2) three_bidders (2 ∷ 3 ∷ []) (one 0) (1 ∷ 1 ∷ 1 ∷ []) ≡ negsuc 3 }
+    ensures two { IsPath (two 1 1) two_bidders (1 ∷ 2 ∷ []) (two 0 0) (1 ∷ []) }
+    ensures two_ended { HasEnded (two 1 1) two_bidders (1 ∷ 2 ∷ []) (two 0 0) (1 ∷ []) }
+{}
 
 /// The Lyapunov function is convex: over the two price vectors halfway between two others, one rounded down and one rounded
 /// up, it sums to no more than over those two.
@@ -108,8 +123,7 @@ pub fn welfare_law()
 pub fn existence_law()
     ensures { (supply js opening sets : List ℕ) (u : ℕ → List ℕ → ℤ) →
         IsPath supply u js opening sets → HasEnded supply u js opening sets →
-        let p = prices_along opening sets in
-        ((choice : List (List ℕ)) × IsClearingChoice supply opening p (map (λ j. demand supply (u j) p) js) choice) }
+        ((choice : List (List ℕ)) × IsTrueChoice supply opening u js sets choice) }
 {}
 
 /// Where a path has ended, its prices are at most all Walrasian prices, good by good; and they are Walrasian prices.
@@ -129,9 +143,19 @@ pub fn payment_law()
         AllStrongSubstitutes supply u js → IsOneOf i js → length opening ≡ length supply →
         IsWalrasian supply opening u js (prices_along opening sets) x →
         IsWalrasian supply opening u (without i js) (prices_along opening rests) y →
-        let debit = account_along supply u (without i js) opening rests in
-        let credit = account_along supply u (without i js) opening sets in
-        IsVcgPayment supply opening u js x i ((pos (cost (prices_along opening sets) (x i)) +ℤ debit) -ℤ credit) }
+        IsVcgPayment supply opening u js x i (payment_along supply u js opening sets rests i (x i)) }
+{}
+
+/// The auction: where the bidders are all different, and the choices at the ends of the path of all and of the path without a
+/// bidder clear, the first is a Walrasian equilibrium, and the bidder pays what Vickrey, Clarke and Groves ask at it.
+pub fn award_law()
+    ensures equilibrium { (supply opening js sets : List ℕ) (u : ℕ → List ℕ → ℤ) (choice : List (List ℕ)) →
+        AllDifferent js → IsPath supply u js opening sets → IsTrueChoice supply opening u js sets choice →
+        IsWalrasian supply opening u js (prices_along opening sets) (bundle_of js choice) }
+    ensures payment { (supply opening js sets rests : List ℕ) (u : ℕ → List ℕ → ℤ) (i : ℕ) (choice others : List (List ℕ)) →
+        AllDifferent js → IsOneOf i js → IsPath supply u js opening sets → IsTrueChoice supply opening u js sets choice →
+        IsPath supply u (without i js) opening rests → IsTrueChoice supply opening u (without i js) rests others →
+        IsVcgPayment supply opening u js (bundle_of js choice) i (payment_along supply u js opening sets rests i (bundle_of js choice i)) }
 {}
 
 /// Without a bidder the prices are at most those of the path of all bidders in the same round, and at most those at its end;
