@@ -1,5 +1,9 @@
 pub mod Cells
+pub mod Costs
 pub mod Sums
+pub mod Index
+pub mod Ascending
+pub mod Digits
 pub mod Within
 pub mod Vectors
 pub mod Vec

@@ -30,7 +30,7 @@ pub record InRow (q : ℕ) (z : List ℕ) (xs : List (List ℕ)) : Type 0 where
   pub is : z ≡ q ∷ rest
   pub «in» : IsIn rest xs
 
-row-IsIn : (q : ℕ) (z : List ℕ) (xs : List (List ℕ)) → IsIn z (map (λ ys. q ∷ ys) xs) → InRow q z xs
+pub row-IsIn : (q : ℕ) (z : List ℕ) (xs : List (List ℕ)) → IsIn z (map (λ ys. q ∷ ys) xs) → InRow q z xs
 row-IsIn q z [] h = absurd h
 row-IsIn q z (a ∷ xs) (inl e) = record { rest = a; is = e; «in» = inl refl }
 row-IsIn q z (a ∷ xs) (inr h) = let t = row-IsIn q z xs h in record { rest = t.rest; is = t.is; «in» = inr t.«in» }
@@ -49,14 +49,15 @@ pub record InRows (a n : ℕ) (z : List ℕ) (xs : List (List ℕ)) : Type 0 whe
   pub first : ℕ
   pub rest : List ℕ
   pub is : z ≡ first ∷ rest
+  pub least : a ≤ first
   pub below : first < a + n
   pub «in» : IsIn rest xs
 
-rows-IsIn : (a n : ℕ) (z : List ℕ) (xs : List (List ℕ)) → IsIn z (flat_map (λ r. map (λ ys. r ∷ ys) xs) (range_with_len a n)) → InRows a n z xs
+pub rows-IsIn : (a n : ℕ) (z : List ℕ) (xs : List (List ℕ)) → IsIn z (flat_map (λ r. map (λ ys. r ∷ ys) xs) (range_with_len a n)) → InRows a n z xs
 rows-IsIn a zero z xs h = absurd h
 rows-IsIn a (suc n) z xs h = elim (IsIn-append z (map (λ ys. a ∷ ys) xs) (flat_map (λ r. map (λ ys. r ∷ ys) xs) (range_with_len (a + 1) n)) (rw flat_map-cons at h)) [
-  | inl i ↦ let t = row-IsIn a z xs i in record { first = a; rest = t.rest; is = t.is; below = omega arith; «in» = t.«in» }
-  | inr i ↦ let t = rows-IsIn (a + 1) n z xs i in record { first = t.first; rest = t.rest; is = t.is; below = (let b = t.below in omega arith); «in» = t.«in» }
+  | inl i ↦ let t = row-IsIn a z xs i in record { first = a; rest = t.rest; is = t.is; least = omega arith; below = omega arith; «in» = t.«in» }
+  | inr i ↦ let t = rows-IsIn (a + 1) n z xs i in record { first = t.first; rest = t.rest; is = t.is; least = (let b = t.least in omega arith); below = (let b = t.below in omega arith); «in» = t.«in» }
 ]
 
 pub IsIn-box : (x s : List ℕ) → AtMost x s → IsIn x (box s)

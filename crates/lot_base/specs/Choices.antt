@@ -41,7 +41,7 @@ pub record IsFirstChoice (supply opening p : List ℕ) (demands : List (List (Li
   pub stands : StandsAt demands places choice
   pub clears : Clears opening p (sum_of supply choice) supply
   pub first : (others : List ℕ) (other : List (List ℕ)) → StandsAt demands others other → Clears opening p (sum_of supply other) supply →
-    slice_cmp nat_cmp places others ≡ Greater → ⊥
+      slice_cmp nat_cmp places others ≡ Greater → ⊥
 
 -- The same as a function: all choices in this order, and the first that clears.
 abbrev pub choices : List (List (List ℕ)) → List (List (List ℕ))

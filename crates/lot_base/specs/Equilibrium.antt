@@ -2,7 +2,7 @@
 -- Each good has an opening price, below which the seller does not sell; with an opening of 0 these are the textbook's
 -- definitions. Sources: Mas-Colell, Whinston and Green, "Microeconomic Theory", 1995, chapters 16 and 23 (Walrasian equilibrium
 -- with free disposal; Vickrey, Clarke and Groves); Ausubel 2006.
-use Rattle.std.specs.Prelude.{◌≡◌, ◌≤◌, ◌<◌, ℕ, List, [], ◌∷◌, ℤ, pos, ◌+ℤ◌, ◌-ℤ◌, ◌≤ℤ◌}
+use Rattle.std.specs.Prelude.{◌≡◌, ◌<◌, ℕ, List, [], ◌∷◌, ℤ, pos, ◌+ℤ◌, ◌-ℤ◌, ◌≤ℤ◌}
 use Rattle.std.specs.List.{AllByRecursion}
 use Rattle.lot_base.specs.Goods.{cost, plus, zeros, at, AtMost}
 use Rattle.lot_base.specs.Box.{IsIn}

@@ -3,10 +3,11 @@ ghost use Rattle.std.specs.Prelude.{◌≡◌, ◌↔◌, ℕ, ◌<◌, ◌≤�
 ghost use Rattle.std.specs.List.{list_all};
 ghost use Rattle.std.specs.Cmp.Lexicographic.{slice_cmp};
 ghost use Rattle.std.specs.Ordering.{nat_cmp};
-ghost use Rattle.lot_base.specs.Goods.{quantity_in, is_within, box_size, AtMost};
+ghost use Rattle.lot_base.specs.Goods.{quantity_in, cost, is_within, box_size, AtMost, IsSupply};
+ghost use Rattle.lot_base.specs.Padded.{padded};
 ghost use Rattle.lot_base.specs.Box.{index_of, bundle_at};
 
-use crate::supply::{GoodSet, six_cells, sum_in};
+use crate::supply::{GoodSet, box_product, six_cells, sum_in};
 use std::cmp::Ordering;
 use std::marker::Model;
 
@@ -68,6 +69,35 @@ impl Bundle {
     {
         within(supply, &self.cells[..self.count as usize])
     }
+
+    /// What the bundle costs at the prices.
+    pub(crate) fn cost_at(&self, prices: &[u32]) -> u64
+        requires { length prices.now ≤ 6 }
+        ensures { result ≡ cost prices.now self.now }
+    {
+        cost_of(prices, &self.cells[..self.count as usize])
+    }
+
+    /// The place among the bundles of the supply.
+    pub(crate) fn index_within(&self, supply: &[u16]) -> u32
+        requires within { AtMost self.now supply.now }
+        requires small { box_size supply.now ≤ 2048 }
+        ensures { result ≡ index_of supply.now self.now }
+    {
+        place_of(supply, &self.cells[..self.count as usize])
+    }
+
+    /// The bundle at a place among the bundles of the supply.
+    pub(crate) fn at_index(supply: &[u16], index: u32) -> Bundle
+        requires supply { IsSupply supply.now }
+        requires below { index < box_size supply.now }
+        ensures { result ≡ bundle_at supply.now index }
+    {
+        Bundle {
+            cells: six_digits(supply, index),
+            count: supply.len() as u8,
+        }
+    }
 }
 
 fn within(supply: &[u16], quantities: &[u16]) -> bool
@@ -83,6 +113,58 @@ fn each_within(supply: &[u16], quantities: &[u16]) -> bool
         .iter()
         .zip(quantities.iter())
         .all(|(units, quantity)| *quantity <= *units)
+}
+
+/// The sum of each price times its quantity.
+fn cost_of(prices: &[u32], quantities: &[u16]) -> u64
+    requires { length prices.now ≤ 6 }
+    ensures { result ≡ cost prices.now quantities.now }
+{
+    let mut total = 0u64;
+    for (price, quantity) in prices.iter().zip(quantities) {
+        total += *price as u64 * *quantity as u64;
+    }
+    total
+}
+
+/// The number whose digit of a good counts up to its supply, the last good's digit counting ones.
+fn place_of(supply: &[u16], quantities: &[u16]) -> u32
+    requires within { AtMost quantities.now supply.now }
+    requires small { box_size supply.now ≤ 2048 }
+    ensures { result ≡ index_of supply.now quantities.now }
+{
+    let mut place = 0u32;
+    for (units, quantity) in supply.iter().zip(quantities) {
+        place = place * (*units as u32 + 1) + *quantity as u32;
+    }
+    place
+}
+
+/// The quantities of the bundle at a place, and zeros behind them.
+fn six_digits(supply: &[u16], place: u32) -> [u16; 6]
+    requires supply { IsSupply supply.now }
+    requires below { place < box_size supply.now }
+    ensures { result ≡ padded (bundle_at supply.now place) }
+{
+    let mut cells = six_cells(supply);
+    take_digits(&mut cells[..supply.len()], place);
+    cells
+}
+
+/// Puts in place of each supply the quantity of the good in the bundle at a place.
+fn take_digits(units: &mut [u16], place: u32)
+    requires few { length units.old ≤ 6 }
+    requires small { box_size units.old ≤ 2048 }
+    requires below { place < box_size units.old }
+    ensures { units.new ≡ bundle_at units.old place }
+{
+    let mut bundles = box_product(units) as u32;
+    let mut rest = place;
+    for unit in units.iter_mut() {
+        bundles /= *unit as u32 + 1;
+        *unit = (rest / bundles) as u16;
+        rest %= bundles;
+    }
 }
 
 /// The units of the goods of a set.

@@ -13,7 +13,7 @@ pub mod tables;
 pub use auction_terms::{Terms, TermsFault};
 pub use bundles::{Bundle, compare, quantity_in};
 pub use phases::Phase;
-pub use pricing::Prices;
+pub use pricing::{Prices, cost};
 pub use raw::{RawDemand, RawReport};
 pub use supply::{GoodSet, Goods, GoodsFault};
 pub use tables::{Excess, LeastTable};

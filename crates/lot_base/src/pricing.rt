@@ -81,6 +81,13 @@ impl Prices {
     }
 }
 
+/// What a bundle costs at the prices.
+pub fn cost(p: &Prices, x: &Bundle) -> u64
+    ensures { result ≡ cost p.now x.now }
+{
+    x.cost_at(&p.cells[..p.count as usize])
+}
+
 /// The prices, and zeros behind them.
 fn six_prices(prices: &[u32]) -> [u32; 6]
     requires { length prices.now ≤ 6 }

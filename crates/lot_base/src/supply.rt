@@ -116,6 +116,27 @@ impl Goods {
     {
         x.is_within(&self.cells[..self.count as usize])
     }
+
+    /// The place of a bundle among all bundles in lexicographic order, from 0.
+    pub fn index(&self, x: &Bundle) -> u32
+        requires { AtMost x.now self.now }
+        ensures place { slice_get (box self.now) result ≡ Some x.now }
+        ensures digits { result ≡ index_of self.now x.now }
+        ensures inverse { bundle_at self.now result ≡ x.now }
+    {
+        x.index_within(&self.cells[..self.count as usize])
+    }
+
+    /// The bundle at a place among all bundles in lexicographic order.
+    pub fn bundle(&self, index: u32) -> Bundle
+        requires { index < box_size self.now }
+        ensures place { slice_get (box self.now) index ≡ Some result }
+        ensures digits { result ≡ bundle_at self.now index }
+        ensures inverse { index_of self.now result ≡ index }
+        ensures within { AtMost result self.now }
+    {
+        Bundle::at_index(&self.cells[..self.count as usize], index)
+    }
 }
 
 /// The first good without a unit.
@@ -126,7 +147,7 @@ fn first_without_unit(supply: &[u16]) -> Option<usize>
 }
 
 /// The product of each supply and one.
-fn box_product(supply: &[u16]) -> u128
+pub(crate) fn box_product(supply: &[u16]) -> u128
     requires { length supply.now ≤ 6 }
     ensures { result ≡ box_size supply.now }
 {
