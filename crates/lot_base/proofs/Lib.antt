@@ -1,5 +1,6 @@
 pub mod Cells
 pub mod Costs
+pub mod Order
 pub mod Sums
 pub mod Index
 pub mod Ascending
@@ -8,6 +9,7 @@ pub mod Within
 pub mod Vectors
 pub mod Vec
 pub mod Exchange
+pub mod ExchangeTest
 pub mod Lists
 pub mod Demand
 pub mod Meet

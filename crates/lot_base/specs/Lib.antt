@@ -7,3 +7,6 @@ pub mod Equilibrium
 pub mod Choices
 pub mod Steps
 pub mod Limits
+pub mod RowsTables
+pub mod RowsMarkets
+pub mod RowsSteps

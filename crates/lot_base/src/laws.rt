@@ -3,7 +3,14 @@ ghost use Rattle.std.specs.Prelude.{◌≡◌, ◌↔◌, ◌≤ℤ◌, ◌-ℤ�
 ghost use Rattle.lot_base.specs.Goods.{AtMost, raised, lowered, box_size, AllPriced};
 ghost use Rattle.lot_base.specs.Box.{box, IsIn, index_of, bundle_at};
 ghost use Rattle.lot_base.specs.Demands.{IsAscending, IsDemand, least, greatest};
+ghost use Rattle.lot_base.specs.RowsTables.{two, unit_demand, together};
 ghost use Rattle.lot_base.specs.Economy.{surplus, indirect_utility, demand, IsDemanded, IsStrongSubstitutes};
+
+/// Two tables over two goods of one unit each: one has the exchange property, and the other has not.
+pub fn exchange_examples()
+    ensures unit_demand { IsStrongSubstitutes (two 1 1) (unit_demand 5 4) }
+    ensures together { IsStrongSubstitutes (two 1 1) (together 3) → ⊥ }
+{}
 
 /// The step lemma. Where prices rise by one on a set of goods, a bidder with strong substitutes loses the least quantity on
 /// the set that it demanded before, which is the greatest that it demands after.

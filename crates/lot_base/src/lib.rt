@@ -9,6 +9,8 @@ pub mod pricing;
 pub mod raw;
 pub mod supply;
 pub mod tables;
+#[cfg(test)]
+mod tests;
 
 pub use auction_terms::{Terms, TermsFault};
 pub use bundles::{Bundle, compare, quantity_in};

@@ -98,6 +98,7 @@ impl Goods {
     pub fn set_count(&self) -> u8
         ensures value { result ≡ 2 ^ length self.now }
         ensures small { result ≤ 64 }
+        ensures supply { IsSupply self.now }
     {
         1 << self.count
     }

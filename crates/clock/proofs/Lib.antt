@@ -1,0 +1,9 @@
+pub mod Ceiling
+pub mod Path
+pub mod Current
+pub mod Members
+pub mod Excesses
+pub mod Append
+pub mod Next
+pub mod After
+pub mod Judges

@@ -1,0 +1,18 @@
+-- What a clock keeps beside its reports: how it stands, and where the reports of its last or current round begin.
+use Rattle.std.specs.Prelude.{◌≡◌, ◌≤◌, ◌+◌, ℕ, List, length, take}
+use Rattle.std.specs.List.{AllByRecursion}
+use Rattle.lot_base.specs.declared.phases.Phase.{Phase}
+use Rattle.demand_set.specs.declared.reports.Report.{Report}
+use Rattle.clock.specs.Reports.{ClockHistory}
+use Rattle.clock.specs.Standing.{steps_of, phase_after, prices_after}
+use Rattle.clock.specs.Judging.{IsLegal}
+
+pub record IsKept (c : ClockHistory) (current steps : ℕ) (phase : Phase) (prices : List ℕ) : Type 0 where
+  pub legal : IsLegal c
+  pub steps_are : steps ≡ steps_of c
+  pub few : steps ≤ 60000
+  pub phase_is : phase ≡ phase_after c steps
+  pub prices_are : prices ≡ prices_after c steps
+  pub begins : current ≤ length c.reports
+  pub past : AllByRecursion (λ (r : Report). r.round ≤ steps) (take current c.reports)
+  pub none_beyond : AllByRecursion (λ (r : Report). r.round ≤ steps + 1) c.reports

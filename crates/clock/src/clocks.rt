@@ -1,0 +1,204 @@
+//! A clock.
+ghost use Rattle.std.specs.Prelude.{◌≡◌, ◌+◌, ◌-◌, ◌<◌, ◌≤◌, ◌++◌, [], ◌∷◌, ℕ, List, length, OnOk, IfOk, IfErr, IsTrue, option_copied};
+
+use crate::judging::Judgement;
+use crate::rounds::{find_demand, missing_in};
+use crate::standing::Standing;
+use demand_set::{Demand, Report};
+use lot_base::{NoMemory, Phase, Prices, Terms};
+use std::alloc::Global;
+use std::marker::Model;
+
+/// One clock, seen as its terms, its number and the reports that were applied, in order.
+#[derive(Debug, Drop)]
+pub struct Clock {
+    terms: Terms,
+    number: u8,
+    reports: Vec<Report>,
+    /// Where the reports of the last or current round begin.
+    current: usize,
+    steps: u32,
+    phase: Phase,
+    prices: Prices,
+}
+
+impl Model for Clock {
+    ghost use Rattle.clock.specs.Reports.{ClockHistory};
+    ghost use Rattle.clock.specs.Kept.{IsKept};
+
+    ghost Value = { ClockHistory };
+
+    ghost view = { λ c. record { terms = c.terms; number = c.number; reports = c.reports.items } };
+
+    ghost invariant = { λ c. IsKept (record { terms = c.terms; number = c.number; reports = c.reports.items }) c.current c.steps c.phase c.prices };
+}
+
+/// What a clock shows: its last or current round, how it stands and at which prices.
+#[derive(Clone, Copy, Debug)]
+pub struct Look {
+    pub round: u32,
+    pub phase: Phase,
+    pub prices: Prices,
+}
+
+/// A report for which there was no memory.
+#[derive(Debug, Drop)]
+pub struct NotApplied {
+    pub report: Report,
+}
+
+impl Clock {
+    ghost use Rattle.lot_base.specs.Demands.{IsDemand};
+    ghost use Rattle.clock.specs.Reports.{demand_in, with_report};
+    ghost use Rattle.clock.specs.Standing.{HasSteps, steps_of, last_round, phase_of, prices_of, missing_of};
+    ghost use Rattle.clock.specs.Judging.{judgement_of, IsJudgement, IsLegal};
+    ghost use Rattle.clock.specs.declared.judging.Judgement.TheVariants.{Take};
+
+    /// A clock of these terms without reports.
+    pub fn new(alloc: Global, terms: &Terms, number: u8) -> Result<Clock, NoMemory>
+        requires { number ≤ terms.now.bidders }
+        ensures { IfOk result (λ c. c ≡ record { terms = terms.now; number = number; reports = [] }) }
+    {
+        let reports = Vec::new(alloc);
+        let standing = Standing::next(terms, number, &reports, 0, 0, &Prices::zero(&terms.goods));
+        Ok(Clock {
+            terms: *terms,
+            number,
+            reports,
+            current: standing.current,
+            steps: standing.steps,
+            phase: standing.phase,
+            prices: standing.prices,
+        })
+    }
+
+    /// What becomes of a report.
+    pub fn judge(&self, bidder: u8, round: u32, demand: &Demand) -> Judgement
+        ensures judgement { IsJudgement self.now (record { bidder = bidder; round = round; demand = demand.now }) result }
+        ensures value { result ≡ judgement_of self.now (record { bidder = bidder; round = round; demand = demand.now }) }
+    {
+        self.judged(bidder, round, demand)
+    }
+
+    fn judged(&self, bidder: u8, round: u32, demand: &Demand) -> Judgement
+        ensures { result ≡ judgement_of self.now (record { bidder = bidder; round = round; demand = demand.now }) }
+    {
+        if bidder < 1 || bidder > self.terms.bidders || bidder == self.number {
+            return Judgement::NotMember;
+        }
+        if round == 0 {
+            return Judgement::NoRound;
+        }
+        if round > self.steps + 1 {
+            return match self.phase {
+                Phase::Running => Judgement::Early(self.steps + 1),
+                Phase::Ended | Phase::Halted(_) => Judgement::Over(self.steps + 1),
+            };
+        }
+        match self.demand_of(bidder, round) {
+            None => Judgement::Take,
+            Some(before) => {
+                if before.same(demand) {
+                    Judgement::Again
+                } else {
+                    Judgement::Conflict(round)
+                }
+            }
+        }
+    }
+
+    /// The reports of the last or current round, and no report before it.
+    fn current_round(&self) -> &[Report]
+        ensures { (j : ℕ) → demand_in result.now (last_round self.now) j ≡ demand_in self.now.reports (last_round self.now) j }
+    {
+        self.reports.split_at(self.current).1
+    }
+
+    /// The demand of a bidder in a round; that of the last or current round is found among its few reports.
+    fn demand_of(&self, bidder: u8, round: u32) -> Option<&Demand>
+        ensures { option_copied result ≡ demand_in self.now.reports round bidder }
+    {
+        if round == self.steps + 1 {
+            find_demand(self.current_round(), round, bidder)
+        } else {
+            find_demand(&self.reports, round, bidder)
+        }
+    }
+
+    /// Applies a report that is judged `Take`. Where there is no memory for it, it comes back and the clock is unchanged.
+    pub fn apply(&mut self, report: Report) -> Result<(), NotApplied>
+        requires take { judgement_of self.old report ≡ Take }
+        requires fits { IsDemand self.old.terms.goods report.demand }
+        ensures ok { OnOk result (self.new ≡ with_report self.old report) }
+        ensures err { IfErr result (λ e. (e.report ≡ report) × (self.new ≡ self.old)) }
+    {
+        if let Err(refused) = self.reports.push(report) {
+            return Err(NotApplied {
+                report: refused.value,
+            });
+        }
+        let standing = Standing::next(
+            &self.terms,
+            self.number,
+            &self.reports,
+            self.current,
+            self.steps,
+            &self.prices,
+        );
+        self.current = standing.current;
+        self.steps = standing.steps;
+        self.phase = standing.phase;
+        self.prices = standing.prices;
+        Ok(())
+    }
+
+    /// The number of the clock.
+    pub fn number(&self) -> u8
+        ensures value { result ≡ self.now.number }
+        ensures legal { IsLegal self.now }
+    {
+        self.number
+    }
+
+    /// How many steps the clock has made: the number of its last or current round, less one.
+    pub fn steps(&self) -> u32
+        ensures value { result ≡ steps_of self.now }
+        ensures made { HasSteps self.now result }
+        ensures few { result ≤ 60000 }
+    {
+        self.steps
+    }
+
+    /// The last or current round.
+    pub fn look(&self) -> Look
+        ensures round { result.round ≡ last_round self.now }
+        ensures phase { result.phase ≡ phase_of self.now }
+        ensures prices { result.prices ≡ prices_of self.now }
+    {
+        Look {
+            round: self.steps + 1,
+            phase: self.phase,
+            prices: self.prices,
+        }
+    }
+
+    /// The smallest member without a report in the last or current round, 0 where there is none.
+    pub fn missing(&self) -> u8
+        ensures { result ≡ missing_of self.now }
+    {
+        missing_in(
+            self.terms.bidders,
+            self.number,
+            self.current_round(),
+            self.steps + 1,
+        )
+        .unwrap_or(0)
+    }
+
+    /// The demand of a bidder in the last or current round, if it has reported one.
+    pub fn last_demand(&self, bidder: u8) -> Option<&Demand>
+        ensures { option_copied result ≡ demand_in self.now.reports (last_round self.now) bidder }
+    {
+        self.demand_of(bidder, self.steps + 1)
+    }
+}

@@ -1,0 +1,10 @@
+//! One clock of an ascending auction: what its reports are judged, where its rounds lead, and how it stands.
+#![tactic(auto)]
+
+pub mod clocks;
+pub mod judging;
+mod rounds;
+mod standing;
+
+pub use clocks::{Clock, Look, NotApplied};
+pub use judging::Judgement;

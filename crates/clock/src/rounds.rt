@@ -1,0 +1,100 @@
+//! What the reports of a round say.
+ghost use Rattle.std.specs.Prelude.{◌≡◌, ◌+◌, ◌<◌, ◌≤◌, ◌^◌, ℕ, ℤ, pos, ◌-ℤ◌, List, length, find, is_none, option_copied, slice_index_or};
+ghost use Rattle.std.specs.List.{AllByRecursion};
+ghost use Rattle.lot_base.specs.Goods.{IsSupply};
+ghost use Rattle.lot_base.specs.Demands.{IsDemand, IsTable, least};
+ghost use Rattle.lyapunov.specs.Excesses.{entry, IsSmall};
+ghost use Rattle.lot_base.specs.Steps.{excess, step_set};
+ghost use Rattle.clock.specs.Reports.{members, is_named, demand_in, demands_in};
+ghost use Rattle.demand_set.specs.declared.reports.Report.{Report as ReportValue};
+
+use demand_set::{Demand, Report};
+use lot_base::{Excess, GoodSet, Goods, LeastTable};
+
+/// The demand of the first report of a bidder in a round.
+pub(crate) fn find_demand(reports: &[Report], round: u32, bidder: u8) -> Option<&Demand>
+    ensures { option_copied result ≡ demand_in reports.now round bidder }
+{
+    match find_report(reports, round, bidder) {
+        Some(report) => Some(&report.demand),
+        None => None,
+    }
+}
+
+fn find_report(reports: &[Report], round: u32, bidder: u8) -> Option<&Report>
+    ensures { option_copied result ≡ find (is_named round bidder) reports.now }
+{
+    reports
+        .iter()
+        .find(|report| report.round == round && report.bidder == bidder)
+}
+
+/// Whether a bidder has no report in a round.
+fn is_absent(reports: &[Report], round: u32, bidder: u8) -> bool
+    ensures { result ≡ is_none (demand_in reports.now round bidder) }
+{
+    match find_demand(reports, round, bidder) {
+        Some(_) => false,
+        None => true,
+    }
+}
+
+/// The first member without a report in a round.
+pub(crate) fn missing_in(bidders: u8, clock: u8, reports: &[Report], round: u32) -> Option<u8>
+    requires { bidders ≤ 12 }
+    ensures { result ≡ find (λ j. is_none (demand_in reports.now round j)) (members bidders clock) }
+{
+    for step in 0..bidders {
+        let bidder = step + 1;
+        if bidder != clock && is_absent(reports, round, bidder) {
+            return Some(bidder);
+        }
+    }
+    None
+}
+
+/// The step set of what the members demand in a round.
+pub(crate) fn step_set_in(
+    goods: &Goods,
+    bidders: u8,
+    clock: u8,
+    reports: &[Report],
+    round: u32,
+) -> GoodSet
+    requires few { bidders ≤ 12 }
+    requires supply { IsSupply goods.now }
+    requires fit { AllByRecursion (λ (r : ReportValue). IsDemand goods.now r.demand) reports.now }
+    ensures { result.0 ≡ step_set goods.now (demands_in reports.now round) (members bidders clock) }
+{
+    step_choice::choose(goods, &excess_in(goods, bidders, clock, reports, round))
+}
+
+/// The excess of each set of goods over what the members demand in a round.
+fn excess_in(goods: &Goods, bidders: u8, clock: u8, reports: &[Report], round: u32) -> Excess
+    requires few { bidders ≤ 12 }
+    requires supply { IsSupply goods.now }
+    requires fit { AllByRecursion (λ (r : ReportValue). IsDemand goods.now r.demand) reports.now }
+    ensures { (set : ℕ) → set < 2 ^ length goods.now → entry result.0 set ≡ excess goods.now (demands_in reports.now round) (members bidders clock) set }
+{
+    let mut excess = lyapunov::opening(goods);
+    for step in 0..bidders {
+        let bidder = step + 1;
+        if bidder != clock {
+            lyapunov::add_table(goods, &mut excess, &least_in(goods, reports, round, bidder));
+        }
+    }
+    excess
+}
+
+/// The least quantities that a bidder demands in a round, 0 where it has not reported.
+fn least_in(goods: &Goods, reports: &[Report], round: u32, bidder: u8) -> LeastTable
+    requires supply { IsSupply goods.now }
+    requires fit { AllByRecursion (λ (r : ReportValue). IsDemand goods.now r.demand) reports.now }
+    ensures table { IsTable (length goods.now) (least (demands_in reports.now round bidder)) result.0 }
+    ensures small { IsSmall result.0 }
+{
+    match find_demand(reports, round, bidder) {
+        Some(demand) => demand.least_table(goods),
+        None => LeastTable([0; 64]),
+    }
+}

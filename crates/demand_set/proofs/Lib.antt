@@ -1,0 +1,7 @@
+pub mod Ranks
+pub mod Groups
+pub mod Faults
+pub mod Joined
+pub mod Same
+pub mod Sums
+pub mod Tables

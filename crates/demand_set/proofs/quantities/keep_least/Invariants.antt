@@ -1,0 +1,8 @@
+use Rattle.std.proofs.Common.{◌≡◌, ◌<◌, ◌≤◌, ℕ, get_or, min}
+use Rattle.demand_set.proofs.quantities.keep_least.Given as goal
+
+abbrev pub invariant-loop-set : goal.invariant-loop-set
+invariant-loop-set l = record {
+  kept : (k : ℕ) → k < l.set → get_or l.table k 0 ≡ min (get_or l.initial.table k 0) (get_or l.sums k 0);
+  others : (k : ℕ) → l.set ≤ k → get_or l.table k 0 ≡ get_or l.initial.table k 0;
+}

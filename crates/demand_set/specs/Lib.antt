@@ -1,0 +1,4 @@
+pub mod Held
+pub mod Reading
+pub mod Same
+pub mod Sums

@@ -1,0 +1,12 @@
+//! The demands that bidders report: which bundles they would like best at the prices of a round.
+#![tactic(auto)]
+
+pub mod quantities;
+pub mod reading;
+pub mod reports;
+#[cfg(test)]
+mod tests;
+pub mod writing;
+
+pub use reading::{Demand, DemandFault};
+pub use reports::Report;

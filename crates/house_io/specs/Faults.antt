@@ -1,0 +1,16 @@
+-- Counts of faults. Each object outside the program counts the calls on it that failed. The count never falls, and
+-- one that is kept in 64 bits stands still at its last value.
+use Rattle.std.specs.Prelude.{◌≤◌, ◌+◌, ◌-◌, ◌^◌, ℕ, min, max, Result, OnErr}
+
+-- the count rose, or stands at the last value of a 64 bit counter
+abbrev pub Rose : ℕ → ℕ → Type 0
+Rose before now = min (before + 1) (2 ^ 64 - 1) ≤ now
+
+-- the count never falls, and the call fails only where it rose
+pub record HasCause {T E : Type 0} (before now : ℕ) (result : Result T E) : Type 0 where
+  pub later : before ≤ now
+  pub failed : OnErr result (Rose before now)
+
+-- a count to which so many are added, up to the last value of a 64 bit counter
+abbrev pub raised_by : ℕ → ℕ → ℕ
+raised_by before more = max before (min (before + more) (2 ^ 64 - 1))

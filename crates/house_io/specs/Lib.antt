@@ -1,0 +1,13 @@
+pub mod Faults
+pub mod Told
+pub mod Sources
+pub mod Reading
+pub mod Sinks
+pub mod Shelves
+pub mod Counts
+pub mod Tallies
+pub mod SureForms
+pub mod SureFiles
+pub mod ListForms
+pub mod ListShelves
+pub mod ListFiles

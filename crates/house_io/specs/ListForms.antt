@@ -1,0 +1,40 @@
+-- Forms in memory of which chosen calls fail: which calls these are, and what a source and a sink stand for.
+use Rattle.std.specs.Prelude.{ℕ, ◌+◌, ◌-◌, ◌^◌, min, List, Result, Ok, Err, Contains}
+use Rattle.house_io.specs.declared.Failed.{Failed}
+use Rattle.house_io.specs.Faults.{raised_by}
+use Rattle.house_io.specs.SureForms.{Kept}
+
+-- The numbers of the calls that are to fail, counted from 0, and how many calls there were. That count stands still
+-- at the last value of 64 bits.
+pub record CallPlan : Type 0 where
+  pub failing : List ℕ
+  pub calls : ℕ
+
+-- the plan before the first call
+abbrev pub begun : List ℕ → CallPlan
+begun failing = record { failing = failing; calls = 0 }
+
+-- the next call is to fail
+abbrev pub IsToFail : CallPlan → Type 0
+IsToFail plan = Contains plan.failing plan.calls
+
+-- the plan after one more call
+abbrev pub counted : CallPlan → CallPlan
+counted plan = record plan { calls = min (plan.calls + 1) (2 ^ 64 - 1) }
+
+-- the count of faults after a call
+abbrev pub faults_after : {T : Type 0} → Result T Failed → ℕ → ℕ
+faults_after (Ok answer) faults = faults
+faults_after (Err failed) faults = raised_by faults 1
+
+-- a source: what is left, the plan, and the count of its faults
+pub record ListedSource : Type 0 where
+  pub left : List ℕ
+  pub plan : CallPlan
+  pub faults : ℕ
+
+-- a sink: what it kept, the plan, and the count of its faults
+pub record ListedSink : Type 0 where
+  pub kept : Kept
+  pub plan : CallPlan
+  pub faults : ℕ

@@ -1,0 +1,52 @@
+-- Files by name, and the counts of their faults. Of two files of one name the first counts.
+use Rattle.std.specs.Prelude.{◌≡◌, ◌≢◌, ◌≤◌, ℕ, List, [], Option, Some, None, bytes_eq, find, option_map, Contains}
+use Rattle.house_io.specs.declared.shelves.Refusal.{Refusal}
+use Rattle.house_io.specs.declared.shelves.Refusal.TheVariants as why
+use Rattle.house_io.specs.Faults.{Rose, raised_by}
+
+-- a file: its name, and what a read of it gives
+pub record NamedFile : Type 0 where
+  pub name : List ℕ
+  pub bytes : List ℕ
+
+-- the file of a name, if there is one
+abbrev pub file_of : List NamedFile → List ℕ → Option NamedFile
+file_of files name = find (λ file. bytes_eq file.name name) files
+
+-- what a read of the file of a name gives
+abbrev pub bytes_of : List NamedFile → List ℕ → Option (List ℕ)
+bytes_of files name = option_map (λ file. file.bytes) (file_of files name)
+
+-- A source tells the bytes of its file, all of them left. That of an absent file is empty.
+abbrev pub Begins : Option (List ℕ) → Option (List ℕ) → Type 0
+Begins bytes None = ⊥
+Begins None (Some left) = left ≡ []
+Begins (Some bytes) (Some left) = left ≡ bytes
+
+-- it holds of the files, where they are told
+abbrev pub IfTells : Option (List NamedFile) → (List NamedFile → Type 0) → Type 0
+IfTells None P = Unit {0}
+IfTells (Some files) P = P files
+
+-- The files that are told now were told before, and are the same.
+abbrev pub ChangesNone : Option (List NamedFile) → Option (List NamedFile) → Type 0
+ChangesNone before now = IfTells now (λ files. before ≡ Some files)
+
+-- The count of this name does not fall, and that of each other name stays.
+pub record RisesOnly (name : List ℕ) (before now : List ℕ → ℕ) : Type 0 where
+  pub later : before name ≤ now name
+  pub others : (other : List ℕ) → other ≢ name → now other ≡ before other
+
+-- refused for a fault only where the count rose; for want of memory it stays
+abbrev pub IsRefused : Refusal → ℕ → ℕ → Type 0
+IsRefused why.Failed before now = Rose before now
+IsRefused why.NoMemory before now = now ≡ before
+
+-- So many faults are added to the count of this name, and to no other.
+pub record Adds (name : List ℕ) (faults : ℕ) (before now : List ℕ → ℕ) : Type 0 where
+  pub added : now name ≡ raised_by (before name) faults
+  pub others : (other : List ℕ) → other ≢ name → now other ≡ before other
+
+-- a name that was opened stays so
+abbrev pub KeepsNames : List (List ℕ) → List (List ℕ) → Type 0
+KeepsNames before now = (name : List ℕ) → Contains before name → Contains now name

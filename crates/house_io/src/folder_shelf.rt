@@ -1,0 +1,64 @@
+//! The files of the folder in which the program runs.
+ghost use Rattle.std.specs.Prelude.{◌≡◌, ◌<◌, ◌^◌, None, ℕ, List, []};
+ghost use Rattle.house_io.specs.Counts.{NamedCount, count_of, names_of};
+
+use crate::real::FileSource;
+use crate::tallies::Tallies;
+use crate::{Refusal, Shelf};
+use std::alloc::Global;
+use std::fs;
+use std::marker::Model;
+use std::rt::Files;
+
+/// Files that are named relative to the working directory, seen as the counts of their faults by name. An absent
+/// name fails.
+#[derive(Drop)]
+pub struct FolderShelf<'a, R: Files> {
+    rt: &'a R,
+    tallies: Tallies,
+}
+
+impl<'a, R: Files> Model for FolderShelf<'a, R> {
+    ghost Value = { List NamedCount };
+
+    ghost view = { λ shelf. shelf.tallies };
+}
+
+impl<'a, R: Files> FolderShelf<'a, R> {
+    /// The files of this runtime, none of which has failed yet.
+    pub fn new(alloc: Global, rt: &'a R) -> FolderShelf<'a, R>
+        ensures { result ≡ [] }
+    {
+        FolderShelf {
+            rt,
+            tallies: Tallies::new(alloc),
+        }
+    }
+}
+
+impl<'a, R: Files> Shelf for FolderShelf<'a, R> {
+    type Source = FileSource<R::File>;
+
+    ghost files = { λ _. None };
+
+    ghost faults = { λ shelf name. count_of shelf name };
+
+    ghost opened = { λ shelf. names_of shelf };
+
+    fn source(&mut self, alloc: Global, name: &str) -> Result<FileSource<R::File>, Refusal> {
+        if let Err(_) = self.tallies.begin(alloc, name) {
+            return Err(Refusal::NoMemory);
+        }
+        match fs::open(self.rt, name) {
+            Ok(file) => Ok(FileSource::new(file)),
+            Err(_) => {
+                self.tallies.raise(name, 1);
+                Err(Refusal::Failed)
+            }
+        }
+    }
+
+    fn close_source(&mut self, name: &str, source: FileSource<R::File>) {
+        self.tallies.raise(name, source.faults());
+    }
+}

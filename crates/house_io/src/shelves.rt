@@ -1,0 +1,47 @@
+//! Files that are opened by their names.
+ghost use Rattle.std.specs.Prelude.{◌≡◌, ℕ, List, Option, IfOk, IfErr, OnOk, IsSome, Contains};
+
+use crate::Source;
+use std::alloc::Global;
+
+/// Why a file is not opened.
+#[derive(Clone, Copy, Debug, PartialEq, Eq)]
+pub enum Refusal {
+    Failed,
+    NoMemory,
+}
+
+/// Files that are opened by their names. It counts faults by name, those of closed sources among them.
+pub trait Shelf {
+    ghost use Rattle.house_io.specs.Shelves.{NamedFile, bytes_of, Begins, ChangesNone, IfTells, RisesOnly, IsRefused, Adds, KeepsNames};
+
+    type Source: Source;
+
+    /// The files, where it tells them.
+    ghost files: { Self → Option (List NamedFile) };
+
+    /// How often a call on each name has failed.
+    ghost faults: { Self → List ℕ → ℕ };
+
+    /// The names that it has opened.
+    ghost opened: { Self → List (List ℕ) };
+
+    /// Opens a file for reading. An absent one fails, or gives an empty source.
+    fn source(&mut self, alloc: Global, name: &str) -> Result<Self::Source, Refusal>
+        ensures fresh { IfOk result (λ source. Self.Source.Source.faults source ≡ 0) }
+        ensures bytes { IfOk result (λ source. IfTells (files self.new) (λ shelved.
+            Begins (bytes_of shelved name.now) (Self.Source.Source.left source))) }
+        ensures files { ChangesNone (files self.old) (files self.new) }
+        ensures counts { RisesOnly name.now (faults self.old) (faults self.new) }
+        ensures refused { IfErr result (λ refusal. IsRefused refusal (faults self.old name.now) (faults self.new name.now)) }
+        ensures opened { OnOk result (Contains (opened self.new) name.now) }
+        ensures kept { KeepsNames (opened self.old) (opened self.new) };
+
+    /// Takes a source back. It takes no memory.
+    fn close_source(&mut self, name: &str, source: Self::Source)
+        requires { Contains (opened self.old) name.now }
+        ensures counts { Adds name.now (Self.Source.Source.faults source) (faults self.old) (faults self.new) }
+        ensures files { ChangesNone (files self.old) (files self.new) }
+        ensures told { IfTells (files self.new) (λ _. IsSome (Self.Source.Source.left source)) }
+        ensures kept { KeepsNames (opened self.old) (opened self.new) };
+}

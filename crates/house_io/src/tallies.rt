@@ -1,0 +1,81 @@
+//! Counts of faults by name.
+ghost use Rattle.std.specs.Prelude.{◌≡◌, [], ℕ, List, OnOk, OnErr, Contains, MatchOption};
+ghost use Rattle.house_io.specs.Shelves.{Adds, KeepsNames};
+ghost use Rattle.house_io.specs.Counts.{NamedCount, count_of, names_of};
+ghost use Rattle.house_io.specs.Tallies.{IsPlace, HasNo};
+
+use std::alloc::{AllocError, Global};
+use std::marker::Model;
+
+/// How often the calls on a name failed.
+#[derive(Drop)]
+pub(crate) struct Tally {
+    name: String,
+    faults: u64,
+}
+
+/// How often the calls on each of some names failed.
+#[derive(Drop)]
+pub(crate) struct Tallies {
+    list: Vec<Tally>,
+}
+
+impl Model for Tallies {
+    ghost use Rattle.std.specs.Prelude.{List};
+    ghost use Rattle.house_io.specs.Counts.{NamedCount};
+
+    ghost Value = { List NamedCount };
+
+    ghost use Rattle.house_io.specs.Tallies.{counts_in};
+
+    ghost view = { λ tallies. counts_in tallies.list.items };
+}
+
+impl Tallies {
+    pub(crate) fn new(alloc: Global) -> Tallies
+        ensures { result ≡ [] }
+    {
+        Tallies {
+            list: Vec::new(alloc),
+        }
+    }
+
+    /// Begins the tally of a name at 0, where it has none.
+    pub(crate) fn begin(&mut self, alloc: Global, name: &str) -> Result<(), AllocError>
+        ensures counts { (other : List ℕ) → count_of self.new other ≡ count_of self.old other }
+        ensures named { OnOk result (Contains (names_of self.new) name.now) }
+        ensures kept { KeepsNames (names_of self.old) (names_of self.new) }
+        ensures unchanged { OnErr result (self.new ≡ self.old) }
+    {
+        if let Some(_) = place_of(&self.list, name) {
+            return Ok(());
+        }
+        let name = String::from_str(alloc, name)?;
+        self.list.push(Tally { name, faults: 0 })?;
+        Ok(())
+    }
+
+    /// Adds so many faults to the tally of a name.
+    pub(crate) fn raise(&mut self, name: &str, faults: u64)
+        requires { Contains (names_of self.old) name.now }
+        ensures added { Adds name.now faults (count_of self.old) (count_of self.new) }
+        ensures kept { KeepsNames (names_of self.old) (names_of self.new) }
+    {
+        if let Some(place) = place_of(&self.list, name) {
+            let tally = &mut self.list[place];
+            tally.faults = tally.faults.saturating_add(faults);
+        }
+    }
+}
+
+/// The place of the first tally of a name.
+fn place_of(tallies: &[Tally], name: &str) -> Option<usize>
+    ensures { MatchOption result (HasNo tallies.now name.now) (λ place. IsPlace tallies.now name.now place) }
+{
+    for (place, tally) in tallies.iter().enumerate() {
+        if tally.name.as_str() == name {
+            return Some(place);
+        }
+    }
+    None
+}
