@@ -4,6 +4,7 @@ ghost use Rattle.std.specs.Prelude.{◌≡◌, ◌+◌, ◌-◌, ◌<◌, ◌≤
 use crate::judging::Judgement;
 use crate::rounds::{find_demand, missing_in};
 use crate::standing::Standing;
+use credit_book::Account;
 use demand_set::{Demand, Report};
 use lot_base::{NoMemory, Phase, Prices, Terms};
 use std::alloc::Global;
@@ -20,6 +21,7 @@ pub struct Clock {
     steps: u32,
     phase: Phase,
     prices: Prices,
+    account: Account,
 }
 
 impl Model for Clock {
@@ -30,7 +32,7 @@ impl Model for Clock {
 
     ghost view = { λ c. record { terms = c.terms; number = c.number; reports = c.reports.items } };
 
-    ghost invariant = { λ c. IsKept (record { terms = c.terms; number = c.number; reports = c.reports.items }) c.current c.steps c.phase c.prices };
+    ghost invariant = { λ c. IsKept (record { terms = c.terms; number = c.number; reports = c.reports.items }) c.current c.steps c.phase c.prices c.account };
 }
 
 /// What a clock shows: its last or current round, how it stands and at which prices.
@@ -52,6 +54,8 @@ impl Clock {
     ghost use Rattle.clock.specs.Reports.{demand_in, with_report};
     ghost use Rattle.clock.specs.Standing.{HasSteps, steps_of, last_round, phase_of, prices_of, missing_of};
     ghost use Rattle.clock.specs.Judging.{judgement_of, IsJudgement, IsLegal};
+    ghost use Rattle.clock.specs.Accounts.{account_without};
+    ghost use Rattle.credit_book.specs.Account.{sum_without};
     ghost use Rattle.clock.specs.declared.judging.Judgement.TheVariants.{Take};
 
     /// A clock of these terms without reports.
@@ -60,7 +64,9 @@ impl Clock {
         ensures { IfOk result (λ c. c ≡ record { terms = terms.now; number = number; reports = [] }) }
     {
         let reports = Vec::new(alloc);
-        let standing = Standing::next(terms, number, &reports, 0, 0, &Prices::zero(&terms.goods));
+        let mut account = Account::new();
+        let prices = Prices::zero(&terms.goods);
+        let standing = Standing::next(terms, number, &reports, 0, 0, &prices, &mut account);
         Ok(Clock {
             terms: *terms,
             number,
@@ -69,6 +75,7 @@ impl Clock {
             steps: standing.steps,
             phase: standing.phase,
             prices: standing.prices,
+            account,
         })
     }
 
@@ -144,6 +151,7 @@ impl Clock {
             self.current,
             self.steps,
             &self.prices,
+            &mut self.account,
         );
         self.current = standing.current;
         self.steps = standing.steps;
@@ -167,6 +175,14 @@ impl Clock {
         ensures few { result ≤ 60000 }
     {
         self.steps
+    }
+
+    /// What the steps add up to for the members.
+    pub fn account(&self) -> &Account
+        ensures sums { (bidder : ℕ) → sum_without result.now bidder ≡ account_without self.now bidder }
+        ensures steps { result.now.steps ≡ steps_of self.now }
+    {
+        &self.account
     }
 
     /// The last or current round.
