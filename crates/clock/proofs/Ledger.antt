@@ -15,7 +15,9 @@ use Rattle.demand_set.specs.declared.reports.Report.{Report}
 use Rattle.credit_book.specs.Account.{Sums, sum_without, units_left, least_in, others}
 use Rattle.clock.specs.Reports.{ClockHistory, with_report, members, members_of, demand_in, demands_in, is_full}
 use Rattle.clock.specs.Standing.{leads_on, is_full_after, step_set_after, good_at_ceiling}
-use Rattle.clock.specs.Accounts.{account_after}
+use Rattle.lot_base.specs.declared.phases.Phase.{Phase}
+use Rattle.clock.specs.Accounts.{account_after, account_without}
+use Rattle.clock.specs.Kept.{IsKept}
 use Rattle.clock.specs.Tables.{is_member_of, AreTablesOf}
 use Rattle.clock.proofs.Path.{both, compare-or}
 use Rattle.clock.proofs.Append.{least-stays, step-stays}
@@ -179,3 +181,8 @@ account-next c bidders n = let e : n + 1 ≡ suc n = omega arith in ap (account_
 pub account-zero : (c : ClockHistory) (bidders : List ℕ) → account_after c bidders 0 ≡ pos 0
 unfolding account_after
 account-zero c bidders = refl
+
+-- the account that a clock keeps is that of its history
+pub account-kept : (c kept : ClockHistory) (current steps : ℕ) (phase : Phase) (prices : List ℕ) (account : Sums) (b : ℕ) → IsKept c current steps phase prices account → c ≡ kept → sum_without account b ≡ account_without kept b
+account-kept c kept current steps phase prices account b k same =
+    k.account_is b ∙ ap (account_after c (without b (members_of c))) k.steps_are ∙ ap (λ h. account_without h b) same

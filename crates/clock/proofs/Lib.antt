@@ -8,3 +8,4 @@ pub mod Next
 pub mod Ledger
 pub mod After
 pub mod Judges
+pub mod Truthful
