@@ -1,5 +1,5 @@
 -- Files in memory, as a shelf holds them. A disk that was closed is kept in its file's place.
-use Rattle.std.specs.Prelude.{ℕ, Bool, List, Option, Some, None, if◌then◌else◌, map, option_map, unwrap_or, string_bytes}
+use Rattle.std.specs.Prelude.{ℕ, Bool, true, List, [], Option, Some, None, if◌then◌else◌, map, option_map, unwrap_or, string_bytes}
 use Rattle.house_io.specs.declared.sure_shelf.SureFile.{SureFile}
 use Rattle.house_io.specs.declared.shelved.SureEntry.{SureEntry}
 use Rattle.house_io.specs.Moments.{Moments, opened}
@@ -12,6 +12,10 @@ pub record Shelved : Type 0 where
   pub opened : List (List ℕ)
   pub room : ℕ
   pub told : Bool
+
+-- a shelf before the first call
+abbrev pub fresh_shelf : List NamedFile → ℕ → Shelved
+fresh_shelf files room = record { files = files; opened = []; room = room; told = true }
 
 -- what a file in memory stands for
 abbrev pub named_file : SureFile → NamedFile

@@ -6,8 +6,8 @@ ghost use Rattle.house_io.specs.Places.{HasNone, IsFirstAt};
 ghost use Rattle.house_io.specs.declared.shelves.Refusal.TheVariants as why;
 ghost use Rattle.house_io.specs.Shelves.{Adds, KeepsNames, RisesOnly, IsRefused, bytes_of, file_of, moments_at};
 ghost use Rattle.house_io.specs.Counts.{count_of, names_of};
-ghost use Rattle.house_io.specs.ListShelves.{Answers, listed_file, source_on, shown_files};
-ghost use Rattle.house_io.specs.ListForms.{IsToFail, begun, counted};
+ghost use Rattle.house_io.specs.ListShelves.{Answers, fresh_shelf, listed_file, source_on, shown_files};
+ghost use Rattle.house_io.specs.ListForms.{IsToFail, counted};
 ghost use Rattle.house_io.specs.ListFiles.{files_as_listed, moments_in, entry_as_listed, entries_as_listed};
 
 use crate::failing::FailingCalls;
@@ -62,7 +62,7 @@ impl ListShelf {
         room: u32,
         failing: Vec<u64>,
     ) -> Result<ListShelf, NoMemory>
-        ensures { IfOk result (λ shelf. shelf ≡ record { files = files_as_listed files.items; plan = begun failing.items; counts = []; room = room; told = true }) }
+        ensures { IfOk result (λ shelf. shelf ≡ fresh_shelf (files_as_listed files.items) room failing.items) }
     {
         let Ok(files) = entries_of(alloc, files) else {
             return Err(NoMemory);

@@ -2,7 +2,7 @@
 ghost use Rattle.std.specs.Prelude.{◌≡◌, ◌<◌, [], ℕ, List, Option, Some, None, true, unwrap_or, option_map, ◌∷◌, ◌++◌, IfOk, IfErr, OnOk, OnErr, IsTrue, Contains, MatchOption, string_bytes};
 ghost use Rattle.house_io.specs.Places.{HasNone, IsFirstAt};
 ghost use Rattle.house_io.specs.Shelves.{file_of, bytes_of, moments_at, KeepsNames};
-ghost use Rattle.house_io.specs.SureFiles.{named_files, named_entries, entry_moments};
+ghost use Rattle.house_io.specs.SureFiles.{fresh_shelf, named_files, named_entries, entry_moments};
 ghost use Rattle.house_io.specs.Moments.{opened};
 ghost use Rattle.house_io.specs.Recorded.{moments_of};
 ghost use Rattle.house_io.specs.declared.shelves.Refusal.TheVariants as why;
@@ -50,7 +50,7 @@ impl Model for SureShelf {
 impl SureShelf {
     /// A shelf with these files. The room is that of each disk that is opened on it.
     pub fn new(alloc: Global, files: Vec<SureFile>, room: u32) -> Result<SureShelf, NoMemory>
-        ensures { IfOk result (λ shelf. shelf ≡ record { files = named_files files.items; opened = []; room = room; told = true }) }
+        ensures { IfOk result (λ shelf. shelf ≡ fresh_shelf (named_files files.items) room) }
     {
         let Ok(files) = entries_of(alloc, files) else {
             return Err(NoMemory);

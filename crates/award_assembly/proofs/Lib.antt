@@ -1,0 +1,6 @@
+pub mod Adding
+pub mod Filling
+pub mod Picks
+pub mod Places
+pub mod Reaching
+pub mod Walking

@@ -1,0 +1,148 @@
+//! What the demands behind can still make clear.
+ghost use Rattle.std.specs.Prelude.{◌≡◌, ◌≤◌, ◌<◌, ℕ, List, [], ◌∷◌, false, find, length, slice_index_or, IfOk};
+ghost use Rattle.std.specs.List.{AllByRecursion};
+ghost use Rattle.lot_base.specs.Goods.{plus, zeros, is_within, box_size, AtMost};
+ghost use Rattle.lot_base.specs.Box.{bundle_at, index_of};
+ghost use Rattle.lot_base.specs.Choices.{clears};
+ghost use Rattle.lot_base.specs.Demands.{IsDemand};
+
+use demand_set::Demand;
+use lot_base::{Bundle, Goods, Prices};
+use std::alloc::{AllocError, Global};
+use std::marker::Model;
+
+/// A truth value for each bundle of the box, at the bundle's place: whether the demands behind can make a choice that
+/// clears where the bundle is taken already.
+#[derive(Drop)]
+pub(crate) struct Reach {
+    totals: Vec<bool>,
+}
+
+impl Model for Reach {
+    ghost use Rattle.std.specs.Prelude.{Bool, List};
+
+    ghost Value = { List Bool };
+
+    ghost view = { λ r. r.totals.items };
+}
+
+impl Reach {
+    ghost use Rattle.award_assembly.specs.Remaining.{IsReach, has_total};
+
+    /// With no demand behind, the totals that clear.
+    pub(crate) fn last(alloc: Global, goods: &Goods, prices: &Prices) -> Result<Reach, AllocError>
+        requires { length prices.now ≡ length goods.now }
+        ensures { IfOk result (IsReach goods.now (zeros goods.now) prices.now []) }
+    {
+        let mut totals = Vec::new(alloc);
+        for place in 0..goods.box_size() {
+            totals.push(clears(goods, prices, &goods.bundle(place)))?;
+        }
+        Ok(Reach { totals })
+    }
+
+    /// With this demand before those behind.
+    pub(crate) fn before(
+        &self,
+        alloc: Global,
+        goods: &Goods,
+        demand: &Demand,
+    ) -> Result<Reach, AllocError>
+        requires size { length self.now ≡ box_size goods.now }
+        requires demand { IsDemand goods.now demand.now }
+        ensures { (p : List ℕ) (behind : List (List (List ℕ))) → IsReach goods.now (zeros goods.now) p behind self.now →
+            IfOk result (IsReach goods.now (zeros goods.now) p (demand.now ∷ behind)) }
+    {
+        let mut totals = Vec::new(alloc);
+        for place in 0..goods.box_size() {
+            let taken = goods.bundle(place);
+            totals.push(self.first(goods, demand, &taken).is_some())?;
+        }
+        Ok(Reach { totals })
+    }
+
+    /// The first bundle of a demand that makes a true total with what is taken.
+    pub(crate) fn first(&self, goods: &Goods, demand: &Demand, taken: &Bundle) -> Option<Bundle>
+        requires size { length self.now ≡ box_size goods.now }
+        requires demand { IsDemand goods.now demand.now }
+        requires taken { AtMost taken.now goods.now }
+        ensures { result ≡ find (λ x. has_total goods.now self.now (plus taken.now x)) demand.now }
+    {
+        for place in 0..demand.len() {
+            let bundle = demand.get(place);
+            if self.has_sum(goods, taken, &bundle) {
+                return Some(bundle);
+            }
+        }
+        None
+    }
+
+    /// Whether the two bundles together are a true total.
+    fn has_sum(&self, goods: &Goods, x: &Bundle, y: &Bundle) -> bool
+        requires size { length self.now ≡ box_size goods.now }
+        requires x { AtMost x.now goods.now }
+        requires y { AtMost y.now goods.now }
+        ensures { result ≡ has_total goods.now self.now (plus x.now y.now) }
+    {
+        fit_together(goods, x, y) && self.has(place_of_sum(goods, x, y))
+    }
+
+    /// Whether the bundle at a place is a true total.
+    pub(crate) fn has(&self, place: u32) -> bool
+        requires { place < length self.now }
+        ensures { result ≡ slice_index_or self.now place false }
+    {
+        self.totals[place as usize]
+    }
+}
+
+/// Whether the two bundles together are within the supply.
+fn fit_together(goods: &Goods, x: &Bundle, y: &Bundle) -> bool
+    requires x { length x.now ≡ length goods.now }
+    requires y { length y.now ≡ length goods.now }
+    ensures { result ≡ is_within goods.now (plus x.now y.now) }
+{
+    for good in 0..goods.count() {
+        if x.quantity(good) as u32 + y.quantity(good) as u32 > goods.supply(good) as u32 {
+            return false;
+        }
+    }
+    true
+}
+
+/// The two bundles together.
+pub(crate) fn sum_of(goods: &Goods, x: &Bundle, y: &Bundle) -> Bundle
+    requires x { AtMost x.now goods.now }
+    requires y { AtMost y.now goods.now }
+    requires sum { AtMost (plus x.now y.now) goods.now }
+    ensures { result ≡ plus x.now y.now }
+{
+    goods.bundle(place_of_sum(goods, x, y))
+}
+
+/// The place of the two bundles together: no digit of the sum is carried.
+fn place_of_sum(goods: &Goods, x: &Bundle, y: &Bundle) -> u32
+    requires x { AtMost x.now goods.now }
+    requires y { AtMost y.now goods.now }
+    requires sum { AtMost (plus x.now y.now) goods.now }
+    ensures place { result ≡ index_of goods.now (plus x.now y.now) }
+    ensures below { result < box_size goods.now }
+    ensures inverse { bundle_at goods.now result ≡ plus x.now y.now }
+{
+    let _goods = goods.count();
+    goods.index(x) + goods.index(y)
+}
+
+/// Whether a total within the supply is all of it on each good with a price.
+fn clears(goods: &Goods, prices: &Prices, total: &Bundle) -> bool
+    requires prices { length prices.now ≡ length goods.now }
+    requires total { AtMost total.now goods.now }
+    ensures { result ≡ clears (zeros goods.now) prices.now total.now goods.now }
+{
+    for good in 0..goods.count() {
+        if prices.get(good) > 0 && total.quantity(good) != goods.supply(good) {
+            return false;
+        }
+    }
+    true
+}

@@ -1,0 +1,116 @@
+//! What no clause says: that calls succeed where there is memory, and choices that were worked by hand.
+ghost use Rattle.std.specs.Prelude.{IfOk};
+ghost use Rattle.lot_base.specs.Demands.{IsDemand};
+
+use crate::{Assembly, Choice, assemble};
+use demand_set::{Demand, DemandFault};
+use lot_base::{Bundle, Goods, Prices, RawDemand, compare};
+use std::alloc::Global;
+use std::cmp::Ordering;
+use std::process::Abort;
+use std::test::Fail;
+
+fn read(
+    rt: &impl Abort,
+    alloc: Global,
+    goods: &Goods,
+    quantities: &[u16],
+) -> Result<Demand, DemandFault>
+    ensures { IfOk result (λ d. IsDemand goods.now d) }
+{
+    let count = goods.count();
+    let quantities = quantities.to_vec(alloc)?;
+    assert!(rt; count >= 1 && count <= 6);
+    assert_eq!(rt; quantities.len() % count as usize, 0);
+    let raw = RawDemand {
+        goods: count,
+        quantities,
+    };
+    Demand::read(alloc, goods, &raw)
+}
+
+/// The choice for two demands.
+fn choice_of(
+    rt: &impl Abort,
+    alloc: Global,
+    supply: &[u16],
+    prices: &[u32],
+    demands: [&[u16]; 2],
+) -> Result<Option<Choice>, Fail> {
+    let goods = Goods::new(supply)?;
+    let prices = Prices::read(prices).ok_or("prices")?;
+    assert_eq!(rt; prices.count(), goods.count());
+    let first = read(rt, alloc, &goods, demands[0])?;
+    let second = read(rt, alloc, &goods, demands[1])?;
+    match assemble(alloc, &goods, &prices, &[first, second])? {
+        Assembly::Award(choice) => Ok(Some(choice)),
+        Assembly::NoChoice => Ok(None),
+    }
+}
+
+fn is_bundle(bundle: &Bundle, quantities: &[u16]) -> Result<bool, Fail> {
+    let wanted = Bundle::read(quantities).ok_or("bundle")?;
+    Ok(compare(bundle, &wanted) == Ordering::Equal)
+}
+
+#[test]
+fn awards_the_first_choice_that_clears(rt: HostRuntime) -> Result<(), Fail> {
+    let both = [0, 1].as_slice();
+    let upto_two = [0, 1, 2].as_slice();
+    for (supply, price, demands, first, second) in [
+        // A unit with a price must be sold, and the first bundles do not sell it.
+        ([1], [4], [both, both], [0], [1]),
+        // Without a price it need not be.
+        ([1], [0], [both, both], [0], [0]),
+        // Of several choices the one at the first places.
+        ([2], [1], [upto_two, upto_two], [0], [2]),
+    ] {
+        let choice = choice_of(&rt, rt.alloc(), &supply, &price, demands)?.ok_or("no choice")?;
+        assert_eq!(rt; choice.len(), 2);
+        assert!(rt; is_bundle(&choice.get(0), &first)?, "at {price:?}");
+        assert!(rt; is_bundle(&choice.get(1), &second)?, "at {price:?}");
+    }
+    Ok(())
+}
+
+#[test]
+fn keeps_the_goods_apart(rt: HostRuntime) -> Result<(), Fail> {
+    // (0,2) and (0,1) are three units of good 1, of which there are two; as places they add up to that of (1,0).
+    let choice = choice_of(&rt, rt.alloc(), &[1, 2], &[1, 0], [&[0, 2], &[0, 1, 1, 0]])?;
+    let bundles = choice.ok_or("no choice")?.into_vec();
+    assert_eq!(rt; bundles.len(), 2);
+    assert!(rt; is_bundle(&bundles[0], &[0, 2])?);
+    assert!(rt; is_bundle(&bundles[1], &[1, 0])?);
+    Ok(())
+}
+
+#[test]
+fn finds_no_choice(rt: HostRuntime) -> Result<(), Fail> {
+    // One reports (0,0), the other (0,0), (0,1) and (1,0): at prices 2 and 2 no two of them sell both goods.
+    let none = choice_of(
+        &rt,
+        rt.alloc(),
+        &[1, 1],
+        &[2, 2],
+        [&[0, 0], &[0, 0, 0, 1, 1, 0]],
+    )?;
+    assert!(rt; none.is_none());
+    // Two units each of two.
+    let none = choice_of(&rt, rt.alloc(), &[2], &[0], [&[2], &[2]])?;
+    assert!(rt; none.is_none());
+    Ok(())
+}
+
+#[test]
+fn clears_without_demands_where_nothing_has_a_price(rt: HostRuntime) -> Result<(), Fail> {
+    let goods = Goods::new(&[1, 1])?;
+    for (prices, clears) in [([0, 0], true), ([0, 1], false)] {
+        let prices = Prices::read(&prices).ok_or("prices")?;
+        assert_eq!(rt; prices.count(), goods.count());
+        match assemble(rt.alloc(), &goods, &prices, &[])? {
+            Assembly::Award(choice) => assert!(rt; clears && choice.len() == 0),
+            Assembly::NoChoice => assert!(rt; !clears),
+        }
+    }
+    Ok(())
+}
