@@ -1,5 +1,5 @@
 //! The least and the greatest quantities of a demand on each set of goods.
-ghost use Rattle.std.specs.Prelude.{◌≡◌, ◌^◌, ◌<◌, ◌≤◌, ◌+◌, ◌*◌, ◌-◌, ℕ, List, length, slice_index, min, max};
+ghost use Rattle.std.specs.Prelude.{◌≡◌, ◌^◌, ◌<◌, ◌≤◌, ◌+◌, ℕ, length, slice_index, min, max};
 ghost use Rattle.std.specs.List.{AllByRecursion};
 ghost use Rattle.lot_base.specs.Goods.{quantity_in};
 ghost use Rattle.lot_base.specs.Demands.{IsDemand, IsTable, least, greatest};

@@ -1,5 +1,5 @@
 //! How a demand is written out again.
-ghost use Rattle.std.specs.Prelude.{◌≡◌, ◌<◌, ◌≤◌, ◌++◌, ℕ, List, length, Ok, IfOk, OnOk};
+ghost use Rattle.std.specs.Prelude.{◌≡◌, ◌≤◌, ◌++◌, ℕ, List, length, Ok, IfOk, OnOk};
 ghost use Rattle.std.specs.List.{AllByRecursion, concat};
 
 use crate::reading::Demand;

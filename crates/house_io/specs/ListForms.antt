@@ -2,7 +2,7 @@
 use Rattle.std.specs.Prelude.{ℕ, ◌+◌, ◌-◌, ◌^◌, min, List, Result, Ok, Err, Contains}
 use Rattle.house_io.specs.declared.Failed.{Failed}
 use Rattle.house_io.specs.Faults.{raised_by}
-use Rattle.house_io.specs.SureForms.{Kept}
+use Rattle.house_io.specs.SureForms.{Kept, empty_sink}
 
 -- The numbers of the calls that are to fail, counted from 0, and how many calls there were. That count stands still
 -- at the last value of 64 bits.
@@ -33,8 +33,16 @@ pub record ListedSource : Type 0 where
   pub plan : CallPlan
   pub faults : ℕ
 
+-- a source before the first call
+abbrev pub fresh_source : List ℕ → List ℕ → ListedSource
+fresh_source bytes failing = record { left = bytes; plan = begun failing; faults = 0 }
+
 -- a sink: what it kept, the plan, and the count of its faults
 pub record ListedSink : Type 0 where
   pub kept : Kept
   pub plan : CallPlan
   pub faults : ℕ
+
+-- a sink before the first call
+abbrev pub fresh_sink : ℕ → List ℕ → ListedSink
+fresh_sink room failing = record { kept = empty_sink room; plan = begun failing; faults = 0 }

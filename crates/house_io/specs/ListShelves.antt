@@ -1,10 +1,10 @@
 -- A shelf in memory of which chosen calls fail. Of two files of one name the first counts.
-use Rattle.std.specs.Prelude.{◌≡◌, ◌⊎◌, ℕ, List, Option, Some, None, Result, Ok, Err, bytes_eq, find, map, option_map}
+use Rattle.std.specs.Prelude.{◌≡◌, ◌⊎◌, ℕ, List, [], Option, Some, None, Result, Ok, Err, bytes_eq, find, map, option_map}
 use Rattle.house_io.specs.declared.shelves.Refusal.{Refusal}
 use Rattle.house_io.specs.declared.shelves.Refusal.TheVariants as why
 use Rattle.house_io.specs.Shelves.{NamedFile, Adds}
 use Rattle.house_io.specs.Counts.{NamedCount, count_of}
-use Rattle.house_io.specs.ListForms.{CallPlan, ListedSource, IsToFail, begun, counted}
+use Rattle.house_io.specs.ListForms.{CallPlan, ListedSource, IsToFail, begun, counted, fresh_source}
 
 -- a file: its name, its bytes, and the calls that are to fail on a source that is opened on it
 pub record ListedFile : Type 0 where
@@ -19,6 +19,10 @@ pub record ListedShelf : Type 0 where
   pub counts : List NamedCount
   pub room : ℕ
 
+-- a shelf before the first call
+abbrev pub fresh_shelf : List ListedFile → ℕ → List ℕ → ListedShelf
+fresh_shelf files room failing = record { files = files; plan = begun failing; counts = []; room = room }
+
 -- what a read of a file gives
 abbrev pub shown_file : ListedFile → NamedFile
 shown_file file = record { name = file.name; bytes = file.bytes }
@@ -32,7 +36,7 @@ listed_file files name = find (λ file. bytes_eq file.name name) files
 
 -- a source that is opened on a file
 abbrev pub source_on : ListedFile → ListedSource
-source_on file = record { left = file.bytes; plan = begun file.failing; faults = 0 }
+source_on file = fresh_source file.bytes file.failing
 
 -- an opening that was answered counts as a call, and changes no file
 abbrev pub CountsCall : ListedShelf → ListedShelf → Type 0

@@ -1,5 +1,5 @@
 -- Files in memory, as a shelf holds them.
-use Rattle.std.specs.Prelude.{ℕ, List, map, string_bytes}
+use Rattle.std.specs.Prelude.{ℕ, List, [], map, string_bytes}
 use Rattle.house_io.specs.declared.sure_shelf.SureFile.{SureFile}
 use Rattle.house_io.specs.Shelves.{NamedFile}
 
@@ -8,6 +8,10 @@ pub record Shelved : Type 0 where
   pub files : List NamedFile
   pub opened : List (List ℕ)
   pub room : ℕ
+
+-- a shelf before the first call
+abbrev pub fresh_shelf : List NamedFile → ℕ → Shelved
+fresh_shelf files room = record { files = files; opened = []; room = room }
 
 -- what a file in memory stands for
 abbrev pub named_file : SureFile → NamedFile

@@ -5,7 +5,7 @@ ghost use Rattle.house_io.specs.Told.{IfTold};
 ghost use Rattle.house_io.specs.Sources.{Pulls};
 ghost use Rattle.house_io.specs.Sinks.{IsPart, Pushes};
 ghost use Rattle.house_io.specs.SureForms.{Keeps};
-ghost use Rattle.house_io.specs.ListForms.{ListedSource, ListedSink, IsToFail, begun, counted, faults_after};
+ghost use Rattle.house_io.specs.ListForms.{ListedSource, ListedSink, IsToFail, counted, faults_after, fresh_source, fresh_sink};
 
 use crate::failing::FailingCalls;
 use crate::{Failed, Sink, Source, SureSink, SureSource};
@@ -30,14 +30,14 @@ impl Model for ListSource {
 impl ListSource {
     /// A source of these bytes, of which the calls with these numbers fail. It needs no memory of its own.
     pub fn new(_alloc: Global, bytes: Vec<u8>, failing: Vec<u64>) -> Result<ListSource, NoMemory>
-        ensures { IsOkAnd result (λ source. source ≡ record { left = bytes.items; plan = begun failing.items; faults = 0 }) }
+        ensures { IsOkAnd result (λ source. source ≡ fresh_source bytes.items failing.items) }
     {
         Ok(ListSource::whole(bytes, failing))
     }
 
     /// A source of these bytes, of which the calls with these numbers fail.
     pub(crate) fn whole(bytes: Vec<u8>, failing: Vec<u64>) -> ListSource
-        ensures { result ≡ record { left = bytes.items; plan = begun failing.items; faults = 0 } }
+        ensures { result ≡ fresh_source bytes.items failing.items }
     {
         ListSource {
             source: SureSource::whole(bytes),
@@ -92,7 +92,7 @@ impl Model for ListSink {
 impl ListSink {
     /// An empty sink with room for so many bytes, of which the calls with these numbers fail.
     pub fn new(alloc: Global, room: u32, failing: Vec<u64>) -> Result<ListSink, NoMemory>
-        ensures { IfOk result (λ sink. sink ≡ record { kept = record { written = Some []; room = room }; plan = begun failing.items; faults = 0 }) }
+        ensures { IfOk result (λ sink. sink ≡ fresh_sink room failing.items) }
     {
         match SureSink::new(alloc, room) {
             Ok(sink) => Ok(ListSink {

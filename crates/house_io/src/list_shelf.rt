@@ -1,9 +1,9 @@
 //! Files in memory of which chosen calls fail.
-ghost use Rattle.std.specs.Prelude.{◌≡◌, [], ℕ, List, Option, Some, None, IfOk, IsOkAnd, OnOk, Contains, MatchOption, option_map};
+ghost use Rattle.std.specs.Prelude.{◌≡◌, [], ℕ, List, Option, Some, None, IfOk, IsOkAnd, OnOk, Contains, option_map};
+ghost use Rattle.std.specs.Option.{option_copied};
 ghost use Rattle.house_io.specs.Shelves.{Adds, KeepsNames, bytes_of};
 ghost use Rattle.house_io.specs.Counts.{count_of, names_of};
-ghost use Rattle.house_io.specs.ListShelves.{ListedShelf, Answers, listed_file, source_on};
-ghost use Rattle.house_io.specs.ListForms.{begun};
+ghost use Rattle.house_io.specs.ListShelves.{ListedShelf, Answers, fresh_shelf, listed_file, shown_files, source_on};
 ghost use Rattle.house_io.specs.ListFiles.{file_as_listed, files_as_listed};
 
 use crate::failing::FailingCalls;
@@ -54,7 +54,7 @@ impl ListShelf {
         room: u32,
         failing: Vec<u64>,
     ) -> Result<ListShelf, NoMemory>
-        ensures { IsOkAnd result (λ shelf. shelf ≡ record { files = files_as_listed files.items; plan = begun failing.items; counts = []; room = room }) }
+        ensures { IsOkAnd result (λ shelf. shelf ≡ fresh_shelf (files_as_listed files.items) room failing.items) }
     {
         Ok(ListShelf {
             files,
@@ -66,7 +66,8 @@ impl ListShelf {
 
     /// The bytes of a file.
     pub fn file(&self, name: &str) -> Option<&[u8]>
-        ensures { MatchOption result (listed_file self.now.files name.now ≡ None) (λ bytes. option_map (λ file. file.bytes) (listed_file self.now.files name.now) ≡ Some bytes.now) }
+        ensures { option_copied result
+            ≡ option_map (λ file. file.bytes) (listed_file self.now.files name.now) }
     {
         match file_named(&self.files, name) {
             Some(file) => Some(&file.bytes),
@@ -77,7 +78,8 @@ impl ListShelf {
 
 /// The first file of a name.
 fn file_named<'a>(files: &'a [ListFile], name: &str) -> Option<&'a ListFile>
-    ensures { MatchOption result (listed_file (files_as_listed files.now) name.now ≡ None) (λ file. listed_file (files_as_listed files.now) name.now ≡ Some (file_as_listed file.now)) }
+    ensures { option_map file_as_listed (option_copied result)
+        ≡ listed_file (files_as_listed files.now) name.now }
 {
     for file in files {
         if file.name.as_str() == name {
@@ -102,7 +104,8 @@ fn source_named(
     files: &[ListFile],
     name: &str,
 ) -> Result<Option<ListSource>, AllocError>
-    ensures { IfOk result (λ source. source ≡ option_map source_on (listed_file (files_as_listed files.now) name.now)) }
+    ensures { IfOk result (λ source.
+        source ≡ option_map source_on (listed_file (files_as_listed files.now) name.now)) }
 {
     match file_named(files, name) {
         Some(file) => match copy_of(alloc, file) {
@@ -114,8 +117,6 @@ fn source_named(
 }
 
 impl Shelf for ListShelf {
-    ghost use Rattle.house_io.specs.ListShelves.{shown_files};
-
     type Source = ListSource;
 
     ghost files = { λ shelf. Some (shown_files shelf.files) };
@@ -126,7 +127,8 @@ impl Shelf for ListShelf {
 
     fn source(&mut self, alloc: Global, name: &str) -> Result<ListSource, Refusal>
         ensures answer { Answers self.old name.now result self.new }
-        ensures bytes { IfOk result (λ source. bytes_of (shown_files self.old.files) name.now ≡ Some source.left) }
+        ensures bytes { IfOk result (λ source.
+            bytes_of (shown_files self.old.files) name.now ≡ Some source.left) }
         ensures opened { OnOk result (Contains (names_of self.new.counts) name.now) }
         ensures kept { KeepsNames (names_of self.old.counts) (names_of self.new.counts) }
     {

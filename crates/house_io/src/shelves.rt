@@ -33,7 +33,8 @@ pub trait Shelf {
             Begins (bytes_of shelved name.now) (Self.Source.Source.left source))) }
         ensures files { ChangesNone (files self.old) (files self.new) }
         ensures counts { RisesOnly name.now (faults self.old) (faults self.new) }
-        ensures refused { IfErr result (λ refusal. IsRefused refusal (faults self.old name.now) (faults self.new name.now)) }
+        ensures refused { IfErr result (λ refusal.
+            IsRefused refusal (faults self.old name.now) (faults self.new name.now)) }
         ensures opened { OnOk result (Contains (opened self.new) name.now) }
         ensures kept { KeepsNames (opened self.old) (opened self.new) };
 

@@ -4,7 +4,7 @@ ghost use Rattle.house_io.specs.Faults.{HasCause};
 ghost use Rattle.house_io.specs.Told.{IfTold};
 ghost use Rattle.house_io.specs.Sources.{Pulls, Takes};
 ghost use Rattle.house_io.specs.Sinks.{IsPart, Pushes};
-ghost use Rattle.house_io.specs.SureForms.{Kept, Keeps};
+ghost use Rattle.house_io.specs.SureForms.{Kept, Keeps, empty_sink};
 
 use crate::{Failed, Sink, Source};
 use lot_base::NoMemory;
@@ -80,7 +80,10 @@ pub struct SureSink {
 impl Model for SureSink {
     ghost Value = { Kept };
 
-    ghost view = { λ sink. record { written = (if sink.overflowed then None else Some sink.bytes.items); room = sink.room } };
+    ghost view = { λ sink. record {
+      written = (if sink.overflowed then None else Some sink.bytes.items);
+      room = sink.room;
+    } };
 
     ghost invariant = { λ sink. vec_len sink.bytes + sink.room ≤ vec_capacity sink.bytes };
 }
@@ -88,7 +91,7 @@ impl Model for SureSink {
 impl SureSink {
     /// An empty sink with room for so many bytes.
     pub fn new(alloc: Global, room: u32) -> Result<SureSink, NoMemory>
-        ensures { IfOk result (λ sink. sink ≡ record { written = Some []; room = room }) }
+        ensures { IfOk result (λ sink. sink ≡ empty_sink room) }
     {
         let room = room as usize;
         match Vec::with_capacity(alloc, room) {

@@ -1,7 +1,8 @@
 //! Files in memory that never fail.
-ghost use Rattle.std.specs.Prelude.{◌≡◌, [], ℕ, List, Option, Some, None, unwrap_or, IfOk, IfErr, IsOkAnd, OnOk, OnErr, IsSome, Contains, MatchOption};
+ghost use Rattle.std.specs.Prelude.{◌≡◌, [], ℕ, List, Option, Some, None, unwrap_or, option_map, IfOk, IfErr, IsOkAnd, OnOk, OnErr, IsSome, Contains, MatchOption};
+ghost use Rattle.std.specs.Option.{option_copied};
 ghost use Rattle.house_io.specs.Shelves.{NamedFile, file_of, bytes_of, Adds, KeepsNames};
-ghost use Rattle.house_io.specs.SureFiles.{Shelved, named_file, named_files};
+ghost use Rattle.house_io.specs.SureFiles.{Shelved, fresh_shelf, named_file, named_files};
 ghost use Rattle.house_io.specs.declared.shelves.Refusal.TheVariants as why;
 
 use crate::tallies::Tallies;
@@ -43,7 +44,7 @@ impl Model for SureShelf {
 impl SureShelf {
     /// A shelf with these files. The room is that of each disk that is opened on it.
     pub fn new(alloc: Global, files: Vec<SureFile>, room: u32) -> Result<SureShelf, NoMemory>
-        ensures { IsOkAnd result (λ shelf. shelf ≡ record { files = named_files files.items; opened = []; room = room }) }
+        ensures { IsOkAnd result (λ shelf. shelf ≡ fresh_shelf (named_files files.items) room) }
     {
         Ok(SureShelf {
             files,
@@ -54,7 +55,7 @@ impl SureShelf {
 
     /// The bytes of a file.
     pub fn file(&self, name: &str) -> Option<&[u8]>
-        ensures { MatchOption result (bytes_of self.now.files name.now ≡ None) (λ bytes. bytes_of self.now.files name.now ≡ Some bytes.now) }
+        ensures { option_copied result ≡ bytes_of self.now.files name.now }
     {
         match file_named(&self.files, name) {
             Some(file) => Some(&file.bytes),
@@ -65,7 +66,8 @@ impl SureShelf {
 
 /// The first file of a name.
 fn file_named<'a>(files: &'a [SureFile], name: &str) -> Option<&'a SureFile>
-    ensures { MatchOption result (file_of (named_files files.now) name.now ≡ None) (λ file. file_of (named_files files.now) name.now ≡ Some (named_file file.now)) }
+    ensures { option_map named_file (option_copied result)
+        ≡ file_of (named_files files.now) name.now }
 {
     for file in files {
         if file.name.as_str() == name {

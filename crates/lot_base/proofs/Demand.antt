@@ -1,3 +1,4 @@
+-- The least and the greatest of a function over a list of bundles, and the bundles that are demanded.
 use Rattle.std.proofs.Common.{◌≡◌, ℕ, ◌≤◌, List, [], ◌∷◌, arith, ap, refl, inl, inr, sym, Bool, true, ◌∙◌}
 use Rattle.std.specs.Prelude.{◌⊎◌, ℤ, ◌≤ℤ◌, filter, fold}
 use Rattle.std.specs.Ordering.{int_eq}

@@ -1,3 +1,4 @@
+-- What an exchange of one unit, or of one for one, does to two bundles: they come closer and cost together what they did.
 use Rattle.std.proofs.Common.{◌≡◌, ℕ, ◌+◌, ◌≤◌, ◌<◌, ◌≢◌, List, length, arith, ap, inl, inr}
 use Rattle.std.specs.Prelude.{◌⊎◌, ℤ}
 use Rattle.std.proofs.lemmas.Int.{ints}

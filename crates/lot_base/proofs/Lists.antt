@@ -1,3 +1,4 @@
+-- Membership of lists of bundles: the box lists exactly the bundles within the supply.
 use Rattle.std.proofs.Common.{◌≡◌, ℕ, ◌+◌, ◌≤◌, ◌<◌, ◌≢◌, List, [], ◌∷◌, ◌++◌, arith, ap, refl, inl, inr, subst, sym}
 use Rattle.std.specs.Prelude.{◌⊎◌, map, flat_map}
 use Rattle.std.proofs.lemmas.List.Concat.{flat_map-cons}

@@ -1,3 +1,4 @@
+-- Sums, least values and raises over what is left of a list.
 use Rattle.std.proofs.Common.{◌≡◌, ℕ, ◌+◌, ◌*◌, ◌-◌, ◌/◌, ◌%◌, ◌≤◌, ◌<◌, List, [], ◌∷◌, length, arith, refl, get_or, drop, drop-cons, add-one, set, take, ◌++◌, append_assoc, ap}
 use Rattle.std.proofs.lemmas.List.{take_more_set}
 use Prim.Native.Nat.{suc, zero, min}

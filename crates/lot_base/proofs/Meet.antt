@@ -1,3 +1,4 @@
+-- Where prices rise by at most one on each good, some bundle is demanded before and after.
 use Rattle.std.proofs.Common.{◌≡◌, ℕ, ◌≤◌, ◌<◌, List, arith, inl, inr, subst, sym}
 use Rattle.std.specs.Prelude.{ℤ, ◌≤ℤ◌}
 use Rattle.std.proofs.lemmas.Int.{ints, by_lt_z}

@@ -1,3 +1,4 @@
+-- The step lemma, and its mirror image, with the set of goods as a list of zeros and ones.
 use Rattle.std.proofs.Common.{◌≡◌, ℕ, ◌≤◌, List, arith}
 use Rattle.std.specs.Prelude.{ℤ, pos, ◌-ℤ◌}
 use Rattle.std.proofs.lemmas.Int.{ints}

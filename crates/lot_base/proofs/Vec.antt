@@ -1,3 +1,4 @@
+-- Costs, distances and bounds of a bundle with one unit more or less of a good.
 use Rattle.std.proofs.Common.{◌≡◌, ℕ, ◌+◌, ◌-◌, ◌≤◌, ◌<◌, ◌≢◌, List, [], ◌∷◌, length, arith, ap, refl, inl, inr}
 use Rattle.std.specs.Prelude.{◌⊎◌}
 use Prim.Native.Nat.{suc, zero}

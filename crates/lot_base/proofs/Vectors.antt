@@ -1,3 +1,4 @@
+-- Lists with a number per good: distances, sets of goods as zeros and ones, halves, meets and joins.
 use Rattle.std.specs.Prelude.{◌≡◌, ℕ, ◌+◌, ◌-◌, ◌/◌, ◌%◌, ◌≤◌, min, max, List, [], ◌∷◌}
 use Prim.Native.Nat.{suc, zero}
 

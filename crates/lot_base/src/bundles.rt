@@ -100,12 +100,14 @@ impl Bundle {
     }
 }
 
+/// Whether there is a quantity for each good, and each is at most the supply.
 fn within(supply: &[u16], quantities: &[u16]) -> bool
     ensures { result ≡ is_within supply.now quantities.now }
 {
     supply.len() == quantities.len() && each_within(supply, quantities)
 }
 
+/// Whether each quantity is at most the supply beside it.
 fn each_within(supply: &[u16], quantities: &[u16]) -> bool
     ensures { result ≡ list_all (λ p. nat_le p.1 p.0) (zip supply.now quantities.now) }
 {
@@ -127,7 +129,7 @@ fn cost_of(prices: &[u32], quantities: &[u16]) -> u64
     total
 }
 
-/// The number whose digit of a good counts up to its supply, the last good's digit counting ones.
+/// The place of the quantities among the bundles of the supply: a number with a digit per good, good 0 first.
 fn place_of(supply: &[u16], quantities: &[u16]) -> u32
     requires within { AtMost quantities.now supply.now }
     requires small { box_size supply.now ≤ 2048 }
@@ -151,7 +153,7 @@ fn six_digits(supply: &[u16], place: u32) -> [u16; 6]
     cells
 }
 
-/// Puts in place of each supply the quantity of the good in the bundle at a place.
+/// Replaces the supply of each good by its quantity in the bundle at a place.
 fn take_digits(units: &mut [u16], place: u32)
     requires few { length units.old ≤ 6 }
     requires small { box_size units.old ≤ 2048 }

@@ -54,7 +54,8 @@ IsExcessOf-more goods tables i d old new below is added = record {
   others = λ set behind. added.others set behind ∙ is.others set behind;
 }
   where
-    entry-more : (old new : ℤ) (total more units total' : ℕ) → old ≡ pos total -ℤ pos units → new ≡ old +ℤ pos more → total' ≡ total + more →
+    entry-more : (old new : ℤ) (total more units total' : ℕ) → old ≡ pos total -ℤ pos units → new ≡ old +ℤ pos more
+        → total' ≡ total + more →
         new ≡ pos total' -ℤ pos units
     entry-more old new total more units total' before after sum = omega (arith, ints, before, after, sum)
 
@@ -74,7 +75,8 @@ IsFew-room goods table is room set is_set =
     units_of e units is low = omega (arith, ints, is, low)
 
 -- the excess of at most eleven small tables leaves room for one more
-pub IsExcessOf-room : (goods : List ℕ) (tables : List LeastTable) (i : ℕ) (table : List ℤ) → IsFew goods → AllByRecursion (λ t. IsSmall t.0) tables →
+pub IsExcessOf-room : (goods : List ℕ) (tables : List LeastTable) (i : ℕ) (table : List ℤ) → IsFew goods
+    → AllByRecursion (λ t. IsSmall t.0) tables →
     i < 12 → IsExcessOf goods (take i tables) table → HasRoom table
 IsExcessOf-room goods tables i table few small below is = record { at_least = λ set. (bounds set).0; at_most = λ set. (bounds set).1 }
   where
@@ -93,7 +95,8 @@ IsExcessOf-room goods tables i table few small below is = record { at_least = λ
     ]
 
 -- a table that is filled from the front with the values of f
-pub entry-set : (table : List ℤ) (i : ℕ) (value : ℤ) (f : ℕ → ℤ) → i < length table → value ≡ f i → ((k : ℕ) → k < i → entry table k ≡ f k) →
+pub entry-set : (table : List ℤ) (i : ℕ) (value : ℤ) (f : ℕ → ℤ) → i < length table → value ≡ f i
+    → ((k : ℕ) → k < i → entry table k ≡ f k) →
     (k : ℕ) → k < i + 1 → entry (set table i value) k ≡ f k
 entry-set table i value f below is before k within =
     elim (cases_eq k i) [
@@ -121,7 +124,8 @@ IsSmall-blank n = record { entries = λ set. blank n set }
 pub IsSmall-set : (table : List ℕ) (i units : ℕ) → units ≤ 2047 → IsSmall table → IsSmall (set table i units)
 IsSmall-set table i units few small = record { entries = written table i units few small.entries }
   where
-    written : (table : List ℕ) (i units : ℕ) → units ≤ 2047 → ((k : ℕ) → slice_index table k ≤ 2047) → (k : ℕ) → slice_index (set table i units) k ≤ 2047
+    written : (table : List ℕ) (i units : ℕ) → units ≤ 2047 → ((k : ℕ) → slice_index table k ≤ 2047) → (k : ℕ)
+        → slice_index (set table i units) k ≤ 2047
     written [] i units few small k = small k
     written (t ∷ table) zero units few small zero = few
     written (t ∷ table) zero units few small (suc k) = small (suc k)

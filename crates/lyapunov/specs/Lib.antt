@@ -1,1 +1,4 @@
 pub mod Excesses
+pub mod Bidders
+pub mod Paths
+pub mod RowsPaths

@@ -8,6 +8,8 @@ ghost use Rattle.std.specs.Prelude.{◌≡◌, ◌≤◌, ℕ, [], List, length,
 ghost use Rattle.std.specs.List.{AllByRecursion};
 ghost use Rattle.lyapunov.specs.Excesses.{IsExcessOf, IsAdded, IsSmall, HasRoom};
 
+pub mod laws;
+
 use lot_base::{Excess, GoodSet, Goods, LeastTable};
 
 /// The excess where nobody demands anything: each set lacks its whole supply.

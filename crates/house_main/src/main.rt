@@ -1,0 +1,35 @@
+//! The program: the words of the command line, the files of the working directory and standard output, given to the top
+//! call. It ends with the top call's status.
+#![tactic(auto)]
+
+use house_io::{FolderShelf, StdoutSink, write_whole};
+use house_run::{Ended, run};
+use std::env;
+use std::io;
+use std::process::ExitCode;
+
+fn main(rt: HostRuntime) -> ExitCode {
+    let mut out = StdoutSink::new(&rt);
+    let ended = match words(&rt) {
+        Ok(words) => {
+            let mut shelf = FolderShelf::new(rt.alloc(), &rt);
+            run(&rt, rt.alloc(), &words, &mut shelf, &mut out)
+        }
+        Err(error) if error.kind() == io::ErrorKind::OutOfMemory => Ended::NoMemory,
+        // Words that are not UTF-8 are no command.
+        Err(_) => match write_whole(&mut out, b"usage\n") {
+            Ok(()) => Ended::Usage,
+            Err(_) => Ended::WriteFault,
+        },
+    };
+    ExitCode::from(ended.status())
+}
+
+/// The words of the command line behind the program's name.
+fn words(rt: &HostRuntime) -> io::Result<Vec<String>> {
+    let mut words = Vec::new(rt.alloc());
+    for word in env::args(rt)?.skip(1) {
+        words.push(word)?;
+    }
+    Ok(words)
+}

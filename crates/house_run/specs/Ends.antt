@@ -1,0 +1,125 @@
+-- How a command ends: what it answers, what it wrote, and why. A job, the command's own work, has an end and a text; then
+-- the text is written, and only that may still fail.
+use Rattle.std.specs.Prelude.{◌≡◌, ◌<◌, ◌≤◌, ◌-◌, ◌^◌, ◌⊎◌, ℕ, List, [], ◌∷◌, ◌++◌, length, take, Option, Some, None, Result, Ok, Err, unwrap_or, codes, decimal, String, string_bytes}
+use Rattle.std.specs.declared.alloc.Global.{Global}
+use Rattle.house_io.specs.Faults.{Rose}
+use Rattle.house_io.specs.Told.{IfTold}
+use Rattle.house_io.specs.Shelves.{NamedFile, IfTells, bytes_of}
+use Rattle.lot_base.specs.declared.auction_terms.Terms.{Terms}
+use Rattle.clock.specs.Reports.{ClockHistory}
+use Rattle.house_run.specs.Words.{Command, Fold, Spells, IsNoCommand}
+use Rattle.house_run.specs.Entries.{log_of}
+use Rattle.house_run.specs.Texts.{standing_of}
+use Rattle.house_run.specs.declared.ends.Ended.{Ended}
+use Rattle.house_run.specs.declared.ends.Ended.TheVariants as how
+use Rattle.house_run.specs.declared.ends.File.{File}
+use Rattle.house_run.specs.declared.ends.File.TheVariants as which
+
+-- the shelf of a call: its files, where they are told, and the counts of faults by name as the call began and as it ended
+pub record ShelfSeen : Type 0 where
+  pub files : Option (List NamedFile)
+  pub faults_before : List ℕ → ℕ
+  pub faults : List ℕ → ℕ
+
+-- the sink of a call: the bytes written, where they are told, and the count of its faults, as the call began and as it ended
+pub record SinkSeen : Type 0 where
+  pub written_before : Option (List ℕ)
+  pub written : Option (List ℕ)
+  pub faults_before : ℕ
+  pub faults : ℕ
+
+-- the bytes of a file, none where it is absent
+abbrev pub content : List NamedFile → List ℕ → List ℕ
+content files name = unwrap_or (bytes_of files name) []
+
+-- the greatest number of bytes of a log
+abbrev pub log_limit : ℕ
+log_limit = 67108864
+
+-- the line of each end but those of a job that was done
+abbrev pub line_of : Ended → List ℕ
+line_of how.Done = []
+line_of how.NoMemory = []
+line_of how.WriteFault = []
+line_of how.Usage = codes "usage\n"
+line_of how.ReadFault = codes "read fault\n"
+line_of (how.TooLong which.Log) = codes "too long log\n"
+line_of (how.BadLog place) = (codes "bad log at " ++ decimal place) ++ codes "\n"
+
+-- The job of `fold`. It is done where the log has no faulty entry, and its text is the standing line of the log's clock. Each
+-- other end has its cause and its line; the want of memory has none, and writes nothing.
+abbrev pub FoldJob : Terms → List ℕ → ShelfSeen → Ended → List ℕ → Type 0
+FoldJob terms log shelf how.Done text =
+    IfTells shelf.files (λ files. (length (content files log) ≤ log_limit) × ((c : ClockHistory) × (log_of terms (content files log) ≡ Ok c) × (text ≡ standing_of c)))
+FoldJob terms log shelf how.NoMemory text = text ≡ []
+FoldJob terms log shelf how.ReadFault text = Rose (shelf.faults_before log) (shelf.faults log) × (text ≡ line_of how.ReadFault)
+FoldJob terms log shelf (how.TooLong which.Log) text =
+    IfTells shelf.files (λ files. log_limit < length (content files log)) × (text ≡ line_of (how.TooLong which.Log))
+FoldJob terms log shelf (how.BadLog place) text =
+    IfTells shelf.files (λ files. (length (content files log) ≤ log_limit) × (log_of terms (content files log) ≡ Err place)) × (text ≡ line_of (how.BadLog place))
+FoldJob terms log shelf how.Usage text = ⊥
+FoldJob terms log shelf how.WriteFault text = ⊥
+
+-- the text of the job where it is done, and else the line of its end
+abbrev pub FoldAnswer : Terms → List ℕ → ShelfSeen → Result (String Global) Ended → Type 0
+FoldAnswer terms log shelf (Ok text) = FoldJob terms log shelf how.Done (string_bytes text)
+FoldAnswer terms log shelf (Err end) = FoldJob terms log shelf end (line_of end)
+
+-- the job of each command
+abbrev pub Job : Command → ShelfSeen → Ended → List ℕ → Type 0
+Job (Fold terms log) shelf end text = FoldJob terms log shelf end text
+
+-- The text was appended, and the answer is the job's end; or the sink's count rose, a front of the text was appended, and the
+-- answer says so.
+pub record WroteWhole (sink : SinkSeen) (end : Ended) (text : List ℕ) (answer : Ended) : Type 0 where
+  pub answer_is : answer ≡ end
+  pub appended : IfTold sink.written_before sink.written (λ before after. after ≡ before ++ text)
+
+pub record WroteFront (sink : SinkSeen) (text : List ℕ) (answer : Ended) : Type 0 where
+  pub answer_is : answer ≡ how.WriteFault
+  pub cause : Rose sink.faults_before sink.faults
+  pub appended : IfTold sink.written_before sink.written (λ before after. after ≡ before ++ take (length after - length before) text)
+
+abbrev pub Wrote : SinkSeen → Ended → List ℕ → Ended → Type 0
+Wrote sink end text answer = WroteWhole sink end text answer ⊎ WroteFront sink text answer
+
+-- the line of an end was written, or memory for it ran out and nothing was
+abbrev pub WroteLine : SinkSeen → Ended → Ended → Type 0
+WroteLine sink end answer = Wrote sink end (line_of end) answer ⊎ Wrote sink how.NoMemory [] answer
+
+-- a command's job had an end and a text, and the text was written
+pub record CommandEnds (command : Command) (shelf : ShelfSeen) (sink : SinkSeen) (answer : Ended) : Type 0 where
+  pub end : Ended
+  pub text : List ℕ
+  pub job : Job command shelf end text
+  pub wrote : Wrote sink end text answer
+
+-- How a run ends: the words are no command, and it says so; or they are a command, and that ends.
+pub record UsageEnds (words : List (List ℕ)) (sink : SinkSeen) (answer : Ended) : Type 0 where
+  pub none : IsNoCommand words
+  pub wrote : Wrote sink how.Usage (line_of how.Usage) answer
+
+pub record SomeCommandEnds (words : List (List ℕ)) (shelf : ShelfSeen) (sink : SinkSeen) (answer : Ended) : Type 0 where
+  pub command : Command
+  pub spelled : Spells command words
+  pub ends : CommandEnds command shelf sink answer
+
+abbrev pub RunEnds : List (List ℕ) → ShelfSeen → SinkSeen → Ended → Type 0
+RunEnds words shelf sink answer = UsageEnds words sink answer ⊎ SomeCommandEnds words shelf sink answer
+
+-- no call outside failed, and no count stands at its last value
+pub record NothingFailed (shelf : ShelfSeen) (sink : SinkSeen) : Type 0 where
+  pub shelf_same : (name : List ℕ) → shelf.faults name ≡ shelf.faults_before name
+  pub shelf_room : (name : List ℕ) → shelf.faults_before name < 2 ^ 64 - 1
+  pub sink_same : sink.faults ≡ sink.faults_before
+  pub sink_room : sink.faults_before < 2 ^ 64 - 1
+
+-- the log is not too long, and has no faulty entry
+pub record IsGoodLog (terms : Terms) (bytes : List ℕ) : Type 0 where
+  pub short : length bytes ≤ log_limit
+  pub history : ClockHistory
+  pub whole : log_of terms bytes ≡ Ok history
+
+-- the answer is Done, or memory ran out
+abbrev pub IsDoneOrNoMemory : Ended → Type 0
+IsDoneOrNoMemory answer = (answer ≡ how.Done) ⊎ (answer ≡ how.NoMemory)

@@ -1,0 +1,14 @@
+//! The top call: from the words of the command line to the text that is written.
+#![tactic(auto)]
+
+mod delivery;
+pub mod ends;
+mod entries;
+mod fold;
+mod runs;
+mod supplies;
+mod texts;
+mod words;
+
+pub use ends::{Ended, File};
+pub use runs::run;

@@ -1,0 +1,163 @@
+//! Reading the words of the command line.
+ghost use Rattle.std.specs.Prelude.{◌≡◌, ◌<◌, ◌≤◌, ◌∷◌, ◌++◌, ◌⊎◌, ◌==◌, false, [], ℕ, List, codes, decimal, map, length, IfSome, IfNone, IsTrue, ◌↔◌};
+ghost use Rattle.std.specs.List.{list_all, slice_split, AllByRecursion};
+ghost use Rattle.house_run.specs.Words.{IsNoCommand, Spells, IsFold, IsPlainWord, AreTermWords, comma_list, words_of};
+ghost use Rattle.house_run.specs.CommandView.{command_as};
+ghost use Rattle.std.specs.Char.{is_ascii_digit};
+ghost use Rattle.house_run.specs.Numerals.{is_numeral};
+ghost use Rattle.lot_base.specs.Goods.{IsSupply};
+ghost use Rattle.lot_base.specs.declared.auction_terms.Terms.{Terms as TermsValue};
+
+use crate::supplies::Supplies;
+use lot_base::{Goods, Terms};
+
+/// The words of `fold`: one clock over a log.
+#[derive(Clone, Copy)]
+pub(crate) struct FoldWords<'a> {
+    pub terms: Terms,
+    pub log: &'a str,
+}
+
+/// The command that the words are, if they are one.
+pub(crate) fn read_words(words: &[String]) -> Option<FoldWords<'_>>
+    ensures some { IfSome result (λ command. Spells (command_as command) (words_of words.now)) }
+    ensures none { IfNone result (IsNoCommand (words_of words.now)) }
+{
+    match words {
+        [name, supply, bidders, ceiling, log] if name.as_str() == "fold" => read_fold(
+            supply.as_str(),
+            bidders.as_str(),
+            ceiling.as_str(),
+            log.as_str(),
+        ),
+        _ => None,
+    }
+}
+
+/// The words of `fold`, if they are in order.
+fn read_fold<'a>(supply: &str, bidders: &str, ceiling: &str, log: &'a str) -> Option<FoldWords<'a>>
+    ensures some { IfSome result (λ words. IsFold words.terms words.log.now (codes "fold" ∷ supply.now ∷ bidders.now ∷ ceiling.now ∷ log.now ∷ [])) }
+    ensures none { IfNone result (IsNoCommand (codes "fold" ∷ supply.now ∷ bidders.now ∷ ceiling.now ∷ log.now ∷ [])) }
+{
+    if !is_plain(log) {
+        return None;
+    }
+    match read_terms(supply, bidders, ceiling) {
+        None => None,
+        Some(terms) => Some(FoldWords { terms, log }),
+    }
+}
+
+/// The terms that these words give.
+fn read_terms(supply: &str, bidders: &str, ceiling: &str) -> Option<Terms>
+    ensures some { IfSome result (λ terms. AreTermWords terms supply.now bidders.now ceiling.now) }
+    ensures none { IfNone result ((terms : TermsValue) → AreTermWords terms supply.now bidders.now ceiling.now → ⊥) }
+{
+    match (
+        read_goods(supply),
+        read_number(bidders, 1, 12),
+        read_number(ceiling, 2, 10_000),
+    ) {
+        (Some(goods), Some(bidders), Some(ceiling)) => {
+            match Terms::new(goods, bidders as u8, ceiling) {
+                Ok(terms) => Some(terms),
+                Err(_) => None,
+            }
+        }
+        _ => None,
+    }
+}
+
+/// Whether a word is not empty and does not begin as an option does.
+fn is_plain(word: &str) -> bool
+    ensures { IsTrue result ↔ IsPlainWord word.now }
+{
+    match word.as_bytes() {
+        [] => false,
+        [first, ..] => *first != b'-',
+    }
+}
+
+/// The goods whose supplies a word lists, joined by commas.
+fn read_goods(word: &str) -> Option<Goods>
+    ensures some { IfSome result (λ goods. word.now ≡ comma_list goods) }
+    ensures none { IfNone result ((supply : List ℕ) → IsSupply supply → word.now ≡ comma_list supply → ⊥) }
+{
+    match read_supplies(word) {
+        None => None,
+        Some(supplies) => match Goods::new(supplies.as_slice()) {
+            Ok(goods) => Some(goods),
+            Err(_) => None,
+        },
+    }
+}
+
+/// The supplies that a word lists, joined by commas: at most six numbers from 1 to 2,047.
+fn read_supplies(word: &str) -> Option<Supplies>
+    ensures some { IfSome result (λ supplies. map decimal supplies ≡ slice_split (λ b. b == 44) word.now) }
+    ensures small { IfSome result (λ supplies. AllByRecursion (λ n. n ≤ 2047) supplies) }
+    ensures none { IfNone result ((supply : List ℕ) → IsSupply supply → word.now ≡ comma_list supply → ⊥) }
+{
+    let mut supplies = Supplies::none();
+    let mut rest = word;
+    while let Some((piece, behind)) = rest.split_once(',') {
+        if !read_supply(&mut supplies, piece) {
+            return None;
+        }
+        rest = behind;
+    }
+    if !read_supply(&mut supplies, rest) {
+        return None;
+    }
+    Some(supplies)
+}
+
+/// Adds the supply that a piece of the list is, and says whether it is one and there was room for it.
+fn read_supply(supplies: &mut Supplies, piece: &str) -> bool
+    requires { AllByRecursion (λ n. n ≤ 2047) supplies.old }
+    ensures read { IsTrue result → (units : ℕ) × (piece.now ≡ decimal units) × (supplies.new ≡ supplies.old ++ units ∷ []) }
+    ensures small { AllByRecursion (λ n. n ≤ 2047) supplies.new }
+    ensures refused { result ≡ false → (6 ≤ length supplies.old) ⊎ ((units : ℕ) → 1 ≤ units → units ≤ 2047 → piece.now ≡ decimal units → ⊥) }
+{
+    if !supplies.has_room() {
+        return false;
+    }
+    match read_number(piece, 1, 2047) {
+        Some(units) => {
+            supplies.push(units as u16);
+            true
+        }
+        None => false,
+    }
+}
+
+/// The number in a range whose decimal digits a word is, without a leading zero.
+fn read_number(word: &str, low: u32, high: u32) -> Option<u32>
+    ensures some { IfSome result (λ number. (word.now ≡ decimal number) × (low ≤ number) × (number ≤ high)) }
+    ensures none { IfNone result ((number : ℕ) → low ≤ number → number ≤ high → word.now ≡ decimal number → ⊥) }
+{
+    if !is_numeral(word.as_bytes()) {
+        return None;
+    }
+    match word.parse::<u32>() {
+        Ok(number) if low <= number && number <= high => Some(number),
+        _ => None,
+    }
+}
+
+/// Whether these are decimal digits without a leading zero, but for `0` itself.
+fn is_numeral(bytes: &[u8]) -> bool
+    ensures { result ≡ is_numeral bytes.now }
+{
+    match bytes {
+        [] => false,
+        [b'0', _, ..] => false,
+        _ => all_digits(bytes),
+    }
+}
+
+fn all_digits(bytes: &[u8]) -> bool
+    ensures { result ≡ list_all is_ascii_digit bytes.now }
+{
+    bytes.iter().all(|byte| byte.is_ascii_digit())
+}

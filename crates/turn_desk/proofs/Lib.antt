@@ -1,0 +1,10 @@
+pub mod Totals
+pub mod Stages
+pub mod Crews
+pub mod Tickets
+pub mod Entries
+pub mod Seats
+pub mod Endings
+pub mod Growth
+pub mod Gathering
+pub mod Rounds

@@ -1,0 +1,69 @@
+//! The table of a desk: three words and the slot of the book. It opens with one seat, and closes with one that stands for all.
+ghost use Rattle.std.specs.Prelude.{◌≡◌, List, [], ◌∷◌, IfOk, IfErr, ◌<◌};
+ghost use Rattle.turn_desk.specs.Views.{founder};
+ghost use Rattle.turn_desk.specs.Steps.{Ends};
+ghost use Rattle.turn_desk.specs.declared.view.Stage.TheVariants.{Rests};
+
+use crate::book::Book;
+use crate::rule::Turns;
+use crate::view::View;
+use atomic_table::{Refused, Seat, Table};
+use std::alloc::Global;
+use std::snapshot::Snapshot;
+
+/// The word of the next ticket.
+pub(crate) const TICKET: usize = 0;
+
+/// The word of the ticket that is served.
+pub(crate) const SERVING: usize = 1;
+
+/// The word of the number of entries.
+pub(crate) const COUNT: usize = 2;
+
+/// The slot of the book.
+pub(crate) const BOOK: usize = 0;
+
+pub type Place<B> = Seat<Option<B>, View<<B as Book>::Entry, <B as Book>::Origin>>;
+
+pub(crate) struct Board<B: Book> {
+    pub(crate) table: Table<Option<B>, View<B::Entry, B::Origin>, Snapshot<B>, Turns<B>, Global>,
+    ghost sized: { (table.shared.table_id.words ≡ 3) × (table.shared.table_id.slots ≡ 1) },
+}
+
+impl<B: Book> Board<B> {
+    /// A board with this book on it, and its first seat.
+    pub(crate) fn open(alloc: Global, book: B) -> Result<(Board<B>, Place<B>), B>
+        ensures key { IfOk result (λ r. r.0.table.shared.key.value ≡ book) }
+        ensures seat { IfOk result (λ r. (r.1.table_id ≡ r.0.table.shared.table_id) × (r.1.me ≡ (founder (B.history book) (B.origin book), []))) }
+        ensures err { IfErr result (λ b. b ≡ book) }
+    {
+        let about = Snapshot::of(&book);
+        let count = book.length();
+        let mut slots = Vec::new(alloc);
+        if let Err(failed) = slots.push(Some(book)) {
+            slots.destroy_empty();
+            return Err(failed.value.unwrap());
+        }
+        match Table::new(alloc, &[0, 0, count], slots, &about) {
+            Ok((table, seat)) => Ok((Board { table }, seat)),
+            Err(Refused { mut slots }) => {
+                let last = slots.pop();
+                slots.destroy_empty();
+                Err(last.unwrap().unwrap())
+            }
+        }
+    }
+
+    /// The book, once no thread shares the board any more.
+    pub(crate) fn shut(self, seat: Place<B>) -> B
+        requires desk { seat.table_id ≡ self.table.shared.table_id }
+        requires all { (seat.me.0.stage ≡ Rests) × (seat.me.0.seats ≡ seat.me.0.made) × (0 < seat.me.0.made) }
+        ensures { Ends B.history B.origin self.table.shared.key.value seat.me.0 result }
+    {
+        let Board { table } = self;
+        let mut closed = table.close_with(seat);
+        let book = closed.take(BOOK);
+        closed.free();
+        book.unwrap()
+    }
+}

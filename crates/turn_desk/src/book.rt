@@ -1,0 +1,20 @@
+ghost use Rattle.std.specs.Prelude.{◌≡◌, ◌%◌, ◌^◌, List, length};
+
+/// What lies on a desk: a value with a history of entries.
+pub trait Book {
+    /// An entry of the history, as plain data.
+    type Entry;
+
+    /// What stays of a book for as long as it lives, as plain data.
+    type Origin;
+
+    /// The entries so far, the oldest first.
+    ghost history: { Self → List Self.Entry };
+
+    /// What no turn changes.
+    ghost origin: { Self → Self.Origin };
+
+    /// The number of entries of the history, modulo 2^64. It takes no memory.
+    fn length(&self) -> u64
+        ensures { result ≡ length (history self.now) % 2 ^ 64 };
+}

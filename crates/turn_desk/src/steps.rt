@@ -1,0 +1,77 @@
+//! The single steps of a seat at the board.
+ghost use Rattle.std.specs.Prelude.{◌≡◌, ◌≢◌, ℕ, ◌%◌, ◌^◌, ◌<◌, ◌++◌, List, [], ◌∷◌, Some};
+ghost use Rattle.turn_desk.specs.declared.view.Stage.TheVariants.{Rests, Waits};
+ghost use Rattle.turn_desk.specs.Histories.{StartsWith};
+ghost use Rattle.turn_desk.specs.Views.{holding, reached, ticket_of};
+ghost use Rattle.turn_desk.specs.Steps.{Begins, grown, rested, in_hand, parent, child, both_of, DrawsTicket};
+
+use crate::board::{Board, COUNT, Place, SERVING, TICKET};
+use crate::book::Book;
+use crate::rule::{Append, Draw, Hand, Look, PassOn};
+
+impl<B: Book> Board<B> {
+    /// Draws a ticket, and answers the number on it.
+    pub(crate) fn draw(&self, seat: &mut Place<B>) -> u64
+        requires desk { seat.old.table_id ≡ self.now.table.shared.table_id }
+        requires rests { (seat.old.me.0.stage ≡ Rests) × (0 < seat.old.me.0.seats) }
+        ensures same { (seat.new.table_id ≡ seat.old.table_id) × (seat.new.id ≡ seat.old.id) × (seat.new.me.1 ≡ seat.old.me.1) }
+        ensures drawn { DrawsTicket seat.old.me.0 result seat.new.me.0 }
+    {
+        self.table.shared.fetch_add::<Draw>(seat, TICKET, 1)
+    }
+
+    /// Reads the number that is served. Where it is the seat's own, its turn begins.
+    pub(crate) fn look(&self, seat: &mut Place<B>) -> u64
+        requires desk { seat.old.table_id ≡ self.now.table.shared.table_id }
+        requires waits { (n : ℕ) × (seat.old.me.0.stage ≡ Waits n) }
+        ensures same { (seat.new.table_id ≡ seat.old.table_id) × (seat.new.id ≡ seat.old.id) }
+        ensures own { result ≡ ticket_of seat.old.me.0.stage % 2 ^ 64 → Begins B.history B.origin seat.old.me seat.new.me }
+        ensures another { result ≢ ticket_of seat.old.me.0.stage % 2 ^ 64 → seat.new.me ≡ seat.old.me }
+    {
+        self.table.shared.load::<Look<B>>(seat, SERVING)
+    }
+
+    /// Counts the next entry of the book in hand, which becomes the seat's own.
+    pub(crate) fn append(&self, seat: &mut Place<B>)
+        requires desk { seat.old.table_id ≡ self.now.table.shared.table_id }
+        requires turn { holding seat.old.me.0.stage ≡ 1 }
+        requires more { (e : B.Entry) × StartsWith (in_hand B.history seat.old.me.1) (reached seat.old.me.0.stage ++ e ∷ []) }
+        ensures same { (seat.new.table_id ≡ seat.old.table_id) × (seat.new.id ≡ seat.old.id) × (seat.new.me.1 ≡ seat.old.me.1) }
+        ensures grown { (e : B.Entry) × StartsWith (in_hand B.history seat.old.me.1) (reached seat.old.me.0.stage ++ e ∷ []) × (seat.new.me.0 ≡ grown seat.old.me.0 e) }
+    {
+        self.table.shared.fetch_add::<Append<B>>(seat, COUNT, 1);
+    }
+
+    /// Ends the turn, with the book in hand on the board again.
+    pub(crate) fn pass_on(&self, seat: &mut Place<B>)
+        requires desk { seat.old.table_id ≡ self.now.table.shared.table_id }
+        requires turn { holding seat.old.me.0.stage ≡ 1 }
+        requires book { (b : B) × (seat.old.me.1 ≡ (0, Some b) ∷ []) × (B.history b ≡ reached seat.old.me.0.stage) × (seat.old.me.0.origin ≡ Some (B.origin b)) }
+        ensures same { (seat.new.table_id ≡ seat.old.table_id) × (seat.new.id ≡ seat.old.id) }
+        ensures rests { seat.new.me ≡ (rested seat.old.me.0, []) }
+    {
+        self.table.shared.fetch_add::<PassOn>(seat, SERVING, 1);
+    }
+
+    /// Splits a new seat from this one.
+    pub(crate) fn split(&self, seat: &mut Place<B>) -> Place<B>
+        requires desk { seat.old.table_id ≡ self.now.table.shared.table_id }
+        requires made { (0 < seat.old.me.0.made) × (seat.old.me.0.made < 64) × (0 < seat.old.me.0.seats) }
+        ensures same { (seat.new.table_id ≡ seat.old.table_id) × (seat.new.id ≡ seat.old.id) × (seat.new.me.1 ≡ seat.old.me.1) }
+        ensures other { (result.table_id ≡ seat.old.table_id) × (result.me.1 ≡ []) }
+        ensures views { (seat.new.me.0 ≡ parent seat.old.me.0) × (result.me.0 ≡ child seat.old.me.0) }
+    {
+        self.table.shared.split_seat::<Hand>(seat)
+    }
+
+    /// Joins another seat into this one.
+    pub(crate) fn join(&self, seat: &mut Place<B>, other: Place<B>)
+        requires desk { (seat.old.table_id ≡ self.now.table.shared.table_id) × (other.table_id ≡ self.now.table.shared.table_id) }
+        requires part { 0 < seat.old.me.0.seats }
+        requires rests { (other.me.0.stage ≡ Rests) × (other.me.1 ≡ []) }
+        ensures same { (seat.new.table_id ≡ seat.old.table_id) × (seat.new.id ≡ seat.old.id) × (seat.new.me.1 ≡ seat.old.me.1) }
+        ensures both { seat.new.me.0 ≡ both_of seat.old.me.0 other.me.0 }
+    {
+        self.table.shared.join_seat::<Hand>(seat, other);
+    }
+}
