@@ -9,8 +9,10 @@ mod goods_list;
 pub mod listing;
 pub mod naming;
 pub mod reader;
+#[cfg(test)]
+mod tests;
 
 pub use faults::{AuctionFault, Key, KeyText};
 pub use listing::{Auction, TokenDigests};
 pub use naming::{Name, Names};
-pub use reader::read;
+pub use reader::{MOST_BYTES, read};

@@ -18,6 +18,9 @@ use sha2::{Digest, Sha256};
 use std::alloc::{AllocError, Global};
 use toml::Table;
 
+/// The most bytes of an auction file.
+pub const MOST_BYTES: usize = 65_536;
+
 /// The tree of the document.
 #[tactic(auto, unfolding(crate::specs::AuctionFile::document_of))]
 fn document_of(alloc: Global, bytes: &[u8]) -> Result<Table, AuctionFault>
@@ -86,7 +89,7 @@ fn auction_from(
 /// The auction that the bytes of an auction file say, or the first fault in the order of the format.
 #[tactic(auto, unfolding(crate::specs::AuctionFile::auction_of))]
 pub fn read(alloc: Global, bytes: &[u8]) -> Result<Auction, AuctionFault>
-    requires { length bytes.now ≤ 65536 }
+    requires { length bytes.now ≤ MOST_BYTES }
     ensures read { IfOk result (λ auction. auction_of bytes.now ≡ Ok (listing_of auction)) }
     ensures refused { IfErr result (λ fault. fault ≢ AuctionFault.NoMemory → auction_of bytes.now ≡ Err fault) }
 {
@@ -101,6 +104,5 @@ pub fn read(alloc: Global, bytes: &[u8]) -> Result<Auction, AuctionFault>
         unreachable!()
     };
     let digest = Sha256::digest(bytes);
-    let auction = auction_from(alloc, terms, goods.as_slice(), bidders.as_slice(), digest)?;
-    Ok(auction)
+    Ok(auction_from(alloc, terms, goods.as_slice(), bidders.as_slice(), digest)?)
 }
