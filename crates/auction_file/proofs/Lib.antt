@@ -3,3 +3,4 @@ pub mod Trees
 pub mod NamesRead
 pub mod Turns
 pub mod Documents
+pub mod Distinct

@@ -1,7 +1,7 @@
 -- The names of goods and bidders: 1 to 32 bytes, each a lower-case ASCII letter, a digit or a hyphen. No byte and 33 bytes
 -- are no name. A name is kept in 32 cells, with zeros behind its bytes.
-use Rattle.std.specs.Prelude.{◌≡◌, ◌≤◌, ℕ, ◌-◌, ◌==◌, nat_le, Bool, true, ◌&&◌, ◌||◌, if◌then◌else◌, List, ◌++◌, length, take, replicate, Option, Some, None}
-use Rattle.std.specs.List.{list_all}
+use Rattle.std.specs.Prelude.{◌≡◌, ◌≢◌, ◌≤◌, ℕ, ◌-◌, ◌==◌, nat_le, Bool, true, ◌&&◌, ◌||◌, if◌then◌else◌, List, [], ◌∷◌, ◌++◌, length, take, replicate, Option, Some, None}
+use Rattle.std.specs.List.{list_all, AllByRecursion}
 
 -- a letter a to z, a digit or `-`
 abbrev pub is_name_byte : ℕ → Bool
@@ -22,3 +22,8 @@ pub record IsNameIn (cells : List ℕ) (count : ℕ) : Type 0 where
   pub count_is : length (take count cells) ≡ count
   pub zeros : padded (take count cells) ≡ cells
   pub name : is_name (take count cells) ≡ true
+
+-- no name stands in the list twice
+abbrev pub AreDistinct : List (List ℕ) → Type 0
+AreDistinct [] = Unit {0}
+AreDistinct (name ∷ names) = AllByRecursion (λ other. other ≢ name) names × AreDistinct names

@@ -6,6 +6,7 @@ mod document;
 mod elements;
 pub mod faults;
 mod goods_list;
+pub mod laws;
 pub mod listing;
 pub mod naming;
 pub mod reader;
