@@ -1,5 +1,5 @@
 -- Thirty-two cells that hold a short list.
-use Rattle.std.proofs.Common.{◌≡◌, ◌≤◌, ℕ, ◌-◌, true, List, ◌++◌, length, take, replicate, ap, sym, ◌∙◌, drop, subst}
+use Rattle.std.proofs.Common.{◌≡◌, ◌≤◌, ℕ, ◌-◌, true, List, ◌++◌, length, take, replicate, ap, sym, ◌∙◌, drop}
 use Rattle.std.proofs.Math.Seq.{take-append_seam}
 use Rattle.std.proofs.lemmas.List.{drop-replicate}
 use Rattle.auction_file.specs.Names.{is_name, padded, IsNameIn}

@@ -1,5 +1,5 @@
 -- The name of an element, once its parts are known.
-use Rattle.std.proofs.Common.{◌≡◌, ℕ, Bool, true, false, not, List, map, Ok, Err, Option, Result, codes, sym, ◌∙◌, refl}
+use Rattle.std.proofs.Common.{◌≡◌, ℕ, Bool, not, List, map, Ok, Option, codes, sym, ◌∙◌}
 use Rattle.std.specs.List.{list_any}
 use Rattle.std.specs.Option.{ok_or}
 use Rattle.toml.specs.Data.{Members}

@@ -1,5 +1,5 @@
 -- The tree of a table beside the map and the vectors that hold it.
-use Rattle.std.proofs.Common.{◌≡◌, ℕ, Bool, true, false, not, cond, List, [], ◌∷◌, map, Option, Some, None, option_map, find, Ordering, Less, Equal, Greater, String, Global, string_bytes, nat_cmp, refl, ap, ◌∙◌, sym, Bor, Vec, Ok, inl, inr}
+use Rattle.std.proofs.Common.{◌≡◌, ℕ, Bool, not, List, [], ◌∷◌, map, Option, Some, None, option_map, find, Less, String, Global, string_bytes, nat_cmp, refl, ap, ◌∙◌, sym, Bor, Vec, Ok, inl, inr}
 use Rattle.std.specs.List.{list_any, AllByRecursion}
 use Rattle.std.specs.Map.{keys_of, lookup}
 use Rattle.std.specs.BTreeMap.{is_at}
@@ -9,7 +9,7 @@ use Rattle.std.specs.String.{string_cmp}
 use Rattle.std.specs.Cmp.Lexicographic.{slice_cmp}
 use Rattle.std.specs.List.Sorted.{IsStrictlySortedBy}
 use Rattle.std.proofs.lemmas.Bool.{cases_Bool}
-use Rattle.toml.specs.Data.{Data, Items, item, Members, array}
+use Rattle.toml.specs.Data.{Members, array}
 use Rattle.toml.specs.View.{view, items_view, members_view}
 use Rattle.toml.specs.declared.value.Value.{Value, Array}
 use Rattle.auction_file.specs.Tree.{elements, least_unknown, lesser, value_at, array_at}

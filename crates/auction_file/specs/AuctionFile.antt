@@ -1,8 +1,9 @@
--- What an auction file says, or the first fault of it in the order of the format.
+-- What an auction file says, or the first fault of it. The file is a TOML table with these keys, looked at in this order:
 --
---     version = 1                 ceiling = 2 to 10,000
---     [[goods]]                   name, supply = 0 to 65,535
---     [[bidders]]                 name, token = the SHA-256 of the bidder's token in hexadecimal
+--     version    1
+--     ceiling    2 to 10,000
+--     goods      an array of tables, each with a name, and a supply of 0 to 65,535
+--     bidders    an array of 1 to 12 tables, each with a name, and the SHA-256 of its token as 64 hexadecimal digits
 --
 -- Sources: TOML 1.1 (https://toml.io/en/v1.1.0) as `toml` reads it, SHA-256 of FIPS 180-4 as `sha2` computes it,
 -- hexadecimal digits of either case as `hex` reads them.
@@ -10,7 +11,7 @@
 -- `goods` has the fault of no goods, and an empty `bidders` that of 0 bidders. A name is taken where an earlier element of its
 -- array has it. Goods are counted from 0 and bidders from 1; a number that its type cannot hold stands at the type's end,
 -- 4,294,967,295 in a key and 255 in the fault of a supply.
-use Rattle.std.specs.Prelude.{ℕ, ◌+◌, ◌-◌, ◌^◌, nat_le, min, codes, Bool, ◌&&◌, not, false, if◌then◌else◌, List, [], ◌∷◌, length, map, take, Option, Some, Result, Ok, Err, option_and_then}
+use Rattle.std.specs.Prelude.{ℕ, ◌+◌, ◌-◌, ◌^◌, nat_le, min, codes, Bool, ◌&&◌, not, false, List, [], ◌∷◌, length, map, take, Result, Ok, Err, option_and_then}
 use Rattle.std.specs.List.{list_any, enumerate_from}
 use Rattle.std.specs.Option.{ok_or, option_map_or}
 use Rattle.std.specs.Result.{result_ok}

@@ -1,5 +1,5 @@
 //! The bidders of an auction file.
-ghost use Rattle.std.specs.Prelude.{◌≡◌, ◌+◌, ◌<◌, ◌≤◌, length, map, IfOk, vec_len};
+ghost use Rattle.std.specs.Prelude.{◌≡◌, ◌<◌, ◌≤◌, length, map, IfOk};
 ghost use Rattle.toml.specs.View.{view, table_view};
 ghost use Rattle.auction_file.specs.AuctionFile.{digest_at, bidder_at, each, bidders_of};
 ghost use Rattle.auction_file.specs.Seen.{GivesIfRoom};

@@ -1,5 +1,5 @@
 //! Reading the tables of a TOML document.
-ghost use Rattle.std.specs.Prelude.{◌≡◌, ◌≢◌, length, map, option_map, string_bytes};
+ghost use Rattle.std.specs.Prelude.{◌≡◌, ◌≢◌, map, option_map, string_bytes};
 ghost use Rattle.std.specs.List.{list_any};
 ghost use Rattle.std.specs.Str.{bytes_eq};
 ghost use Rattle.toml.specs.View.{view, table_view};

@@ -1,5 +1,5 @@
 //! The goods of an auction file.
-ghost use Rattle.std.specs.Prelude.{◌≡◌, ◌-◌, ◌^◌, length, map, IfOk};
+ghost use Rattle.std.specs.Prelude.{◌≡◌, map, IfOk};
 ghost use Rattle.toml.specs.View.{view, table_view};
 ghost use Rattle.auction_file.specs.AuctionFile.{good_number, short_number, supply_at, good_at, each, goods_of};
 ghost use Rattle.auction_file.specs.Seen.{GivesIfRoom};

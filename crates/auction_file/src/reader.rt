@@ -1,7 +1,6 @@
 //! Reading an auction file.
-ghost use Rattle.std.specs.Prelude.{◌≡◌, ◌≢◌, ◌≤◌, ◌^◌, ℕ, length, map, IfOk, IfErr, Ok, Err};
+ghost use Rattle.std.specs.Prelude.{◌≡◌, ◌≢◌, ◌≤◌, length, map, IfOk, IfErr, Ok, Err};
 ghost use Rattle.toml.specs.View.{table_view};
-ghost use Rattle.sha2.specs.Sha256.{sha256};
 ghost use Rattle.lot_base.specs.Limits.{supply_of};
 ghost use Rattle.auction_file.specs.AuctionFile.{document_of, version_of, ceiling_of, sold, auction_of};
 ghost use Rattle.auction_file.specs.Listing.{listing_of, listing};
