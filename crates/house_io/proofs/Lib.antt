@@ -4,3 +4,9 @@ mod Reading
 mod Writing
 mod Counting
 mod Finding
+pub mod Moments
+pub mod Overlays
+mod Replays
+mod Images
+mod Shelving
+mod ListShelving

@@ -11,3 +11,8 @@ pub mod SureFiles
 pub mod ListForms
 pub mod ListShelves
 pub mod ListFiles
+pub mod Moments
+pub mod Calls
+pub mod Recorded
+pub mod Ranges
+pub mod Places

@@ -1,13 +1,14 @@
 -- Files by name, and the counts of their faults. Of two files of one name the first counts.
-use Rattle.std.specs.Prelude.{◌≡◌, ◌≢◌, ◌≤◌, ℕ, List, [], Option, Some, None, bytes_eq, find, option_map, Contains}
+use Rattle.std.specs.Prelude.{◌≡◌, ◌≢◌, ◌≤◌, ℕ, Bool, List, [], Option, Some, None, bytes_eq, find, option_map, unwrap_or, Contains, IsTrue}
+use Rattle.house_io.specs.Moments.{Moments, opened}
 use Rattle.house_io.specs.declared.shelves.Refusal.{Refusal}
 use Rattle.house_io.specs.declared.shelves.Refusal.TheVariants as why
 use Rattle.house_io.specs.Faults.{Rose, raised_by}
 
--- a file: its name, and what a read of it gives
+-- a file: its name, what a read of it gives, and what a crash may leave of it or might have left
 pub record NamedFile : Type 0 where
   pub name : List ℕ
-  pub bytes : List ℕ
+  pub moments : Moments
 
 -- the file of a name, if there is one
 abbrev pub file_of : List NamedFile → List ℕ → Option NamedFile
@@ -15,7 +16,11 @@ file_of files name = find (λ file. bytes_eq file.name name) files
 
 -- what a read of the file of a name gives
 abbrev pub bytes_of : List NamedFile → List ℕ → Option (List ℕ)
-bytes_of files name = option_map (λ file. file.bytes) (file_of files name)
+bytes_of files name = option_map (λ file. file.moments.now.read) (file_of files name)
+
+-- the moments of the file of a name; an absent file is opened empty
+abbrev pub moments_at : List NamedFile → List ℕ → Moments
+moments_at files name = unwrap_or (option_map (λ file. file.moments) (file_of files name)) (opened [])
 
 -- A source tells the bytes of its file, all of them left. That of an absent file is empty.
 abbrev pub Begins : Option (List ℕ) → Option (List ℕ) → Type 0
@@ -28,9 +33,30 @@ abbrev pub IfTells : Option (List NamedFile) → (List NamedFile → Type 0) →
 IfTells None P = Unit {0}
 IfTells (Some files) P = P files
 
+-- it holds of the files, and they were told
+abbrev pub IfWasTold : Option (List NamedFile) → (List NamedFile → Type 0) → Type 0
+IfWasTold None P = ⊥
+IfWasTold (Some files) P = P files
+
+-- A disk that is opened tells, and stands as its file did.
+abbrev pub StandsAs : {D : Type 0} → (D → Bool) → (D → Moments) → List ℕ → D → List NamedFile → Type 0
+StandsAs tells moments name disk files = IsTrue (tells disk) × (moments disk ≡ moments_at files name)
+
+-- A file stands as the disk that was closed in its name did, which told.
+abbrev pub IsLeftBy : {D : Type 0} → (D → Bool) → (D → Moments) → List ℕ → D → List NamedFile → Type 0
+IsLeftBy tells moments name disk files = IsTrue (tells disk) × (option_map (λ file. file.moments) (file_of files name) ≡ Some (moments disk))
+
 -- The files that are told now were told before, and are the same.
 abbrev pub ChangesNone : Option (List NamedFile) → Option (List NamedFile) → Type 0
 ChangesNone before now = IfTells now (λ files. before ≡ Some files)
+
+-- The files that are told now were told before, and are the same but for that of this name.
+abbrev pub ChangesOnly : List ℕ → Option (List NamedFile) → Option (List NamedFile) → Type 0
+ChangesOnly name before now = IfTells now (λ after. IfWasTold before (λ files. (other : List ℕ) → other ≢ name → file_of after other ≡ file_of files other))
+
+-- The files that are told now were told before, and the file of each name is the same.
+abbrev pub ChangesNoFile : Option (List NamedFile) → Option (List NamedFile) → Type 0
+ChangesNoFile before now = IfTells now (λ after. IfWasTold before (λ files. (other : List ℕ) → file_of after other ≡ file_of files other))
 
 -- The count of this name does not fall, and that of each other name stays.
 pub record RisesOnly (name : List ℕ) (before now : List ℕ → ℕ) : Type 0 where

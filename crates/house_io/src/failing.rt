@@ -33,4 +33,11 @@ impl FailingCalls {
         self.calls = call.saturating_add(1);
         self.failing.contains(&call)
     }
+
+    /// Whether the next call is to fail.
+    pub(crate) fn is_failing(&self) -> bool
+        ensures { IsTrue result ↔ Contains self.now.failing self.now.calls }
+    {
+        self.failing.contains(&self.calls)
+    }
 }

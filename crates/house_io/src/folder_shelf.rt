@@ -2,6 +2,7 @@
 ghost use Rattle.std.specs.Prelude.{◌≡◌, ◌<◌, ◌^◌, None, ℕ, List, []};
 ghost use Rattle.house_io.specs.Counts.{NamedCount, count_of, names_of};
 
+use crate::file_disk::{FileDisk, open_file};
 use crate::real::FileSource;
 use crate::tallies::Tallies;
 use crate::{Refusal, Shelf};
@@ -39,6 +40,8 @@ impl<'a, R: Files> FolderShelf<'a, R> {
 impl<'a, R: Files> Shelf for FolderShelf<'a, R> {
     type Source = FileSource<R::File>;
 
+    type Disk = FileDisk<R::File>;
+
     ghost files = { λ _. None };
 
     ghost faults = { λ shelf name. count_of shelf name };
@@ -60,5 +63,22 @@ impl<'a, R: Files> Shelf for FolderShelf<'a, R> {
 
     fn close_source(&mut self, name: &str, source: FileSource<R::File>) {
         self.tallies.raise(name, source.faults());
+    }
+
+    fn disk(&mut self, alloc: Global, name: &str) -> Result<FileDisk<R::File>, Refusal> {
+        if let Err(_) = self.tallies.begin(alloc, name) {
+            return Err(Refusal::NoMemory);
+        }
+        match open_file(self.rt, name) {
+            Ok(file) => Ok(FileDisk::new(file)),
+            Err(_) => {
+                self.tallies.raise(name, 1);
+                Err(Refusal::Failed)
+            }
+        }
+    }
+
+    fn close_disk(&mut self, name: &str, disk: FileDisk<R::File>) {
+        self.tallies.raise(name, disk.faults());
     }
 }

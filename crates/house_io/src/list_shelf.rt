@@ -1,14 +1,19 @@
 //! Files in memory of which chosen calls fail.
-ghost use Rattle.std.specs.Prelude.{◌≡◌, [], ℕ, List, Option, Some, None, IfOk, IsOkAnd, OnOk, Contains, option_map};
-ghost use Rattle.std.specs.Option.{option_copied};
-ghost use Rattle.house_io.specs.Shelves.{Adds, KeepsNames, bytes_of};
+ghost use Rattle.std.specs.Prelude.{◌≡◌, [], ◌∷◌, ◌++◌, ℕ, List, Option, Some, None, true, IfOk, IfErr, OnOk, OnErr, IsTrue, Contains, MatchOption, string_bytes, option_map};
+ghost use Rattle.house_io.specs.Moments.{opened};
+ghost use Rattle.house_io.specs.Recorded.{moments_of};
+ghost use Rattle.house_io.specs.Places.{HasNone, IsFirstAt};
+ghost use Rattle.house_io.specs.declared.shelves.Refusal.TheVariants as why;
+ghost use Rattle.house_io.specs.Shelves.{Adds, KeepsNames, RisesOnly, IsRefused, bytes_of, file_of, moments_at};
 ghost use Rattle.house_io.specs.Counts.{count_of, names_of};
-ghost use Rattle.house_io.specs.ListShelves.{ListedShelf, Answers, fresh_shelf, listed_file, shown_files, source_on};
-ghost use Rattle.house_io.specs.ListFiles.{file_as_listed, files_as_listed};
+ghost use Rattle.house_io.specs.ListShelves.{Answers, fresh_shelf, listed_file, source_on, shown_files};
+ghost use Rattle.house_io.specs.ListForms.{IsToFail, counted};
+ghost use Rattle.house_io.specs.ListFiles.{files_as_listed, moments_in, entry_as_listed, entries_as_listed};
 
 use crate::failing::FailingCalls;
+use crate::shelved::ListEntry;
 use crate::tallies::Tallies;
-use crate::{ListSource, Refusal, Shelf};
+use crate::{ListDisk, ListSource, Refusal, Shelf};
 use lot_base::NoMemory;
 use std::alloc::{AllocError, Global};
 use std::marker::Model;
@@ -21,13 +26,15 @@ pub struct ListFile {
     pub failing: Vec<u64>,
 }
 
-/// Files in memory, of which chosen calls fail. An absent name fails.
+/// Files in memory, of which chosen calls fail. An absent name fails as a source, and is an empty disk. It tells until a
+/// disk that ceased to tell is closed.
 #[derive(Drop)]
 pub struct ListShelf {
-    files: Vec<ListFile>,
+    files: Vec<ListEntry>,
     plan: FailingCalls,
     tallies: Tallies,
     room: u32,
+    told: bool,
 }
 
 impl Model for ListShelf {
@@ -35,13 +42,14 @@ impl Model for ListShelf {
 
     ghost Value = { ListedShelf };
 
-    ghost use Rattle.house_io.specs.ListFiles.{files_as_listed};
+    ghost use Rattle.house_io.specs.ListFiles.{entries_as_listed};
 
     ghost view = { λ shelf. record {
-      files = files_as_listed shelf.files.items;
+      files = entries_as_listed shelf.files.items;
       plan = shelf.plan;
       counts = shelf.tallies;
       room = shelf.room;
+      told = shelf.told;
     } };
 }
 
@@ -54,32 +62,64 @@ impl ListShelf {
         room: u32,
         failing: Vec<u64>,
     ) -> Result<ListShelf, NoMemory>
-        ensures { IsOkAnd result (λ shelf. shelf ≡ fresh_shelf (files_as_listed files.items) room failing.items) }
+        ensures { IfOk result (λ shelf. shelf ≡ fresh_shelf (files_as_listed files.items) room failing.items) }
     {
+        let Ok(files) = entries_of(alloc, files) else {
+            return Err(NoMemory);
+        };
         Ok(ListShelf {
             files,
             plan: FailingCalls::new(failing),
             tallies: Tallies::new(alloc),
             room,
+            told: true,
         })
     }
 
     /// The bytes of a file.
     pub fn file(&self, name: &str) -> Option<&[u8]>
-        ensures { option_copied result
-            ≡ option_map (λ file. file.bytes) (listed_file self.now.files name.now) }
+        ensures { MatchOption result (listed_file self.now.files name.now ≡ None) (λ bytes. option_map (λ file. file.moments.now.read) (listed_file self.now.files name.now) ≡ Some bytes.now) }
     {
         match file_named(&self.files, name) {
-            Some(file) => Some(&file.bytes),
+            Some(file) => Some(bytes_in(file)),
             None => None,
         }
     }
 }
 
+fn entries_of(alloc: Global, files: Vec<ListFile>) -> Result<Vec<ListEntry>, AllocError>
+    ensures { IfOk result (λ entries. entries_as_listed entries.items ≡ files_as_listed files.items) }
+{
+    let mut entries = Vec::new(alloc);
+    for file in files {
+        let ListFile {
+            name,
+            bytes,
+            failing,
+        } = file;
+        entries.push(ListEntry {
+            name,
+            bytes,
+            failing,
+            disk: None,
+        })?;
+    }
+    Ok(entries)
+}
+
+/// What a read of a file gives.
+fn bytes_in(entry: &ListEntry) -> &[u8]
+    ensures { result.now ≡ (moments_in entry.now).now.read }
+{
+    match &entry.disk {
+        Some(disk) => disk.bytes(),
+        None => &entry.bytes,
+    }
+}
+
 /// The first file of a name.
-fn file_named<'a>(files: &'a [ListFile], name: &str) -> Option<&'a ListFile>
-    ensures { option_map file_as_listed (option_copied result)
-        ≡ listed_file (files_as_listed files.now) name.now }
+fn file_named<'a>(files: &'a [ListEntry], name: &str) -> Option<&'a ListEntry>
+    ensures { MatchOption result (listed_file (entries_as_listed files.now) name.now ≡ None) (λ file. listed_file (entries_as_listed files.now) name.now ≡ Some (entry_as_listed file.now)) }
 {
     for file in files {
         if file.name.as_str() == name {
@@ -90,10 +130,10 @@ fn file_named<'a>(files: &'a [ListFile], name: &str) -> Option<&'a ListFile>
 }
 
 /// A source on a copy of a file.
-fn copy_of(alloc: Global, file: &ListFile) -> Result<ListSource, AllocError>
-    ensures { IfOk result (λ source. source ≡ source_on (file_as_listed file.now)) }
+fn copy_of(alloc: Global, file: &ListEntry) -> Result<ListSource, AllocError>
+    ensures { IfOk result (λ source. source ≡ source_on (entry_as_listed file.now)) }
 {
-    let bytes = file.bytes.to_vec(alloc)?;
+    let bytes = bytes_in(file).to_vec(alloc)?;
     let failing = file.failing.to_vec(alloc)?;
     Ok(ListSource::whole(bytes, failing))
 }
@@ -101,11 +141,10 @@ fn copy_of(alloc: Global, file: &ListFile) -> Result<ListSource, AllocError>
 /// A source on the file of a name, if there is one.
 fn source_named(
     alloc: Global,
-    files: &[ListFile],
+    files: &[ListEntry],
     name: &str,
 ) -> Result<Option<ListSource>, AllocError>
-    ensures { IfOk result (λ source.
-        source ≡ option_map source_on (listed_file (files_as_listed files.now) name.now)) }
+    ensures { IfOk result (λ source. source ≡ option_map source_on (listed_file (entries_as_listed files.now) name.now)) }
 {
     match file_named(files, name) {
         Some(file) => match copy_of(alloc, file) {
@@ -117,9 +156,13 @@ fn source_named(
 }
 
 impl Shelf for ListShelf {
+    ghost use Rattle.house_io.specs.ListShelves.{shown_files, files_told};
+
     type Source = ListSource;
 
-    ghost files = { λ shelf. Some (shown_files shelf.files) };
+    type Disk = ListDisk;
+
+    ghost files = { λ shelf. files_told shelf };
 
     ghost faults = { λ shelf name. count_of shelf.counts name };
 
@@ -127,8 +170,7 @@ impl Shelf for ListShelf {
 
     fn source(&mut self, alloc: Global, name: &str) -> Result<ListSource, Refusal>
         ensures answer { Answers self.old name.now result self.new }
-        ensures bytes { IfOk result (λ source.
-            bytes_of (shown_files self.old.files) name.now ≡ Some source.left) }
+        ensures bytes { IfOk result (λ source. bytes_of (shown_files self.old.files) name.now ≡ Some source.left) }
         ensures opened { OnOk result (Contains (names_of self.new.counts) name.now) }
         ensures kept { KeepsNames (names_of self.old.counts) (names_of self.new.counts) }
     {
@@ -160,4 +202,129 @@ impl Shelf for ListShelf {
     {
         self.tallies.raise(name, source.faults());
     }
+
+    fn disk(&mut self, alloc: Global, name: &str) -> Result<ListDisk, Refusal>
+        ensures told { IfOk result (λ disk. IsTrue disk.file.told × (disk.faults ≡ 0)) }
+        ensures moments { IfOk result (λ disk. moments_of disk.file ≡ moments_at (shown_files self.old.files) name.now) }
+        ensures failed { result ≡ Err why.Failed → IsToFail self.old.plan }
+        ensures planned { OnOk result (IsToFail self.old.plan → ⊥) }
+        ensures counted { OnOk result (self.new.plan ≡ counted self.old.plan) }
+        ensures same { OnErr result ((other : List ℕ) → file_of (shown_files self.new.files) other ≡ file_of (shown_files self.old.files) other) }
+        ensures others { (other : List ℕ) → (other ≡ name.now → ⊥) → file_of (shown_files self.new.files) other ≡ file_of (shown_files self.old.files) other }
+        ensures counts { RisesOnly name.now (count_of self.old.counts) (count_of self.new.counts) }
+        ensures refused { IfErr result (λ refusal. IsRefused refusal (count_of self.old.counts name.now) (count_of self.new.counts name.now)) }
+        ensures rest { (self.new.room ≡ self.old.room) × (self.new.told ≡ self.old.told) }
+        ensures opened { OnOk result (Contains (names_of self.new.counts) name.now) }
+        ensures kept { KeepsNames (names_of self.old.counts) (names_of self.new.counts) }
+    {
+        if let Err(_) = self.tallies.begin(alloc, name) {
+            return Err(Refusal::NoMemory);
+        }
+        if self.plan.is_failing() {
+            let _ = self.plan.next_fails();
+            self.tallies.raise(name, 1);
+            return Err(Refusal::Failed);
+        }
+        match disk_of(alloc, &mut self.files, name, self.room) {
+            Ok(disk) => {
+                let _ = self.plan.next_fails();
+                Ok(disk)
+            }
+            Err(NoMemory) => Err(Refusal::NoMemory),
+        }
+    }
+
+    fn close_disk(&mut self, name: &str, disk: ListDisk)
+        requires { Contains (names_of self.old.counts) name.now }
+        ensures added { Adds name.now disk.faults (count_of self.old.counts) (count_of self.new.counts) }
+        ensures left { IsTrue self.new.told → IsTrue disk.file.told × (option_map (λ file. file.moments) (file_of (shown_files self.new.files) name.now) ≡ Some (moments_of disk.file)) }
+        ensures others { (other : List ℕ) → (other ≡ name.now → ⊥) → file_of (shown_files self.new.files) other ≡ file_of (shown_files self.old.files) other }
+        ensures told { IsTrue self.new.told → IsTrue self.old.told }
+        ensures kept { KeepsNames (names_of self.old.counts) (names_of self.new.counts) }
+    {
+        let ListDisk { file, plan, faults } = disk;
+        self.tallies.raise(name, faults);
+        match place_of(&self.files, name) {
+            Some(place) if file.told => {
+                self.files[place].disk = Some(ListDisk {
+                    file,
+                    plan,
+                    faults: 0,
+                });
+            }
+            _ => self.told = false,
+        }
+    }
+}
+
+/// The place of the first file of a name.
+fn place_of(files: &[ListEntry], name: &str) -> Option<usize>
+    ensures { MatchOption result (HasNone (λ file. string_bytes file.name) files.now name.now) (λ place. IsFirstAt (λ file. string_bytes file.name) files.now name.now place) }
+{
+    for (place, file) in files.iter().enumerate() {
+        if file.name.as_str() == name {
+            return Some(place);
+        }
+    }
+    None
+}
+
+/// The disk that was closed on a file, which is taken out of it, or a new one on its bytes.
+fn disk_in(alloc: Global, entry: &mut ListEntry, room: u32) -> Result<ListDisk, NoMemory>
+    ensures told { IfOk result (λ disk. IsTrue disk.file.told × (disk.faults ≡ 0)) }
+    ensures moments { IfOk result (λ disk. moments_of disk.file ≡ moments_in entry.old) }
+    ensures unchanged { OnErr result (moments_in entry.new ≡ moments_in entry.old) }
+    ensures name { entry.new.name ≡ entry.old.name }
+{
+    match entry.disk.take() {
+        Some(disk) => Ok(disk),
+        None => match (
+            entry.bytes.as_slice().to_vec(alloc),
+            entry.failing.as_slice().to_vec(alloc),
+        ) {
+            (Ok(bytes), Ok(failing)) => ListDisk::new(alloc, bytes, room, failing),
+            _ => Err(NoMemory),
+        },
+    }
+}
+
+/// The disk of a name, whose file is made where it is absent.
+fn disk_of(
+    alloc: Global,
+    files: &mut Vec<ListEntry>,
+    name: &str,
+    room: u32,
+) -> Result<ListDisk, NoMemory>
+    ensures told { IfOk result (λ disk. IsTrue disk.file.told × (disk.faults ≡ 0)) }
+    ensures moments { IfOk result (λ disk. moments_of disk.file ≡ moments_at (shown_files (entries_as_listed files.old.items)) name.now) }
+    ensures unchanged { OnErr result ((other : List ℕ) → file_of (shown_files (entries_as_listed files.new.items)) other ≡ file_of (shown_files (entries_as_listed files.old.items)) other) }
+    ensures others { (other : List ℕ) → (other ≡ name.now → ⊥) → file_of (shown_files (entries_as_listed files.new.items)) other ≡ file_of (shown_files (entries_as_listed files.old.items)) other }
+{
+    match place_of(files, name) {
+        Some(place) => return disk_in(alloc, &mut files[place], room),
+        None => {}
+    }
+    let disk = match ListDisk::new(alloc, Vec::new(alloc), room, Vec::new(alloc)) {
+        Ok(disk) => disk,
+        Err(NoMemory) => return Err(NoMemory),
+    };
+    match push_file(alloc, files, name) {
+        Ok(()) => Ok(disk),
+        Err(_) => Err(NoMemory),
+    }
+}
+
+/// Adds an empty file.
+fn push_file(alloc: Global, files: &mut Vec<ListEntry>, name: &str) -> Result<(), AllocError>
+    ensures added { OnOk result (shown_files (entries_as_listed files.new.items) ≡ shown_files (entries_as_listed files.old.items) ++ record { name = name.now; moments = opened [] } ∷ []) }
+    ensures unchanged { OnErr result (files.new.items ≡ files.old.items) }
+{
+    let name = String::from_str(alloc, name)?;
+    files.push(ListEntry {
+        name,
+        bytes: Vec::new(alloc),
+        failing: Vec::new(alloc),
+        disk: None,
+    })?;
+    Ok(())
 }

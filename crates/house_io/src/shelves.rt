@@ -1,7 +1,7 @@
 //! Files that are opened by their names.
-ghost use Rattle.std.specs.Prelude.{◌≡◌, ℕ, List, Option, IfOk, IfErr, OnOk, IsSome, Contains};
+ghost use Rattle.std.specs.Prelude.{◌≡◌, ℕ, List, Option, IfOk, IfErr, OnOk, OnErr, IsSome, Contains};
 
-use crate::Source;
+use crate::{Disk, Source};
 use std::alloc::Global;
 
 /// Why a file is not opened.
@@ -13,9 +13,11 @@ pub enum Refusal {
 
 /// Files that are opened by their names. It counts faults by name, those of closed sources among them.
 pub trait Shelf {
-    ghost use Rattle.house_io.specs.Shelves.{NamedFile, bytes_of, Begins, ChangesNone, IfTells, RisesOnly, IsRefused, Adds, KeepsNames};
+    ghost use Rattle.house_io.specs.Shelves.{NamedFile, bytes_of, Begins, ChangesNone, ChangesNoFile, ChangesOnly, IfTells, IfWasTold, StandsAs, IsLeftBy, RisesOnly, IsRefused, Adds, KeepsNames};
 
     type Source: Source;
+
+    type Disk: Disk;
 
     /// The files, where it tells them.
     ghost files: { Self → Option (List NamedFile) };
@@ -44,5 +46,25 @@ pub trait Shelf {
         ensures counts { Adds name.now (Self.Source.Source.faults source) (faults self.old) (faults self.new) }
         ensures files { ChangesNone (files self.old) (files self.new) }
         ensures told { IfTells (files self.new) (λ _. IsSome (Self.Source.Source.left source)) }
+        ensures kept { KeepsNames (opened self.old) (opened self.new) };
+
+    /// Opens a file for reading and writing. The disk stands as the file does; an absent one is opened empty.
+    fn disk(&mut self, alloc: Global, name: &str) -> Result<Self::Disk, Refusal>
+        ensures fresh { IfOk result (λ disk. Self.Disk.Disk.faults disk ≡ 0) }
+        ensures stands { IfOk result (λ disk. IfTells (files self.new) (λ _. IfWasTold (files self.old)
+            (StandsAs Self.Disk.Disk.tells Self.Disk.Disk.moments name.now disk))) }
+        ensures others { ChangesOnly name.now (files self.old) (files self.new) }
+        ensures unchanged { OnErr result (ChangesNoFile (files self.old) (files self.new)) }
+        ensures counts { RisesOnly name.now (faults self.old) (faults self.new) }
+        ensures refused { IfErr result (λ refusal. IsRefused refusal (faults self.old name.now) (faults self.new name.now)) }
+        ensures opened { OnOk result (Contains (opened self.new) name.now) }
+        ensures kept { KeepsNames (opened self.old) (opened self.new) };
+
+    /// Takes a disk back, and leaves its file as it stands. It takes no memory.
+    fn close_disk(&mut self, name: &str, disk: Self::Disk)
+        requires { Contains (opened self.old) name.now }
+        ensures counts { Adds name.now (Self.Disk.Disk.faults disk) (faults self.old) (faults self.new) }
+        ensures left { IfTells (files self.new) (IsLeftBy Self.Disk.Disk.tells Self.Disk.Disk.moments name.now disk) }
+        ensures others { ChangesOnly name.now (files self.old) (files self.new) }
         ensures kept { KeepsNames (opened self.old) (opened self.new) };
 }

@@ -1,14 +1,17 @@
 //! Files in memory that never fail.
-ghost use Rattle.std.specs.Prelude.{◌≡◌, [], ℕ, List, Option, Some, None, unwrap_or, option_map, IfOk, IfErr, IsOkAnd, OnOk, OnErr, IsSome, Contains, MatchOption};
-ghost use Rattle.std.specs.Option.{option_copied};
-ghost use Rattle.house_io.specs.Shelves.{NamedFile, file_of, bytes_of, Adds, KeepsNames};
-ghost use Rattle.house_io.specs.SureFiles.{Shelved, fresh_shelf, named_file, named_files};
+ghost use Rattle.std.specs.Prelude.{◌≡◌, ◌<◌, [], ℕ, List, Option, Some, None, true, unwrap_or, option_map, ◌∷◌, ◌++◌, IfOk, IfErr, OnOk, OnErr, IsTrue, Contains, MatchOption, string_bytes};
+ghost use Rattle.house_io.specs.Places.{HasNone, IsFirstAt};
+ghost use Rattle.house_io.specs.Shelves.{file_of, bytes_of, moments_at, KeepsNames};
+ghost use Rattle.house_io.specs.SureFiles.{fresh_shelf, named_files, named_entries, entry_moments};
+ghost use Rattle.house_io.specs.Moments.{opened};
+ghost use Rattle.house_io.specs.Recorded.{moments_of};
 ghost use Rattle.house_io.specs.declared.shelves.Refusal.TheVariants as why;
 
+use crate::shelved::SureEntry;
 use crate::tallies::Tallies;
-use crate::{Refusal, Shelf, SureSource};
+use crate::{Refusal, Shelf, SureDisk, SureSource};
 use lot_base::NoMemory;
-use std::alloc::Global;
+use std::alloc::{AllocError, Global};
 use std::marker::Model;
 
 /// A named file in memory.
@@ -18,12 +21,14 @@ pub struct SureFile {
     pub bytes: Vec<u8>,
 }
 
-/// Files in memory that never fail. An absent name gives an empty source.
+/// Files in memory that never fail. An absent name gives an empty source, and an empty disk. It tells until a disk that
+/// ceased to tell is closed.
 #[derive(Drop)]
 pub struct SureShelf {
-    files: Vec<SureFile>,
+    files: Vec<SureEntry>,
     tallies: Tallies,
     room: u32,
+    told: bool,
 }
 
 impl Model for SureShelf {
@@ -31,58 +36,87 @@ impl Model for SureShelf {
 
     ghost Value = { Shelved };
 
-    ghost use Rattle.house_io.specs.SureFiles.{named_files};
+    ghost use Rattle.house_io.specs.SureFiles.{named_entries};
     ghost use Rattle.house_io.specs.Counts.{names_of};
 
     ghost view = { λ shelf. record {
-      files = named_files shelf.files.items;
+      files = named_entries shelf.files.items;
       opened = names_of shelf.tallies;
       room = shelf.room;
+      told = shelf.told;
     } };
 }
 
 impl SureShelf {
     /// A shelf with these files. The room is that of each disk that is opened on it.
     pub fn new(alloc: Global, files: Vec<SureFile>, room: u32) -> Result<SureShelf, NoMemory>
-        ensures { IsOkAnd result (λ shelf. shelf ≡ fresh_shelf (named_files files.items) room) }
+        ensures { IfOk result (λ shelf. shelf ≡ fresh_shelf (named_files files.items) room) }
     {
+        let Ok(files) = entries_of(alloc, files) else {
+            return Err(NoMemory);
+        };
         Ok(SureShelf {
             files,
             tallies: Tallies::new(alloc),
             room,
+            told: true,
         })
     }
 
     /// The bytes of a file.
     pub fn file(&self, name: &str) -> Option<&[u8]>
-        ensures { option_copied result ≡ bytes_of self.now.files name.now }
+        ensures { MatchOption result (bytes_of self.now.files name.now ≡ None) (λ bytes. bytes_of self.now.files name.now ≡ Some bytes.now) }
     {
-        match file_named(&self.files, name) {
-            Some(file) => Some(&file.bytes),
+        match place_of(&self.files, name) {
+            Some(place) => Some(bytes_in(&self.files[place])),
             None => None,
         }
     }
 }
 
-/// The first file of a name.
-fn file_named<'a>(files: &'a [SureFile], name: &str) -> Option<&'a SureFile>
-    ensures { option_map named_file (option_copied result)
-        ≡ file_of (named_files files.now) name.now }
+fn entries_of(alloc: Global, files: Vec<SureFile>) -> Result<Vec<SureEntry>, AllocError>
+    ensures { IfOk result (λ entries. named_entries entries.items ≡ named_files files.items) }
 {
+    let mut entries = Vec::new(alloc);
     for file in files {
+        let SureFile { name, bytes } = file;
+        entries.push(SureEntry {
+            name,
+            bytes,
+            disk: None,
+        })?;
+    }
+    Ok(entries)
+}
+
+/// The place of the first file of a name.
+fn place_of(files: &[SureEntry], name: &str) -> Option<usize>
+    ensures { MatchOption result (HasNone (λ file. string_bytes file.name) files.now name.now) (λ place. IsFirstAt (λ file. string_bytes file.name) files.now name.now place) }
+{
+    for (place, file) in files.iter().enumerate() {
         if file.name.as_str() == name {
-            return Some(file);
+            return Some(place);
         }
     }
     None
 }
 
-/// A copy of the bytes of a file, or no bytes where it is absent.
-fn copy_of(alloc: Global, files: &[SureFile], name: &str) -> Result<Vec<u8>, NoMemory>
-    ensures { IfOk result (λ bytes. bytes.items ≡ unwrap_or (bytes_of (named_files files.now) name.now) []) }
+/// What a read of a file gives.
+fn bytes_in(entry: &SureEntry) -> &[u8]
+    ensures { result.now ≡ (entry_moments entry.now).now.read }
 {
-    match file_named(files, name) {
-        Some(file) => match file.bytes.to_vec(alloc) {
+    match &entry.disk {
+        Some(disk) => disk.bytes(),
+        None => &entry.bytes,
+    }
+}
+
+/// A copy of the bytes of a file, or no bytes where it is absent.
+fn copy_of(alloc: Global, files: &[SureEntry], name: &str) -> Result<Vec<u8>, NoMemory>
+    ensures { IfOk result (λ bytes. bytes.items ≡ unwrap_or (bytes_of (named_entries files.now) name.now) []) }
+{
+    match place_of(files, name) {
+        Some(place) => match bytes_in(&files[place]).to_vec(alloc) {
             Ok(bytes) => Ok(bytes),
             Err(_) => Err(NoMemory),
         },
@@ -90,10 +124,70 @@ fn copy_of(alloc: Global, files: &[SureFile], name: &str) -> Result<Vec<u8>, NoM
     }
 }
 
+/// The disk that was closed on a file, which is taken out of it, or a new one on its bytes.
+fn disk_in(alloc: Global, entry: &mut SureEntry, room: u32) -> Result<SureDisk, NoMemory>
+    ensures told { IfOk result (λ disk. IsTrue disk.file.told) }
+    ensures moments { IfOk result (λ disk. moments_of disk.file ≡ entry_moments entry.old) }
+    ensures unchanged { OnErr result (entry_moments entry.new ≡ entry_moments entry.old) }
+    ensures name { entry.new.name ≡ entry.old.name }
+{
+    match entry.disk.take() {
+        Some(disk) => Ok(disk),
+        None => match entry.bytes.as_slice().to_vec(alloc) {
+            Ok(bytes) => SureDisk::new(alloc, bytes, room),
+            Err(_) => Err(NoMemory),
+        },
+    }
+}
+
+/// The disk of a name, whose file is made where it is absent.
+fn disk_of(
+    alloc: Global,
+    files: &mut Vec<SureEntry>,
+    name: &str,
+    room: u32,
+) -> Result<SureDisk, NoMemory>
+    ensures told { IfOk result (λ disk. IsTrue disk.file.told) }
+    ensures moments { IfOk result (λ disk. moments_of disk.file ≡ moments_at (named_entries files.old.items) name.now) }
+    ensures unchanged { OnErr result ((other : List ℕ) → file_of (named_entries files.new.items) other ≡ file_of (named_entries files.old.items) other) }
+    ensures others { (other : List ℕ) → (other ≡ name.now → ⊥) → file_of (named_entries files.new.items) other ≡ file_of (named_entries files.old.items) other }
+{
+    match place_of(files, name) {
+        Some(place) => return disk_in(alloc, &mut files[place], room),
+        None => {}
+    }
+    let disk = match SureDisk::new(alloc, Vec::new(alloc), room) {
+        Ok(disk) => disk,
+        Err(NoMemory) => return Err(NoMemory),
+    };
+    match push_file(alloc, files, name) {
+        Ok(()) => Ok(disk),
+        Err(_) => Err(NoMemory),
+    }
+}
+
+/// Adds an empty file.
+fn push_file(alloc: Global, files: &mut Vec<SureEntry>, name: &str) -> Result<(), AllocError>
+    ensures added { OnOk result (named_entries files.new.items ≡ named_entries files.old.items ++ record { name = name.now; moments = opened [] } ∷ []) }
+    ensures unchanged { OnErr result (files.new.items ≡ files.old.items) }
+{
+    let name = String::from_str(alloc, name)?;
+    files.push(SureEntry {
+        name,
+        bytes: Vec::new(alloc),
+        disk: None,
+    })?;
+    Ok(())
+}
+
 impl Shelf for SureShelf {
+    ghost use Rattle.house_io.specs.SureFiles.{told_files};
+
     type Source = SureSource;
 
-    ghost files = { λ shelf. Some shelf.files };
+    type Disk = SureDisk;
+
+    ghost files = { λ shelf. told_files shelf };
 
     ghost faults = { λ _ _. 0 };
 
@@ -120,4 +214,35 @@ impl Shelf for SureShelf {
     fn close_source(&mut self, _name: &str, _source: SureSource)
         ensures unchanged { self.new ≡ self.old }
     {}
+
+    fn disk(&mut self, alloc: Global, name: &str) -> Result<SureDisk, Refusal>
+        ensures told { IfOk result (λ disk. IsTrue disk.file.told) }
+        ensures moments { IfOk result (λ disk. moments_of disk.file ≡ moments_at self.old.files name.now) }
+        ensures sure { IfErr result (λ refusal. refusal ≡ why.NoMemory) }
+        ensures same { OnErr result ((other : List ℕ) → file_of self.new.files other ≡ file_of self.old.files other) }
+        ensures others { (other : List ℕ) → (other ≡ name.now → ⊥) → file_of self.new.files other ≡ file_of self.old.files other }
+        ensures rest { (self.new.room ≡ self.old.room) × (self.new.told ≡ self.old.told) }
+        ensures opened { OnOk result (Contains self.new.opened name.now) }
+        ensures kept { KeepsNames self.old.opened self.new.opened }
+    {
+        if let Err(_) = self.tallies.begin(alloc, name) {
+            return Err(Refusal::NoMemory);
+        }
+        match disk_of(alloc, &mut self.files, name, self.room) {
+            Ok(disk) => Ok(disk),
+            Err(NoMemory) => Err(Refusal::NoMemory),
+        }
+    }
+
+    fn close_disk(&mut self, name: &str, disk: SureDisk)
+        ensures left { IsTrue self.new.told → IsTrue disk.file.told × (option_map (λ file. file.moments) (file_of self.new.files name.now) ≡ Some (moments_of disk.file)) }
+        ensures others { (other : List ℕ) → (other ≡ name.now → ⊥) → file_of self.new.files other ≡ file_of self.old.files other }
+        ensures told { IsTrue self.new.told → IsTrue self.old.told }
+        ensures rest { (self.new.room ≡ self.old.room) × (self.new.opened ≡ self.old.opened) }
+    {
+        match place_of(&self.files, name) {
+            Some(place) if disk.file.told => self.files[place].disk = Some(disk),
+            _ => self.told = false,
+        }
+    }
 }

@@ -2,7 +2,7 @@ use Rattle.std.proofs.Common.{◌≡◌, ◌∙◌, ap, subst, sym, Contains, So
 use Rattle.std.specs.Prelude.{option_map}
 use Rattle.house_io.specs.Counts.{names_of}
 use Rattle.house_io.specs.ListShelves.{ListedShelf, listed_file, source_on}
-use Rattle.house_io.specs.ListFiles.{files_as_listed}
+use Rattle.house_io.specs.ListFiles.{entries_as_listed}
 use Rattle.house_io.proofs.Finding.{bytes_of-opened}
 use Rattle.house_io.proofs.list_shelf.ListShelfShelf.source.Goals as goal
 
@@ -12,7 +12,7 @@ returns-in-Some-clause-bytes c =
     let P : ListedShelf → Type 0 = λ shelf. option_map source_on (listed_file shelf.files c.args.name.now) ≡ Some c.in-Some.source in
     bytes_of-opened c.args.self.now.files c.args.name.now c.in-Some.source
     (subst P c.self.view_is
-    (ap (λ files. option_map source_on (listed_file (files_as_listed files) c.args.name.now)) (sym c.deref.ensures.value) ∙ sym c.in-Ok.ensures ∙ c.in-Some.is))
+    (ap (λ files. option_map source_on (listed_file (entries_as_listed files) c.args.name.now)) (sym c.deref.ensures.value) ∙ sym c.in-Ok.ensures ∙ c.in-Some.is))
 
 -- a name that was opened before is still among those of the tallies, where the call was to fail
 pub returns-then-next_fails-clause-kept : goal.returns-then-next_fails-clause-kept

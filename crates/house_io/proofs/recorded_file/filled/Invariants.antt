@@ -1,0 +1,7 @@
+use Rattle.std.proofs.Common.{◌≡◌, []}
+use Rattle.house_io.specs.Moments.{Moment, IsImage}
+use Rattle.house_io.specs.Ranges.{latest_first}
+use Rattle.house_io.proofs.recorded_file.filled.Given as goal
+
+abbrev pub invariant-loop-range : goal.invariant-loop-range
+invariant-loop-range l = (m : Moment) → IsImage m l.bytes → latest_first l.ranges [] ≡ m.ranges → IsImage m l.image.items

@@ -1,0 +1,68 @@
+//! A disk in memory that never fails.
+ghost use Rattle.std.specs.Prelude.{◌≡◌, IsTrue, IfOk};
+ghost use Rattle.house_io.specs.Moments.{opened};
+
+use crate::{Disk, Failed, RecordedFile};
+use lot_base::NoMemory;
+use std::alloc::Global;
+
+/// A disk in memory that never fails. It tells its moments as long as its room suffices.
+#[derive(Drop)]
+pub struct SureDisk {
+    pub(crate) file: RecordedFile,
+}
+
+impl SureDisk {
+    ghost use Rattle.house_io.specs.Recorded.{moments_of};
+
+    /// A disk with these bytes, and room for so many more and so many calls.
+    pub fn new(alloc: Global, bytes: Vec<u8>, room: u32) -> Result<SureDisk, NoMemory>
+        ensures told { IfOk result (λ d. IsTrue d.file.told) }
+        ensures moments { IfOk result (λ d. moments_of d.file ≡ opened bytes.items) }
+        ensures room { IfOk result (λ d. (d.file.room ≡ room) × (d.file.calls_left ≡ room)) }
+    {
+        match RecordedFile::new(alloc, bytes, room) {
+            Ok(file) => Ok(SureDisk { file }),
+            Err(NoMemory) => Err(NoMemory),
+        }
+    }
+
+    /// What a read gives.
+    pub fn bytes(&self) -> &[u8]
+        ensures { result.now ≡ self.now.file.bytes.items }
+    {
+        &self.file.bytes
+    }
+}
+
+impl Disk for SureDisk {
+    ghost use Rattle.house_io.specs.Recorded.{moments_of};
+
+    ghost tells = { λ d. d.file.told };
+
+    ghost moments = { λ d. moments_of d.file };
+
+    ghost faults = { λ d. 0 };
+
+    fn moment(&self) -> u64 {
+        self.file.calls.len() as u64
+    }
+
+    fn size(&mut self) -> Result<u64, Failed> {
+        Ok(self.file.bytes.len() as u64)
+    }
+
+    fn read_at(&mut self, at: u64, into: &mut [u8]) -> Result<usize, Failed> {
+        Ok(self.file.read_at(at, into))
+    }
+
+    fn write_at(&mut self, at: u64, from: &[u8]) -> Result<(), Failed> {
+        self.file.write_at(at, from);
+        Ok(())
+    }
+
+    fn sync(&mut self) -> Result<(), Failed> {
+        self.file.sync();
+        Ok(())
+    }
+}

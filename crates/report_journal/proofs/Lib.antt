@@ -1,0 +1,11 @@
+pub mod Files
+pub mod Writes
+pub mod Records
+pub mod Forming
+pub mod Kept
+pub mod Gates
+pub mod Chunked
+pub mod Placed
+pub mod Chains
+pub mod OneKind
+pub mod FindKind

@@ -1,0 +1,47 @@
+use Rattle.std.proofs.Common.{◌≡◌, ◌+◌, ◌++◌, [], ◌∷◌, ℕ, List, refl, sym, ◌∙◌, ap, subst, length, arith, rules, length-append, lit≤, Ok}
+use Rattle.report_journal.specs.Scans.{IsChunk, AreRead, IsNext}
+use Rattle.report_journal.specs.declared.places.Place.{Place}
+use Rattle.report_journal.specs.declared.heads.Next.TheVariants.{Record}
+use Rattle.report_journal.proofs.Chunked.{chunk_none}
+use Rattle.report_journal.proofs.Gates.{read_start, read_more}
+use Rattle.report_journal.proofs.heads.read_records.Goals as goal
+
+pub records-init : goal.records-init
+records-init g c = rw c.new-places.ensures.items (record {
+  limit = lit≤ tt;
+  roomy = lit≤ tt;
+  tells = λ told. told;
+  moments = λ told. refl;
+  read = λ told. read_start _ (c.requires.long told);
+  chunk = λ told. chunk_none c.in_ok-chunk.chunk.bytes.items _ c.in_ok-chunk.chunk.at c.in_ok-chunk.chunk.filled c.in_ok-chunk.ensures;
+  faults = omega arith;
+})
+
+pub records-preserved : goal.records-preserved
+records-preserved g c =
+    let before = c.records.invariant in
+    let limits = c.next_record.ensures.limits c.in-Record.length (c.in_ok-next_record.was ∙ ap Ok c.in-Record.is) in
+    let place : Place = record { at = c.records.gate + 5; length = c.in-Record.length } in
+    rw c.in_ok-push-in-Record.ensures.items (record {
+      limit = omega (arith, limits);
+      roomy = omega (arith, before.roomy, length-append c.records.places.items (place ∷ []));
+      tells = λ told. before.tells (c.next_record.ensures.tells told);
+      moments = λ told. c.next_record.ensures.moments told ∙ before.moments (c.next_record.ensures.tells told);
+      read = λ told.
+          let told_before = c.next_record.ensures.tells told in
+          let file = (g.D.Disk.moments c.args.disk.now).now.read in
+          let next = subst (λ n. IsNext n c.records.gate (g.D.Disk.moments c.records.disk).now.read) c.in-Record.is (c.in_ok-next_record.ensures.found told) in
+          let next_there = subst (λ ms. IsNext (Record c.in-Record.length) c.records.gate ms.now.read) (before.moments told_before) next in
+          let more = read_more c.records.places.items c.records.gate c.in-Record.length file (before.read told_before) next_there limits.0 in
+          let e : c.records.gate + 5 + c.in-Record.length ≡ c.records.gate + (5 + c.in-Record.length) = omega arith in
+          subst (λ gate. AreRead (c.records.places.items ++ place ∷ []) gate file) e more;
+      chunk = λ told.
+          let told_before = c.next_record.ensures.tells told in
+          subst (λ ms. IsChunk c.next_record.new.chunk.bytes.items c.next_record.new.chunk.at c.next_record.new.chunk.filled ms.now.read) (before.moments told_before) (c.in_ok-next_record.ensures.chunk told);
+      faults = omega (arith, before.faults, c.next_record.ensures.cause.later);
+    })
+
+pub next_record-requires-clause-chunk : goal.next_record-requires-clause-chunk
+next_record-requires-clause-chunk g c told =
+    let before = c.records.invariant in
+    subst (λ ms. IsChunk c.records.chunk.bytes.items c.records.chunk.at c.records.chunk.filled ms.now.read) (sym (before.moments told)) (before.chunk told)

@@ -1,0 +1,48 @@
+-- A journal as its callers see it: a disk, the payloads that count, and the one that is in doubt.
+use Rattle.std.specs.Prelude.{◌≡◌, ℕ, ◌+◌, ◌≤◌, ◌<◌, List, [], ◌∷◌, length, take, drop, map, Option, Some, None}
+use Rattle.house_io.specs.Moments.{Moments, Leaves, IsSettled}
+use Rattle.report_journal.specs.Format.{Contents, StandsFor, Fits, front}
+use Rattle.report_journal.specs.Puts.{with_one_more, IsBeforeOrAfter}
+use Rattle.report_journal.specs.declared.places.Place.{Place}
+
+pub record JournalOf (D : Type 0) : Type 0 where
+  pub disk : D
+  -- what the disk's file stands for, where the disk tells
+  pub contents : Contents
+  -- the offset of the gate that ends the list
+  pub end : ℕ
+  -- the payload in doubt: that of an append that failed on the disk and was not mended
+  pub pending : Option (List ℕ)
+
+abbrev pub payload_at : List ℕ → Place → List ℕ
+payload_at file place = take place.length (drop place.at file)
+
+abbrev pub payloads_at : List ℕ → List Place → List (List ℕ)
+payloads_at file places = map (payload_at file) places
+
+-- what a header and the places of records say of a file
+abbrev pub said : ℕ → List ℕ → List Place → List ℕ → Contents
+said clock digest places file = record { clock = clock; digest = digest; payloads = payloads_at file places }
+
+-- these payloads lie at these places, the first record's gate at this offset
+abbrev pub ArePlaced : ℕ → List Place → List (List ℕ) → Type 0
+ArePlaced gate [] [] = Unit {0}
+ArePlaced gate (place ∷ places) (payload ∷ payloads) = (place.at ≡ gate + 5) × (place.length ≡ length payload) × ArePlaced (gate + 5 + length payload) places payloads
+ArePlaced gate places payloads = ⊥
+
+-- The disk is settled and its file stands for the contents, or this payload is in doubt: a read and each image
+-- stand for the contents with it or without it.
+abbrev pub Stands : Contents → Option (List ℕ) → Moments → Type 0
+Stands x None ms = IsSettled ms.now × StandsFor x ms.now.read
+Stands x (Some payload) ms = Leaves (IsBeforeOrAfter x payload) ms.now × Fits (with_one_more x payload)
+
+-- what a journal keeps where its disk tells
+pub record IsKept (x : Contents) (places : List Place) (end : ℕ) (pending : Option (List ℕ)) (ms : Moments) : Type 0 where
+  pub stands : Stands x pending ms
+  pub placed : ArePlaced 41 places x.payloads
+  pub size : length (front x) ≡ end
+
+-- the record in doubt fits, and its place has room among so many
+abbrev pub HasRoom : ℕ → ℕ → ℕ → Option (List ℕ) → Type 0
+HasRoom end len capacity None = Unit {0}
+HasRoom end len capacity (Some payload) = (end + 6 + length payload ≤ 67108864) × (len < capacity)

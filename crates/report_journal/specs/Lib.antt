@@ -1,0 +1,5 @@
+pub mod Format
+pub mod Puts
+pub mod Journals
+pub mod Scans
+pub mod Kinds
