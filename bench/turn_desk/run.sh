@@ -1,17 +1,22 @@
 #!/usr/bin/env bash
 # Measures turns per second at a desk and at a mutex. The program is proved, built and run in a folder of its own: the gate
-# reads every .rt and .antt file of the repository, so these two have another ending here.
+# reads every .rt and .antt file of the repository, so its files have another ending here.
 set -euo pipefail
 here="$(cd "$(dirname "$0")" && pwd)"
 root="$(cd "$here/../.." && pwd)"
 work="${TMPDIR:-/tmp}/turn_desk_bench"
 crate="$work/crates/turn_bench"
-rm -rf "$crate/src" "$crate/proofs" "$work/crates/turn_desk"
-mkdir -p "$crate/src" "$crate/proofs/desk_turns"
+rm -rf "$crate/src" "$crate/specs" "$crate/proofs" "$work/crates/turn_desk"
+mkdir -p "$crate/src" "$crate/specs" "$crate/proofs/desk_turns" "$crate/proofs/desk_four"
 cp "$root/HANDLES" "$work/"
-printf '%s\n' 'turn_desk may_wait=2: atomic_table' 'turn_bench: turn_desk' > "$work/crates.txt"
+printf '%s\n' 'turn_desk may_wait=2: atomic_table' 'turn_bench: turn_desk atomic_table' > "$work/crates.txt"
 cp -r "$root/crates/turn_desk" "$work/crates/turn_desk"
 cp "$here/main.rt.txt" "$crate/src/main.rt"
+echo 'pub mod Back' > "$crate/specs/Lib.antt"
+cp "$here/back.antt.txt" "$crate/specs/Back.antt"
+echo 'mod Four' > "$crate/proofs/Lib.antt"
+cp "$here/four.antt.txt" "$crate/proofs/Four.antt"
 cp "$here/desk_turns.antt.txt" "$crate/proofs/desk_turns/Invariants.antt"
+cp "$here/desk_four.antt.txt" "$crate/proofs/desk_four/Answers.antt"
 cd "$crate"
 rt run

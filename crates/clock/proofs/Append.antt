@@ -14,8 +14,8 @@ use Rattle.clock.specs.declared.judging.Judgement.TheVariants.{Take, NotMember, 
 use Rattle.lot_base.specs.Economy.{total_units}
 use Rattle.lot_base.specs.Steps.{first_set, step_set}
 use Rattle.clock.specs.Reports.{is_named, demand_in, demands_in, is_full, ClockHistory, members_of, with_report}
-use Rattle.clock.specs.Standing.{step_set_after, leads_on, is_full_after, good_at_ceiling, prices_after, good_from, phase_after}
-use Rattle.clock.specs.Judging.{is_member, judged, late_by, repeat_of, judgement_of, TakesAll, IsLegal}
+use Rattle.clock.specs.Standing.{step_set_after, leads_on, is_full_after, good_at_ceiling, prices_after, good_from}
+use Rattle.clock.specs.Judging.{is_member, judged, late_by, repeat_of, judgement_of, TakesAll}
 use Rattle.clock.proofs.Path.{both}
 
 find-some : {X : Type 0} (test : X → Bool) (xs : List X) (y : X) (v : X) → find test xs ≡ Some v → find test (xs ++ y ∷ []) ≡ Some v
@@ -50,7 +50,7 @@ full-stays (j ∷ ms) reports r round e =
     let b = full-stays ms reports r round h.1 in
     λ i. a i && b i
 
-least-stays : (ms : List ℕ) (reports : List Report) (r : Report) (round set : ℕ) → is_full ms reports round ≡ true → total_units (λ j. least (demands_in (reports ++ r ∷ []) round j) set) ms ≡ total_units (λ j. least (demands_in reports round j) set) ms
+pub least-stays : (ms : List ℕ) (reports : List Report) (r : Report) (round set : ℕ) → is_full ms reports round ≡ true → total_units (λ j. least (demands_in (reports ++ r ∷ []) round j) set) ms ≡ total_units (λ j. least (demands_in reports round j) set) ms
 least-stays [] reports r round set e = refl
 least-stays (j ∷ ms) reports r round set e =
     let h = both (is_some (demand_in reports round j)) (is_full ms reports round) e in
@@ -58,7 +58,7 @@ least-stays (j ∷ ms) reports r round set e =
     let b = least-stays ms reports r round set h.1 in
     λ i. least (unwrap_or (a i) []) set + b i
 
-step-stays : (goods ms : List ℕ) (reports : List Report) (r : Report) (round : ℕ) → is_full ms reports round ≡ true → step_set goods (demands_in (reports ++ r ∷ []) round) ms ≡ step_set goods (demands_in reports round) ms
+pub step-stays : (goods ms : List ℕ) (reports : List Report) (r : Report) (round : ℕ) → is_full ms reports round ≡ true → step_set goods (demands_in (reports ++ r ∷ []) round) ms ≡ step_set goods (demands_in reports round) ms
 unfolding step_set
 step-stays goods ms reports r round e =
     let f = λ (set : ℕ). least-stays ms reports r round set e in

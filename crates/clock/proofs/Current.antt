@@ -1,13 +1,14 @@
 -- Reports of the last or current round are found from the place on at which they begin.
-use Rattle.std.proofs.Common.{◌≡◌, ◌≤◌, ◌<◌, ℕ, zero, suc, ◌+◌, ◌&&◌, Bool, false, nat_eq, cond, List, [], ◌∷◌, Some, refl, sym, ◌∙◌, ap, arith, take, drop, subst}
+use Rattle.std.proofs.Common.{◌≡◌, ◌≤◌, ℕ, zero, suc, ◌+◌, ◌&&◌, false, nat_eq, cond, List, [], ◌∷◌, Some, refl, sym, ◌∙◌, ap, arith, take, drop, subst}
 use Rattle.std.proofs.lemmas.Bool.Decides.{nat_tests}
 use Rattle.std.specs.Prelude.{find, option_map, unwrap_or, is_none}
 use Rattle.std.specs.List.{AllByRecursion}
 use Rattle.demand_set.specs.declared.reports.Report.{Report}
-use Rattle.lot_base.specs.Steps.{step_set}
+use Rattle.lot_base.specs.Steps.{step_set, excess}
 use Rattle.lot_base.specs.declared.phases.Phase.{Phase}
 use Rattle.clock.specs.Reports.{is_named, demand_in, demands_in, ClockHistory}
-use Rattle.clock.specs.Standing.{last_round, steps_of}
+use Rattle.clock.specs.Standing.{last_round}
+use Rattle.credit_book.specs.Account.{Sums}
 use Rattle.clock.specs.Kept.{IsKept}
 
 find-current : (current steps j : ℕ) (reports : List Report) → AllByRecursion (λ (r : Report). r.round ≤ steps) (take current reports)
@@ -31,6 +32,10 @@ pub step_set-current : (current steps : ℕ) (goods ms : List ℕ) (reports roun
     → step_set goods (demands_in round (steps + 1)) ms ≡ step_set goods (demands_in reports (steps + 1)) ms
 step_set-current current steps goods ms reports round past e = λ i. step_set goods (λ j. unwrap_or (demand-current current steps j reports round past e i) []) ms
 
+pub excess-current : (current steps : ℕ) (goods ms : List ℕ) (set : ℕ) (reports round : List Report) → AllByRecursion (λ (r : Report). r.round ≤ steps) (take current reports) → round ≡ drop current reports
+    → excess goods (demands_in round (steps + 1)) ms set ≡ excess goods (demands_in reports (steps + 1)) ms set
+excess-current current steps goods ms set reports round past e = λ i. excess goods (λ j. unwrap_or (demand-current current steps j reports round past e i) []) ms set
+
 pub all-drop : (P : Report → Type 0) (n : ℕ) (reports round : List Report) → AllByRecursion P reports → round ≡ drop n reports → AllByRecursion P round
 all-drop P n reports round all e = by n reports all e
   where
@@ -40,9 +45,9 @@ all-drop P n reports round all e = by n reports all e
     by (suc n) (x ∷ reports) all e = by n reports all.1 e
 
 -- the same in the words of the clock that keeps the place
-pub current-means : (c : ClockHistory) (kept : ClockHistory) (current steps : ℕ) (phase : Phase) (prices : List ℕ) (list round : List Report) → IsKept c current steps phase prices → c ≡ kept → list ≡ c.reports → round ≡ drop current list
+pub current-means : (c : ClockHistory) (kept : ClockHistory) (current steps : ℕ) (phase : Phase) (prices : List ℕ) (account : Sums) (list round : List Report) → IsKept c current steps phase prices account → c ≡ kept → list ≡ c.reports → round ≡ drop current list
     → (j : ℕ) → demand_in round (last_round kept) j ≡ demand_in kept.reports (last_round kept) j
-current-means c kept current steps phase prices list round k same whole e j =
+current-means c kept current steps phase prices account list round k same whole e j =
     let P : ClockHistory → Type 0 = λ h. demand_in round (last_round h) j ≡ demand_in h.reports (last_round h) j in
     let Q : ℕ → Type 0 = λ n. demand_in round (n + 1) j ≡ demand_in c.reports (n + 1) j in
     subst P same (subst Q k.steps_are (demand-current current steps j c.reports round k.past (e ∙ ap (drop current) whole)))

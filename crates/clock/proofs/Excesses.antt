@@ -1,11 +1,11 @@
 -- The excesses of a round as they are added up, bidder by bidder, and the step set of their table.
-use Rattle.std.proofs.Common.{◌≡◌, ◌≢◌, ◌<◌, ◌≤◌, ℕ, zero, suc, ◌+◌, ◌*◌, ◌/◌, ◌%◌, ◌-◌, ◌^◌, nat_eq, cond, Bool, true, false, not, ◌&&◌, Option, Some, None, List, [], ◌∷◌, length, refl, sym, ◌∙◌, ap, arith, subst, ◌⊎◌, inl, inr}
-use Rattle.std.specs.Prelude.{filter, option_map, unwrap_or, find, replicate, slice_index_or, ℤ, pos, negsuc, ◌+ℤ◌, ◌-ℤ◌, ◌≤ℤ◌, fold, min, slice_index}
+use Rattle.std.proofs.Common.{◌≡◌, ◌≢◌, ◌<◌, ◌≤◌, ℕ, zero, suc, ◌+◌, ◌*◌, ◌/◌, ◌%◌, ◌-◌, ◌^◌, nat_eq, cond, Bool, true, false, not, Some, None, List, [], ◌∷◌, length, refl, sym, ◌∙◌, ap, arith, subst, ◌⊎◌, inl, inr}
+use Rattle.std.specs.Prelude.{filter, option_map, unwrap_or, find, replicate, ℤ, pos, negsuc, ◌+ℤ◌, ◌≤ℤ◌, fold, min, slice_index}
 use Rattle.std.proofs.lemmas.Int.{ints}
 use Rattle.std.proofs.Math.Nat.{mul-le-mul_left}
 use Rattle.std.specs.List.{AllByRecursion, range_with_len}
 use Rattle.lot_base.specs.Goods.{quantity_in, box_size, AtMost, IsSupply}
-use Rattle.lot_base.specs.Demands.{least, least_of, IsDemand, IsTable}
+use Rattle.lot_base.specs.Demands.{least, IsDemand, IsTable}
 use Rattle.lot_base.specs.Economy.{total_units}
 use Rattle.lot_base.specs.Steps.{IsStepSet, excess, first_set, step_set}
 use Rattle.demand_set.specs.declared.reports.Report.{Report}

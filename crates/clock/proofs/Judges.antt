@@ -1,5 +1,5 @@
 -- The judgement that the function gives is the one of the table.
-use Rattle.std.proofs.Common.{◌≡◌, ◌≢◌, ◌<◌, ◌≤◌, ℕ, suc, ◌+◌, Bool, true, false, not, ◌&&◌, nat_eq, cond, List, Option, Some, None, refl, sym, ◌∙◌, ap, arith, subst}
+use Rattle.std.proofs.Common.{◌≡◌, ◌≤◌, ℕ, Bool, true, false, not, ◌&&◌, nat_eq, cond, List, Option, Some, None, refl, sym, ◌∙◌, ap, arith, subst}
 use Rattle.std.proofs.lemmas.Bool.Decides.{nat_tests}
 use Rattle.std.specs.Prelude.{nat_le, length, zip}
 use Rattle.std.specs.List.{list_all}
@@ -7,11 +7,10 @@ use Rattle.lot_base.specs.declared.phases.Phase.{Phase}
 use Rattle.lot_base.specs.declared.phases.Phase.TheVariants.{Running, Ended, Halted}
 use Rattle.demand_set.specs.declared.reports.Report.{Report}
 use Rattle.demand_set.specs.Same.{same_demand}
-use Rattle.clock.specs.declared.judging.Judgement.{Judgement}
-use Rattle.clock.specs.declared.judging.Judgement.TheVariants.{Take, Again, NotMember, Early, Conflict, Over, NoRound}
+use Rattle.clock.specs.declared.judging.Judgement.TheVariants.{NotMember, NoRound}
 use Rattle.clock.specs.Reports.{ClockHistory, demand_in}
 use Rattle.clock.specs.Standing.{phase_of, last_round}
-use Rattle.clock.specs.Judging.{IsMember, IsInRound, IsBeyond, IsJudgement, is_member, judgement_of, judged, repeat_of, repeated, late_by}
+use Rattle.clock.specs.Judging.{IsMember, IsInRound, IsBeyond, IsJudgement, is_member, judgement_of, repeat_of, repeated, late_by}
 use Rattle.demand_set.proofs.Same.{same_pair, same_lists, same_self}
 use Rattle.clock.proofs.Path.{both}
 

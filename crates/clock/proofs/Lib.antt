@@ -5,5 +5,7 @@ pub mod Members
 pub mod Excesses
 pub mod Append
 pub mod Next
+pub mod Ledger
 pub mod After
 pub mod Judges
+pub mod Truthful

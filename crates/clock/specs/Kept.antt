@@ -3,11 +3,14 @@ use Rattle.std.specs.Prelude.{◌≡◌, ◌≤◌, ◌+◌, ℕ, List, length, 
 use Rattle.std.specs.List.{AllByRecursion}
 use Rattle.lot_base.specs.declared.phases.Phase.{Phase}
 use Rattle.demand_set.specs.declared.reports.Report.{Report}
-use Rattle.clock.specs.Reports.{ClockHistory}
+use Rattle.lot_base.specs.Economy.{without}
+use Rattle.credit_book.specs.Account.{Sums, sum_without}
+use Rattle.clock.specs.Reports.{ClockHistory, members_of}
+use Rattle.clock.specs.Accounts.{account_after}
 use Rattle.clock.specs.Standing.{steps_of, phase_after, prices_after}
 use Rattle.clock.specs.Judging.{IsLegal}
 
-pub record IsKept (c : ClockHistory) (current steps : ℕ) (phase : Phase) (prices : List ℕ) : Type 0 where
+pub record IsKept (c : ClockHistory) (current steps : ℕ) (phase : Phase) (prices : List ℕ) (account : Sums) : Type 0 where
   pub legal : IsLegal c
   pub steps_are : steps ≡ steps_of c
   pub few : steps ≤ 60000
@@ -16,3 +19,5 @@ pub record IsKept (c : ClockHistory) (current steps : ℕ) (phase : Phase) (pric
   pub begins : current ≤ length c.reports
   pub past : AllByRecursion (λ (r : Report). r.round ≤ steps) (take current c.reports)
   pub none_beyond : AllByRecursion (λ (r : Report). r.round ≤ steps + 1) c.reports
+  pub account_steps : account.steps ≡ steps
+  pub account_is : (bidder : ℕ) → sum_without account bidder ≡ account_after c (without bidder (members_of c)) steps

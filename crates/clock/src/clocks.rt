@@ -4,6 +4,7 @@ ghost use Rattle.std.specs.Prelude.{◌≡◌, ◌+◌, ◌-◌, ◌<◌, ◌≤
 use crate::judging::Judgement;
 use crate::rounds::{find_demand, missing_in};
 use crate::standing::Standing;
+use credit_book::Account;
 use demand_set::{Demand, Report};
 use lot_base::{NoMemory, Phase, Prices, Terms};
 use std::alloc::Global;
@@ -20,6 +21,7 @@ pub struct Clock {
     steps: u32,
     phase: Phase,
     prices: Prices,
+    account: Account,
 }
 
 impl Model for Clock {
@@ -30,7 +32,7 @@ impl Model for Clock {
 
     ghost view = { λ c. record { terms = c.terms; number = c.number; reports = c.reports.items } };
 
-    ghost invariant = { λ c. IsKept (record { terms = c.terms; number = c.number; reports = c.reports.items }) c.current c.steps c.phase c.prices };
+    ghost invariant = { λ c. IsKept (record { terms = c.terms; number = c.number; reports = c.reports.items }) c.current c.steps c.phase c.prices c.account };
 }
 
 /// What a clock shows: its last or current round, how it stands and at which prices.
@@ -49,9 +51,16 @@ pub struct NotApplied {
 
 impl Clock {
     ghost use Rattle.lot_base.specs.Demands.{IsDemand};
-    ghost use Rattle.clock.specs.Reports.{demand_in, with_report};
+    ghost use Rattle.std.specs.Prelude.{ℤ, pos, ◌≤ℤ◌, ◌-ℤ◌};
+    ghost use Rattle.lot_base.specs.Economy.{lyapunov, without, AllBelowCeiling, IsLeastMinimiser};
+    ghost use Rattle.lot_base.specs.declared.phases.Phase.TheVariants.{Ended, Halted};
+    ghost use Rattle.lyapunov.specs.Paths.{highest, IsLeastNear};
+    ghost use Rattle.clock.specs.Reports.{demand_in, with_report, members_of, opening_of};
+    ghost use Rattle.clock.specs.Explained.{Explains};
     ghost use Rattle.clock.specs.Standing.{HasSteps, steps_of, last_round, phase_of, prices_of, missing_of};
     ghost use Rattle.clock.specs.Judging.{judgement_of, IsJudgement, IsLegal};
+    ghost use Rattle.clock.specs.Accounts.{account_without};
+    ghost use Rattle.credit_book.specs.Account.{sum_without};
     ghost use Rattle.clock.specs.declared.judging.Judgement.TheVariants.{Take};
 
     /// A clock of these terms without reports.
@@ -60,7 +69,9 @@ impl Clock {
         ensures { IfOk result (λ c. c ≡ record { terms = terms.now; number = number; reports = [] }) }
     {
         let reports = Vec::new(alloc);
-        let standing = Standing::next(terms, number, &reports, 0, 0, &Prices::zero(&terms.goods));
+        let mut account = Account::new();
+        let prices = Prices::zero(&terms.goods);
+        let standing = Standing::next(terms, number, &reports, 0, 0, &prices, &mut account);
         Ok(Clock {
             terms: *terms,
             number,
@@ -69,6 +80,7 @@ impl Clock {
             steps: standing.steps,
             phase: standing.phase,
             prices: standing.prices,
+            account,
         })
     }
 
@@ -144,6 +156,7 @@ impl Clock {
             self.current,
             self.steps,
             &self.prices,
+            &mut self.account,
         );
         self.current = standing.current;
         self.steps = standing.steps;
@@ -165,8 +178,24 @@ impl Clock {
         ensures value { result ≡ steps_of self.now }
         ensures made { HasSteps self.now result }
         ensures few { result ≤ 60000 }
+
+        // Where valuations explain the reports: each step lowers the Lyapunov function, and some price rose in every step.
+        ensures bound { (u : ℕ → List ℕ → ℤ) → Explains u self.now → pos result ≤ℤ lyapunov self.now.terms.goods u (members_of self.now) (opening_of self.now.terms) }
+        ensures highest { (u : ℕ → List ℕ → ℤ) → Explains u self.now → result ≡ highest (prices_of self.now) }
     {
         self.steps
+    }
+
+    /// What the steps add up to for the members.
+    pub fn account(&self) -> &Account
+        ensures sums { (bidder : ℕ) → sum_without result.now bidder ≡ account_without self.now bidder }
+        ensures steps { result.now.steps ≡ steps_of self.now }
+
+        // Where valuations explain the reports, the account is how far the Lyapunov function of those in it rose.
+        ensures rise { (u : ℕ → List ℕ → ℤ) (bidder : ℕ) → Explains u self.now →
+            sum_without result.now bidder ≡ lyapunov self.now.terms.goods u (without bidder (members_of self.now)) (prices_of self.now) -ℤ lyapunov self.now.terms.goods u (without bidder (members_of self.now)) (opening_of self.now.terms) }
+    {
+        &self.account
     }
 
     /// The last or current round.
@@ -174,6 +203,12 @@ impl Clock {
         ensures round { result.round ≡ last_round self.now }
         ensures phase { result.phase ≡ phase_of self.now }
         ensures prices { result.prices ≡ prices_of self.now }
+
+        // Where valuations explain the reports, a clock that has ended is at the least prices that minimise the Lyapunov function
+        // of its members; at every moment that is so among the prices so many steps from the opening.
+        ensures least { (u : ℕ → List ℕ → ℤ) → Explains u self.now → phase_of self.now ≡ Ended → IsLeastMinimiser (opening_of self.now.terms) (lyapunov self.now.terms.goods u (members_of self.now)) (prices_of self.now) }
+        ensures near { (u : ℕ → List ℕ → ℤ) → Explains u self.now → IsLeastNear (opening_of self.now.terms) (steps_of self.now) (lyapunov self.now.terms.goods u (members_of self.now)) (prices_of self.now) }
+        ensures unhalted { (u : ℕ → List ℕ → ℤ) (good : ℕ) → Explains u self.now → AllBelowCeiling self.now.terms.goods u self.now.terms.ceiling (members_of self.now) → phase_of self.now ≡ Halted good → ⊥ }
     {
         Look {
             round: self.steps + 1,

@@ -4,12 +4,13 @@ ghost use Rattle.std.specs.List.{AllByRecursion};
 ghost use Rattle.lot_base.specs.Goods.{IsSupply};
 ghost use Rattle.lot_base.specs.Demands.{IsDemand, IsTable, least};
 ghost use Rattle.lyapunov.specs.Excesses.{entry, IsSmall};
-ghost use Rattle.lot_base.specs.Steps.{excess, step_set};
+ghost use Rattle.lot_base.specs.Steps.{excess};
 ghost use Rattle.clock.specs.Reports.{members, is_named, demand_in, demands_in};
+ghost use Rattle.clock.specs.Tables.{AreTablesOf};
 ghost use Rattle.demand_set.specs.declared.reports.Report.{Report as ReportValue};
 
 use demand_set::{Demand, Report};
-use lot_base::{Excess, GoodSet, Goods, LeastTable};
+use lot_base::{Excess, Goods, LeastTable};
 
 /// The demand of the first report of a bidder in a round.
 pub(crate) fn find_demand(reports: &[Report], round: u32, bidder: u8) -> Option<&Demand>
@@ -53,37 +54,38 @@ pub(crate) fn missing_in(bidders: u8, clock: u8, reports: &[Report], round: u32)
     None
 }
 
-/// The step set of what the members demand in a round.
-pub(crate) fn step_set_in(
+/// What the members demand at least in a round: the table of each, at the member's number, and the excess of each set.
+#[derive(Drop)]
+pub(crate) struct Least {
+    pub tables: [Option<LeastTable>; 13],
+    pub excess: Excess,
+}
+
+/// What the members demand at least in a round.
+pub(crate) fn least_of_members(
     goods: &Goods,
     bidders: u8,
     clock: u8,
     reports: &[Report],
     round: u32,
-) -> GoodSet
+) -> Least
     requires few { bidders ≤ 12 }
     requires supply { IsSupply goods.now }
     requires fit { AllByRecursion (λ (r : ReportValue). IsDemand goods.now r.demand) reports.now }
-    ensures { result.0 ≡ step_set goods.now (demands_in reports.now round) (members bidders clock) }
+    ensures excess { (set : ℕ) → set < 2 ^ length goods.now → entry result.excess.0 set ≡ excess goods.now (demands_in reports.now round) (members bidders clock) set }
+    ensures tables { AreTablesOf goods.now (demands_in reports.now round) bidders clock result.tables }
 {
-    step_choice::choose(goods, &excess_in(goods, bidders, clock, reports, round))
-}
-
-/// The excess of each set of goods over what the members demand in a round.
-fn excess_in(goods: &Goods, bidders: u8, clock: u8, reports: &[Report], round: u32) -> Excess
-    requires few { bidders ≤ 12 }
-    requires supply { IsSupply goods.now }
-    requires fit { AllByRecursion (λ (r : ReportValue). IsDemand goods.now r.demand) reports.now }
-    ensures { (set : ℕ) → set < 2 ^ length goods.now → entry result.0 set ≡ excess goods.now (demands_in reports.now round) (members bidders clock) set }
-{
+    let mut tables = [None; 13];
     let mut excess = lyapunov::opening(goods);
     for step in 0..bidders {
         let bidder = step + 1;
         if bidder != clock {
-            lyapunov::add_table(goods, &mut excess, &least_in(goods, reports, round, bidder));
+            let table = least_in(goods, reports, round, bidder);
+            lyapunov::add_table(goods, &mut excess, &table);
+            tables[bidder as usize] = Some(table);
         }
     }
-    excess
+    Least { tables, excess }
 }
 
 /// The least quantities that a bidder demands in a round, 0 where it has not reported.

@@ -4,7 +4,8 @@ ghost use Rattle.std.specs.List.{AllByRecursion};
 ghost use Rattle.lot_base.specs.Demands.{IsDemand};
 ghost use Rattle.clock.specs.Standing.{prices_after, leads_on, good_from};
 
-use crate::rounds::{missing_in, step_set_in};
+use crate::rounds::{least_of_members, missing_in};
+use credit_book::Account;
 use demand_set::Report;
 use lot_base::{GoodSet, Phase, Prices, Terms};
 
@@ -22,7 +23,7 @@ impl Standing {
     ghost use Rattle.demand_set.specs.declared.reports.Report.{Report as ReportValue};
     ghost use Rattle.clock.specs.Next.{IsNext};
 
-    /// Where the round after so many steps leads. Its reports are those from a place on.
+    /// Where the round after so many steps leads. Its reports are those from a place on. A step is added to the account.
     pub(crate) fn next(
         terms: &Terms,
         number: u8,
@@ -30,6 +31,7 @@ impl Standing {
         current: usize,
         steps: u32,
         prices: &Prices,
+        account: &mut Account,
     ) -> Standing
         requires begins { current ≤ length reports.now }
         requires past { AllByRecursion (λ (r : ReportValue). r.round ≤ steps) (take current reports.now) }
@@ -37,7 +39,8 @@ impl Standing {
         requires before { (m : ℕ) → m < steps → leads_on (record { terms = terms.now; number = number; reports = reports.now }) m ≡ true }
         requires prices { prices.now ≡ prices_after (record { terms = terms.now; number = number; reports = reports.now }) steps }
         requires few { steps ≤ 60000 }
-        ensures { IsNext (record { terms = terms.now; number = number; reports = reports.now }) current steps result }
+        requires account { account.old.steps ≡ steps }
+        ensures { IsNext (record { terms = terms.now; number = number; reports = reports.now }) current steps account.old account.new result }
     {
         let round = reports.split_at(current).1;
         if missing_in(terms.bidders, number, round, steps + 1).is_some() {
@@ -48,7 +51,8 @@ impl Standing {
                 prices: *prices,
             };
         }
-        let set = step_set_in(&terms.goods, terms.bidders, number, round, steps + 1);
+        let least = least_of_members(&terms.goods, terms.bidders, number, round, steps + 1);
+        let set = step_choice::choose(&terms.goods, &least.excess);
         if set.0 == 0 {
             return Standing {
                 current,
@@ -64,12 +68,15 @@ impl Standing {
                 phase: Phase::Halted(good),
                 prices: *prices,
             },
-            None => Standing {
-                current: reports.len(),
-                steps: steps + 1,
-                phase: Phase::Running,
-                prices: prices.raise(set),
-            },
+            None => {
+                account.add(&terms.goods, set, &least.tables);
+                Standing {
+                    current: reports.len(),
+                    steps: steps + 1,
+                    phase: Phase::Running,
+                    prices: prices.raise(set),
+                }
+            }
         }
     }
 }
