@@ -12,6 +12,7 @@ use Rattle.clock.specs.Reports.{ClockHistory, opening_of, members_of, demand_in,
 use Rattle.clock.specs.Standing.{step_set_after, leads_on, is_full_after, good_at_ceiling, prices_after, prices_of, phase_by, phase_after, phase_of, good_from, steps_from, steps_of, last_round, last_demands, missing_of}
 use Rattle.clock.specs.Accounts.{account_after, account_without}
 use Rattle.settlement.specs.Clocks.{choice_of}
+use Rattle.settlement.specs.Alike.{StandAlike}
 
 abbrev of : ClockHistory → List Report → ClockHistory
 of c h = record c { reports = h }
@@ -64,15 +65,6 @@ account-alike c h k bidders (suc n) e =
     let s = step-alike c h k n e in
     λ i. a i -ℤ excess c.terms.goods (λ j. unwrap_or (e (n + 1) j i) []) bidders (s i)
 
--- what of a clock's standing the settlement reads
-pub record StandAlike (c d : ClockHistory) : Type 0 where
-  pub same_steps : steps_of c ≡ steps_of d
-  pub same_phase : phase_of c ≡ phase_of d
-  pub same_prices : prices_of c ≡ prices_of d
-  pub same_missing : missing_of c ≡ missing_of d
-  pub same_account : (bidder : ℕ) → account_without c bidder ≡ account_without d bidder
-  pub same_choice : choice_of c ≡ choice_of d
-
 demands-alike : (c : ClockHistory) (h k : List Report) → Alike h k → last_demands (of c h) ≡ last_demands (of c k)
 demands-alike c h k e = let s = steps-alike c h k e in (λ i j. unwrap_or (e (steps_of (of c h) + 1) j i) []) ∙ ap (λ n j. demands_in k (n + 1) j) s
 
@@ -88,8 +80,9 @@ alike-of : (c : ClockHistory) (h k : List Report) → Alike h k → StandAlike (
 alike-of c h k e =
     let s = steps-alike c h k e in
     let missing : missing_of (of c h) ≡ missing_of (of c k) =
-        (λ i. unwrap_or (find (λ j. is_none (e (steps_of (of c h) + 1) j i)) (members_of c)) 0) ∙ ap (λ n. unwrap_or (find (λ j. is_none (demand_in k (n + 1) j)) (members_of c)) 0) s in
+    (λ i. unwrap_or (find (λ j. is_none (e (steps_of (of c h) + 1) j i)) (members_of c)) 0) ∙ ap (λ n. unwrap_or (find (λ j. is_none (demand_in k (n + 1) j)) (members_of c)) 0) s in
     record {
+      same_number = refl;
       same_steps = s;
       same_phase = phase-alike c h k (steps_of (of c h)) e ∙ ap (phase_after (of c k)) s;
       same_prices = prices-alike c h k (steps_of (of c h)) e ∙ ap (prices_after (of c k)) s;

@@ -16,5 +16,5 @@ awards-more all own others awards rows next row award place below at got is same
     let Y : List ClockHistory → Type 0 = λ cs. AllZip (IsAwardRow all) cs (rows ++ row ∷ []) in (
       subst Z (sym pushed) (subst Y (sym (take-next others place own below at)) (zip-push (IsAwardRow all) (take place others) rows own row before.0 is)),
       ap (map (λ (row : AwardRow). row.award)) pushed ∙ map-push (λ (row : AwardRow). row.award) rows row ∙ ap (λ xs. xs ++ row.award ∷ []) before.1
-      ∙ ap (λ x. take place awards ++ x ∷ []) same ∙ sym (take-got awards place award got),
+          ∙ ap (λ x. take place awards ++ x ∷ []) same ∙ sym (take-got awards place award got),
     )

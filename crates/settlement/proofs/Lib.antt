@@ -5,3 +5,5 @@ pub mod Bounds
 pub mod Awards
 pub mod Auction
 pub mod Alike
+pub mod Same
+pub mod One

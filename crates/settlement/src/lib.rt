@@ -11,8 +11,11 @@ ghost use Rattle.settlement.specs.Settling.{IsClockRow, IsSettled, IsOutcomeOf};
 
 mod awarding;
 mod choosing;
+pub mod laws;
 pub mod outcome;
 mod standing;
+#[cfg(test)]
+mod tests;
 
 use choosing::Choices;
 use clock::Clock;

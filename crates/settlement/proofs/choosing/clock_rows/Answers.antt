@@ -14,7 +14,7 @@ returns-in-Ok-None c =
     let clock = c.clock-item.result in
     let i = c.loop-clock.clock-index in
     let first = ap (find has_no_choice) (around clocks i clock c.loop-clock-test.true c.clock-item.is)
-        ∙ first-without (take i clocks) (drop (i + 1) clocks) clock c.loop-clock.rows.items c.loop-clock.invariant (rw c.in-Ok-None.field-0-is at c.in-Ok-None.ensures) in
+    ∙ first-without (take i clocks) (drop (i + 1) clocks) clock c.loop-clock.rows.items c.loop-clock.invariant (rw c.in-Ok-None.field-0-is at c.in-Ok-None.ensures) in
     of_first has_no_choice clocks (λ k. c.number.result ≡ k.number) clock first c.number.ensures.value
 
 pub loop-clock-preserved : goal.loop-clock-preserved
