@@ -1,0 +1,4 @@
+pub mod Clocks
+pub mod Settling
+pub mod Found
+pub mod Alike

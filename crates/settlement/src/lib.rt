@@ -1,0 +1,71 @@
+//! What the clocks of an auction settle: prices, awards and payments, or where they are open.
+#![tactic(auto)]
+
+ghost use Rattle.std.specs.Prelude.{◌≡◌, IfOk};
+ghost use Rattle.std.specs.List.{AllByRecursion, AllZip};
+ghost use Rattle.lot_base.specs.declared.phases.Phase.TheVariants.{Ended};
+ghost use Rattle.clock.specs.Reports.{ClockHistory};
+ghost use Rattle.clock.specs.Standing.{phase_of};
+ghost use Rattle.settlement.specs.Clocks.{AreClocksOf};
+ghost use Rattle.settlement.specs.Settling.{IsClockRow, IsSettled, IsOutcomeOf};
+
+mod awarding;
+mod choosing;
+pub mod laws;
+pub mod outcome;
+mod standing;
+#[cfg(test)]
+mod tests;
+
+use choosing::Choices;
+use clock::Clock;
+use lot_base::{NoMemory, Terms};
+pub use outcome::{AwardRow, ClockRow, Outcome, Rows, Settlement};
+use std::alloc::Global;
+
+/// What the clocks of an auction settle, in the order of their numbers.
+pub fn settle(alloc: Global, terms: &Terms, clocks: &[Clock]) -> Result<Settlement, NoMemory>
+    requires { AreClocksOf terms.now clocks.now }
+    ensures { IfOk result (IsOutcomeOf clocks.now) }
+{
+    if let Some(settlement) = standing::open(clocks) {
+        return Ok(settlement);
+    }
+    if let Some(settlement) = standing::halted(clocks) {
+        return Ok(settlement);
+    }
+    match choosing::clock_rows(alloc, terms, clocks) {
+        Ok(Choices::NoneOf(clock)) => Ok(Settlement::NoAward { clock }),
+        Ok(Choices::All(rows)) => match outcome_of(alloc, terms, clocks, rows) {
+            Ok(outcome) => Ok(Settlement::Settled(outcome)),
+            Err(NoMemory) => Err(NoMemory),
+        },
+        Err(NoMemory) => Err(NoMemory),
+    }
+}
+
+/// The outcome of clocks that have these rows.
+fn outcome_of(
+    alloc: Global,
+    terms: &Terms,
+    clocks: &[Clock],
+    rows: Rows<ClockRow>,
+) -> Result<Outcome, NoMemory>
+    requires clocks { AreClocksOf terms.now clocks.now }
+    requires ended { AllByRecursion (λ (c : ClockHistory). phase_of c ≡ Ended) clocks.now }
+    requires rows { AllZip IsClockRow clocks.now rows }
+    ensures { IfOk result (IsSettled clocks.now) }
+{
+    let all = &clocks[0];
+    let others = clocks.split_at(1).1;
+    let row = &rows.as_slice()[0];
+    let prices = row.prices;
+    match awarding::award_rows(alloc, all, others, &prices, &row.choices) {
+        Ok(awards) => Ok(Outcome {
+            prices,
+            rows: awards,
+            clocks: rows,
+        }),
+        Err(NoMemory) => Err(NoMemory),
+    }
+}
