@@ -5,6 +5,8 @@ pub mod clocks;
 pub mod judging;
 mod rounds;
 mod standing;
+#[cfg(test)]
+mod tests;
 
 pub use clocks::{Clock, Look, NotApplied};
 pub use judging::Judgement;
