@@ -3,8 +3,10 @@
 
 pub mod clocks;
 pub mod judging;
+pub mod replaying;
 mod rounds;
 mod standing;
 
 pub use clocks::{Clock, Look, NotApplied};
 pub use judging::Judgement;
+pub use replaying::ReplayFault;
