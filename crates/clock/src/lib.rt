@@ -3,6 +3,7 @@
 
 pub mod clocks;
 pub mod judging;
+pub mod replaying;
 mod rounds;
 mod standing;
 #[cfg(test)]
@@ -10,3 +11,4 @@ mod tests;
 
 pub use clocks::{Clock, Look, NotApplied};
 pub use judging::Judgement;
+pub use replaying::ReplayFault;
