@@ -18,4 +18,4 @@ returns-in-Ok-None c =
     of_first has_no_choice clocks (λ k. c.number.result ≡ k.number) clock first c.number.ensures.value
 
 pub loop-clock-preserved : goal.loop-clock-preserved
-loop-clock-preserved c = rows-more c.args.clocks.now c.clock-item.result c.loop-clock.rows.items c.push.new.rows.items c.in-Ok-Some.row c.loop-clock.clock-index c.loop-clock-test.true c.clock-item.is (rw c.in-Ok-Some.field-0-is at c.in-Ok-Some.ensures) c.in_ok-push-in-Ok-Some.ensures c.loop-clock.invariant
+loop-clock-preserved c = rows-more c.args.clocks.now c.clock-item.result c.loop-clock.rows.items c.push.new.items.items c.in-Ok-Some.row c.loop-clock.clock-index c.loop-clock-test.true c.clock-item.is (rw c.in-Ok-Some.field-0-is at c.in-Ok-Some.ensures) c.in_ok-push-in-Ok-Some.ensures c.loop-clock.invariant
