@@ -69,9 +69,10 @@ all-choices u terms [] [] same explains ended zip = tt
 all-choices u terms [] (row ∷ rows) same explains ended zip = absurd zip
 all-choices u terms (c ∷ clocks) [] same explains ended zip = absurd zip
 all-choices u terms (c ∷ clocks) (row ∷ rows) same explains ended zip =
-    let w = clock-equilibrium u terms c row.choices same.0 explains.0 ended.0 zip.0.choice_is in
-    (walrasian-welfare terms.goods (opening_of terms) u (members terms.bidders c.number) (prices_of c) (bundle_of (members terms.bidders c.number) row.choices) w,
-    all-choices u terms clocks rows same.1 explains.1 ended.1 zip.1)
+    let w = clock-equilibrium u terms c row.choices same.0 explains.0 ended.0 zip.0.choice_is in (
+      walrasian-welfare terms.goods (opening_of terms) u (members terms.bidders c.number) (prices_of c) (bundle_of (members terms.bidders c.number) row.choices) w,
+      all-choices u terms clocks rows same.1 explains.1 ended.1 zip.1,
+    )
 
 -- what is known of the clock of all
 record IsWholeClock (u : ℕ → List ℕ → ℤ) (terms : Terms) (all : ClockHistory) (x : ℕ → List ℕ) : Type 0 where
@@ -109,9 +110,10 @@ all-payments u terms all x whole [] [] clocks same explains ended zip one awards
 all-payments u terms all x whole [] (row ∷ rows) clocks same explains ended zip one awards are = absurd are
 all-payments u terms all x whole (own ∷ others) [] clocks same explains ended zip one awards are = absurd are
 all-payments u terms all x whole (own ∷ others) (row ∷ rows) [] same explains ended zip one awards are = absurd zip
-all-payments u terms all x whole (own ∷ others) (row ∷ rows) (r ∷ clocks) same explains ended zip one awards are =
-    (one-payment u terms all own x r.choices row whole same.0 explains.0 ended.0 zip.0.choice_is one.0 awards.0 are.0,
-    all-payments u terms all x whole others rows clocks same.1 explains.1 ended.1 zip.1 one.1 awards.1 are.1)
+all-payments u terms all x whole (own ∷ others) (row ∷ rows) (r ∷ clocks) same explains ended zip one awards are = (
+  one-payment u terms all own x r.choices row whole same.0 explains.0 ended.0 zip.0.choice_is one.0 awards.0 are.0,
+  all-payments u terms all x whole others rows clocks same.1 explains.1 ended.1 zip.1 one.1 awards.1 are.1,
+)
 
 numbers-of : (terms : Terms) (all : ClockHistory) (others : List ClockHistory) → AreClocksOf terms (all ∷ others) → (all.number ≡ 0) × (map (λ (c : ClockHistory). c.number) others ≡ all_bidders terms.bidders)
 numbers-of terms all others h =
@@ -142,7 +144,7 @@ efficient u terms all others o h explains ended s = by o.clocks s.clocks_are
         let A : List ℕ → Type 0 = λ ks. AllZip (λ j (row : AwardRow). x j ≡ row.award) ks o.rows in
         let O : List ℕ → Type 0 = λ ks. AllByRecursion (λ i. IsOneOf i js) ks in
         let pays = all-payments u terms all x whole others o.rows clocks h.terms_are.1 explains.1 ended.1 zip.1
-            (subst O (sym numbers.1) (all-one terms.bidders 1 terms.bidders (omega arith) (omega arith))) (subst A (sym numbers.1) awards) s.rows_are in
+        (subst O (sym numbers.1) (all-one terms.bidders 1 terms.bidders (omega arith) (omega arith))) (subst A (sym numbers.1) awards) s.rows_are in
         let V : List ℕ → Type 0 = λ ks. AllZip (PaysVcg u terms x) ks o.rows in
         let B : List ℕ → Type 0 = λ ks. AllZip (IsBestChoice u terms) ks o.clocks in
         record {
