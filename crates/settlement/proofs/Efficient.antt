@@ -1,12 +1,11 @@
 -- Where valuations explain all clocks, an outcome is an equilibrium with the payments of Vickrey, Clarke and Groves.
-use Rattle.std.proofs.Common.{◌≡◌, ◌≤◌, ◌<◌, ℕ, zero, suc, ◌+◌, Bool, true, false, not, nat_eq, cond, List, [], ◌∷◌, length, map, Some, add-one, refl, sym, ◌∙◌, ap, arith, subst}
-use Rattle.std.specs.Prelude.{filter, ℤ, pos, ◌+ℤ◌, ◌-ℤ◌, find, None}
+use Rattle.std.proofs.Common.{◌≡◌, ◌≤◌, ℕ, zero, suc, ◌+◌, false, not, nat_eq, cond, List, [], ◌∷◌, length, map, Some, add-one, refl, sym, ◌∙◌, ap, arith, subst}
+use Rattle.std.specs.Prelude.{ℤ, pos, ◌+ℤ◌, ◌-ℤ◌}
 use Rattle.std.specs.List.{AllByRecursion, AllZip, range_with_len}
 use Rattle.std.proofs.lemmas.Bool.Decides.{nat_tests}
-use Rattle.std.proofs.lemmas.Int.{ints}
 use Rattle.lot_base.specs.Goods.{cost, AtMost}
 use Rattle.lot_base.specs.Economy.{without, lyapunov, IsLeastMinimiser}
-use Rattle.lot_base.specs.Equilibrium.{IsWalrasian, IsWalrasianPrices, IsLeastWalrasian, IsWelfare, IsVcgPayment, worth}
+use Rattle.lot_base.specs.Equilibrium.{IsWalrasian, IsWalrasianPrices, IsLeastWalrasian, IsVcgPayment}
 use Rattle.lot_base.specs.declared.auction_terms.Terms.{Terms}
 use Rattle.lot_base.specs.declared.phases.Phase.TheVariants.{Ended}
 use Rattle.lyapunov.specs.Bidders.{IsOneOf, bundle_of}
@@ -18,8 +17,8 @@ use Rattle.clock.specs.Standing.{phase_of, prices_of}
 use Rattle.clock.specs.Accounts.{account_without}
 use Rattle.clock.specs.Explained.{Explains}
 use Rattle.clock.proofs.Truthful.{account-rise, least-minimiser}
-use Rattle.settlement.specs.Clocks.{AreClocksOf, choice_of, is_running, is_halted}
-use Rattle.settlement.specs.Settling.{AreSettled, IsSettled, IsClockRow, IsAwardRow, IsOutcomeOf}
+use Rattle.settlement.specs.Clocks.{AreClocksOf, choice_of}
+use Rattle.settlement.specs.Settling.{AreSettled, IsClockRow, IsAwardRow, IsOutcomeOf}
 use Rattle.settlement.specs.Efficient.{ExplainsAll, award_of, PaysVcg, IsBestChoice, IsEfficient, IsEfficientIfSettled}
 use Rattle.settlement.specs.declared.outcome.AwardRow.{AwardRow}
 use Rattle.settlement.specs.declared.outcome.ClockRow.{ClockRow}
@@ -27,7 +26,6 @@ use Rattle.settlement.specs.declared.outcome.Outcome.{Outcome}
 use Rattle.settlement.specs.declared.outcome.Settlement.{Settlement}
 use Rattle.settlement.specs.declared.outcome.Settlement.TheVariants.{Settled, Open, Halted, NoAward}
 use Rattle.settlement.proofs.Firsts.{all-ended}
-use Rattle.settlement.proofs.Members.{count-range, count-map}
 use Rattle.settlement.proofs.Bounds.{choice-count}
 use Rattle.settlement.proofs.Explained.{explained-equilibrium}
 

@@ -1,9 +1,9 @@
 -- A clock that has ended, and whose reports valuations explain: its choice is an equilibrium of its members.
-use Rattle.std.proofs.Common.{◌≡◌, ◌≤◌, ℕ, suc, ◌+◌, Bool, true, false, nat_eq, cond, List, [], ◌∷◌, length, map, Option, Some, None, is_some, refl, sym, ◌∙◌, ap, arith, subst}
-use Rattle.std.specs.Prelude.{find, option_map, unwrap_or, ℤ, pos, ◌+ℤ◌, ◌-ℤ◌}
+use Rattle.std.proofs.Common.{◌≡◌, ℕ, ◌+◌, Bool, true, false, nat_eq, cond, List, [], ◌∷◌, map, Some, is_some, refl, sym, ◌∙◌, ap, arith, subst}
+use Rattle.std.specs.Prelude.{find, option_map, unwrap_or, ℤ}
 use Rattle.std.specs.List.{AllByRecursion, range_with_len}
 use Rattle.std.proofs.lemmas.Bool.Decides.{nat_tests}
-use Rattle.lot_base.specs.Economy.{demand, without}
+use Rattle.lot_base.specs.Economy.{demand}
 use Rattle.lot_base.specs.Choices.{IsClearingChoice}
 use Rattle.lot_base.specs.Equilibrium.{IsWalrasian}
 use Rattle.lot_base.specs.declared.phases.Phase.TheVariants.{Ended}
@@ -12,7 +12,7 @@ use Rattle.lyapunov.specs.Bidders.{AllDifferent, bundle_of}
 use Rattle.lyapunov.proofs.Bidders.{AllDifferent-range, AllDifferent-without, map-bundle_of}
 use Rattle.lyapunov.proofs.Duality.{clearing-walrasian}
 use Rattle.clock.specs.Reports.{ClockHistory, opening_of, members, members_of, is_named, demand_in, demands_in, is_full}
-use Rattle.clock.specs.Standing.{prices_after, prices_of, phase_of, steps_of, last_demands, last_round}
+use Rattle.clock.specs.Standing.{prices_of, phase_of, steps_of, last_demands, last_round}
 use Rattle.clock.specs.Explained.{Explains, IsTrueReport}
 use Rattle.clock.proofs.Path.{both}
 use Rattle.clock.proofs.Truthful.{least-near}

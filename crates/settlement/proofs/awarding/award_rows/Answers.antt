@@ -1,8 +1,3 @@
-use Rattle.std.proofs.Common.{◌≡◌, ◌++◌, ◌∷◌, [], ℕ, List, take, map, sym, ◌∙◌, ap, subst}
-use Rattle.std.specs.List.{AllZip}
-use Rattle.clock.specs.Reports.{ClockHistory}
-use Rattle.settlement.specs.Settling.{IsAwardRow}
-use Rattle.settlement.specs.declared.outcome.AwardRow.{AwardRow}
 use Rattle.settlement.proofs.Awards.{awards-more}
 use Rattle.settlement.proofs.awarding.award_rows.Goals as goal
 

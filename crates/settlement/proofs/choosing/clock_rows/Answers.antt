@@ -1,9 +1,6 @@
-use Rattle.std.proofs.Common.{◌≡◌, ◌+◌, ◌++◌, ◌∷◌, [], List, take, drop, Some, sym, ◌∙◌, ap, subst}
+use Rattle.std.proofs.Common.{◌≡◌, ◌+◌, take, drop, ◌∙◌, ap}
 use Rattle.std.specs.Prelude.{find}
-use Rattle.std.specs.List.{AllZip}
-use Rattle.clock.specs.Reports.{ClockHistory}
 use Rattle.settlement.specs.Clocks.{has_no_choice}
-use Rattle.settlement.specs.Settling.{IsClockRow}
 use Rattle.settlement.proofs.Firsts.{of_first, first-without, rows-more}
 use Rattle.settlement.proofs.Zips.{around}
 use Rattle.settlement.proofs.choosing.clock_rows.Goals as goal
