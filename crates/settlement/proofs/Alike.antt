@@ -1,16 +1,15 @@
 -- Two histories of a clock in which the same demand stands under each round and bidder: they stand alike.
-use Rattle.std.proofs.Common.{◌≡◌, ℕ, zero, suc, ◌+◌, ◌*◌, true, false, not, ◌&&◌, nat_eq, List, [], length, map, Option, is_some, is_none, unwrap_or, refl, sym, ◌∙◌, ap, subst}
+use Rattle.std.proofs.Common.{◌≡◌, ℕ, zero, suc, ◌+◌, ◌*◌, true, false, not, ◌&&◌, nat_eq, List, [], length, map, is_some, is_none, unwrap_or, refl, ◌∙◌, ap, subst}
 use Rattle.std.specs.List.{list_all}
-use Rattle.std.specs.Prelude.{find, ℤ, pos, ◌-ℤ◌}
+use Rattle.std.specs.Prelude.{find, ◌-ℤ◌}
 use Rattle.lot_base.specs.Goods.{raised}
 use Rattle.lot_base.specs.Steps.{step_set, excess}
 use Rattle.lot_base.specs.Choices.{first_choice}
 use Rattle.lot_base.specs.Economy.{without}
-use Rattle.lot_base.specs.declared.phases.Phase.{Phase}
 use Rattle.demand_set.specs.declared.reports.Report.{Report}
 use Rattle.clock.specs.Reports.{ClockHistory, opening_of, members_of, demand_in, demands_in}
-use Rattle.clock.specs.Standing.{step_set_after, leads_on, is_full_after, good_at_ceiling, prices_after, prices_of, phase_by, phase_after, phase_of, good_from, steps_from, steps_of, last_round, last_demands, missing_of}
-use Rattle.clock.specs.Accounts.{account_after, account_without}
+use Rattle.clock.specs.Standing.{step_set_after, leads_on, is_full_after, good_at_ceiling, prices_after, phase_by, phase_after, good_from, steps_from, steps_of, last_demands, missing_of}
+use Rattle.clock.specs.Accounts.{account_after}
 use Rattle.settlement.specs.Clocks.{choice_of}
 use Rattle.settlement.specs.Alike.{StandAlike}
 

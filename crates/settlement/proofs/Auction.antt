@@ -1,5 +1,5 @@
 -- The clocks of an auction: the clock of all bidders stands first, and one clock for each bidder behind it.
-use Rattle.std.proofs.Common.{◌≡◌, ◌<◌, ℕ, ◌+◌, List, [], ◌∷◌, length, map, drop, get_or, add-one, Some, sym, ◌∙◌, ap, subst, arith}
+use Rattle.std.proofs.Common.{◌≡◌, ◌<◌, ℕ, zero, suc, ◌+◌, List, [], ◌∷◌, ◌++◌, length, map, drop, get_or, add-one, sym, ◌∙◌, ap, subst, arith}
 use Rattle.std.specs.List.{AllByRecursion, AllZip, range_with_len}
 use Rattle.lot_base.specs.Goods.{cost}
 use Rattle.lot_base.specs.declared.auction_terms.Terms.{Terms}
@@ -8,6 +8,7 @@ use Rattle.settlement.specs.Clocks.{AreClocksOf}
 use Rattle.settlement.specs.Settling.{IsClockRow}
 use Rattle.settlement.specs.declared.outcome.ClockRow.{ClockRow}
 use Rattle.settlement.proofs.Members.{count-members, count-map, count-range}
+use Rattle.settlement.proofs.Zips.{map-push, all-push}
 use Rattle.settlement.proofs.Bounds.{choice-count, choice-small}
 
 pub count-clocks : (terms : Terms) (clocks : List ClockHistory) → AreClocksOf terms clocks → length clocks ≡ terms.bidders + 1
@@ -42,3 +43,23 @@ first-small terms clocks rows all row h zip e f =
     let r = first-row clocks rows all row zip (omega arith) e f in
     let P : List ℕ → Type 0 = λ p. AllByRecursion (λ x. cost p x < 2251799813685248) row.choices in
     subst P (sym r.prices_are) (choice-small all row.choices r.choice_is)
+
+-- the first so many clocks of an auction, as a loop makes one after the other
+pub record AreFirst (terms : Terms) (count : ℕ) (clocks : List ClockHistory) : Type 0 where
+  pub numbers : map (λ (c : ClockHistory). c.number) clocks ≡ range_with_len 0 count
+  pub terms_are : AllByRecursion (λ (c : ClockHistory). c.terms ≡ terms) clocks
+
+range-push : (a n : ℕ) → range_with_len a (suc n) ≡ range_with_len a n ++ (a + n) ∷ []
+range-push a zero = let e : a ≡ a + 0 = omega arith in ap (λ k. k ∷ []) e
+range-push a (suc n) = let e : a + 1 + n ≡ a + suc n = omega arith in ap (λ ks. a ∷ ks) (range-push (a + 1) n ∙ ap (λ k. range_with_len (a + 1) n ++ k ∷ []) e)
+
+pub first-more : (terms : Terms) (count : ℕ) (clocks next : List ClockHistory) (c : ClockHistory) → AreFirst terms count clocks → c.terms ≡ terms → c.number ≡ count → next ≡ clocks ++ c ∷ [] → AreFirst terms (count + 1) next
+first-more terms count clocks next c h same number pushed =
+    let N : ClockHistory → ℕ = λ c. c.number in
+    let n : suc count ≡ count + 1 = omega arith in
+    let z : count ≡ 0 + count = omega arith in
+    let T : List ClockHistory → Type 0 = AllByRecursion (λ (c : ClockHistory). c.terms ≡ terms) in
+    record {
+      numbers = ap (map N) pushed ∙ map-push N clocks c ∙ ap (λ ks. ks ++ c.number ∷ []) h.numbers ∙ ap (λ k. range_with_len 0 count ++ k ∷ []) (number ∙ z) ∙ sym (range-push 0 count) ∙ ap (range_with_len 0) n;
+      terms_are = subst T (sym pushed) (all-push (λ (c : ClockHistory). c.terms ≡ terms) clocks c h.terms_are same);
+    }

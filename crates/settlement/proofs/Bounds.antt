@@ -1,8 +1,8 @@
 -- How much a bundle of a clearing choice can cost: no price is above the ceiling, and no quantity above the supply.
-use Rattle.std.proofs.Common.{◌≡◌, ◌<◌, ◌≤◌, ℕ, zero, suc, ◌+◌, ◌*◌, ◌^◌, List, [], ◌∷◌, length, Option, Some, refl, sym, ◌∙◌, ap, subst, arith, map}
+use Rattle.std.proofs.Common.{◌≡◌, ◌<◌, ◌≤◌, ℕ, ◌+◌, ◌*◌, ◌^◌, List, [], ◌∷◌, length, Option, Some, sym, ◌∙◌, arith, map}
 use Rattle.std.proofs.Math.Nat.{mul-le-mul_left, mul-le-mul_right}
 use Rattle.std.specs.List.{AllByRecursion}
-use Rattle.lot_base.specs.Goods.{cost, plus, zeros, box_size, IsSupply}
+use Rattle.lot_base.specs.Goods.{cost, plus, zeros, box_size}
 use Rattle.lot_base.specs.declared.auction_terms.Terms.{Terms}
 use Rattle.lot_base.specs.Choices.{sum_of, Clears, IsClearingChoice, first_choice}
 use Rattle.clock.specs.Reports.{ClockHistory, opening_of, members_of}

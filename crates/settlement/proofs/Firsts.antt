@@ -1,6 +1,6 @@
 -- The first clock that passes a test, and what clocks are of which none does.
-use Rattle.std.proofs.Common.{◌≡◌, ◌⊎◌, inl, inr, ◌<◌, ◌+◌, Bool, true, false, cond, List, [], ◌∷◌, ◌++◌, length, take, get_or, Option, Some, None, is_none, refl, sym, ◌∙◌, ap, subst, unwrap_or}
-use Rattle.std.specs.Prelude.{find, option_map, MatchOption, ℕ}
+use Rattle.std.proofs.Common.{◌≡◌, ◌⊎◌, inl, inr, ◌<◌, ◌+◌, Bool, true, false, cond, List, [], ◌∷◌, ◌++◌, length, take, get_or, Option, Some, None, is_none, refl, sym, ◌∙◌, ap, subst}
+use Rattle.std.specs.Prelude.{find, MatchOption, ℕ}
 use Rattle.std.specs.List.{AllByRecursion, AllZip}
 use Rattle.lot_base.specs.declared.phases.Phase.{Phase}
 use Rattle.lot_base.specs.declared.phases.Phase.TheVariants.{Running, Ended, Halted}

@@ -7,3 +7,5 @@ pub mod Auction
 pub mod Alike
 pub mod Same
 pub mod One
+pub mod Explained
+pub mod Efficient

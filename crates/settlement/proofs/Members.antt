@@ -1,11 +1,11 @@
 -- The members of a clock in its last round: each has reported, and what they demand is a list in their order.
-use Rattle.std.proofs.Common.{◌≡◌, ◌≢◌, ◌<◌, ◌≤◌, ℕ, zero, suc, ◌+◌, ◌-◌, Bool, true, false, not, ◌&&◌, nat_eq, cond, List, [], ◌∷◌, ◌++◌, length, map, Option, Some, None, is_some, refl, sym, ◌∙◌, ap, subst, arith}
+use Rattle.std.proofs.Common.{◌≡◌, ◌≢◌, ◌<◌, ◌≤◌, ℕ, zero, suc, ◌+◌, ◌-◌, Bool, true, false, not, nat_eq, cond, List, [], ◌∷◌, ◌++◌, length, map, Option, Some, None, is_some, refl, sym, ◌∙◌, ap, subst, arith}
 use Rattle.std.proofs.lemmas.Bool.Decides.{nat_tests}
-use Rattle.std.specs.Prelude.{filter, find, option_map, IsSome}
-use Rattle.std.specs.List.{AllByRecursion, list_all, range_with_len}
+use Rattle.std.specs.Prelude.{filter, find, option_map}
+use Rattle.std.specs.List.{AllByRecursion, range_with_len}
 use Rattle.lot_base.specs.Demands.{IsDemand}
 use Rattle.lot_base.specs.Choices.{IsChoice}
-use Rattle.lot_base.specs.declared.phases.Phase.TheVariants.{Running, Ended, Halted}
+use Rattle.lot_base.specs.declared.phases.Phase.TheVariants.{Running, Ended}
 use Rattle.demand_set.specs.declared.reports.Report.{Report}
 use Rattle.clock.specs.Reports.{ClockHistory, members, members_of, demand_in, is_full, is_named}
 use Rattle.clock.specs.Standing.{phase_of, phase_by, steps_of, is_full_after, last_round, last_demands}

@@ -1,14 +1,13 @@
 -- Families of clocks that stand alike have one outcome.
-use Rattle.std.proofs.Common.{◌≡◌, ℕ, ◌+◌, Bool, true, false, cond, List, [], ◌∷◌, map, Option, Some, None, is_none, refl, sym, ◌∙◌, ap, subst}
-use Rattle.std.specs.Prelude.{find, MatchOption, ℤ, pos, ◌+ℤ◌, ◌-ℤ◌}
+use Rattle.std.proofs.Common.{◌≡◌, ℕ, ◌+◌, Bool, true, false, cond, List, [], ◌∷◌, map, Option, Some, None, is_none, refl, sym, ◌∙◌, ap}
+use Rattle.std.specs.Prelude.{find, MatchOption, pos, ◌+ℤ◌, ◌-ℤ◌}
 use Rattle.std.specs.List.{AllZip}
 use Rattle.lot_base.specs.Goods.{cost}
 use Rattle.lot_base.specs.declared.phases.Phase.TheVariants as phase
 use Rattle.clock.specs.Reports.{ClockHistory}
-use Rattle.clock.specs.Standing.{steps_of, prices_of, phase_of, last_round, missing_of}
 use Rattle.clock.specs.Accounts.{account_without}
-use Rattle.settlement.specs.Clocks.{runs, has_stopped, is_running, is_halted, has_no_choice, choice_of}
-use Rattle.settlement.specs.Settling.{NoneIs, IsOutcomeOf, IsSettled, AreSettled, IsClockRow, IsAwardRow}
+use Rattle.settlement.specs.Clocks.{runs, has_stopped, is_running, is_halted, has_no_choice}
+use Rattle.settlement.specs.Settling.{IsOutcomeOf, IsSettled, IsClockRow, IsAwardRow}
 use Rattle.settlement.specs.Alike.{StandAlike, HoldSame}
 use Rattle.settlement.specs.declared.outcome.AwardRow.{AwardRow}
 use Rattle.settlement.specs.declared.outcome.ClockRow.{ClockRow}

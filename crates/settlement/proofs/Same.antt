@@ -1,14 +1,13 @@
 -- In a legal history each report is the one of its name. So legal histories that hold the same reports have the same demand
 -- under each round and bidder, and stand alike.
-use Rattle.std.proofs.Common.{◌≡◌, ◌⊎◌, inl, inr, ◌↔◌, ◌<◌, ℕ, zero, suc, ◌+◌, Bool, true, false, ◌&&◌, nat_eq, cond, List, [], ◌∷◌, ◌++◌, length, Option, Some, None, refl, sym, ◌∙◌, ap, subst, arith}
+use Rattle.std.proofs.Common.{◌≡◌, ◌⊎◌, inl, inr, ◌<◌, ℕ, zero, suc, Bool, true, false, ◌&&◌, nat_eq, cond, List, [], ◌∷◌, ◌++◌, length, Option, Some, None, refl, sym, ◌∙◌, ap, subst, arith}
 use Rattle.std.proofs.lemmas.Bool.Decides.{nat_tests}
 use Rattle.std.specs.Prelude.{find, option_map, slice_index_or}
 use Rattle.std.specs.List.{Contains}
 use Rattle.demand_set.specs.declared.reports.Report.{Report}
 use Rattle.clock.specs.Reports.{ClockHistory, with_report, demand_in, is_named}
-use Rattle.clock.specs.Judging.{IsJudgement, judgement_of, TakesAll, IsLegal}
+use Rattle.clock.specs.Judging.{IsJudgement, TakesAll, IsLegal}
 use Rattle.clock.specs.declared.judging.Judgement.{Judgement}
-use Rattle.clock.specs.declared.judging.Judgement.TheVariants.{Take}
 use Rattle.clock.proofs.Judges.{judgement-is}
 use Rattle.clock.proofs.Path.{both}
 use Rattle.settlement.specs.Alike.{HoldSame, StandAlike}

@@ -2,7 +2,7 @@
 use Rattle.std.specs.Prelude.{◌≡◌, ◌↔◌, ℕ}
 use Rattle.std.specs.List.{Contains}
 use Rattle.demand_set.specs.declared.reports.Report.{Report}
-use Rattle.clock.specs.Reports.{ClockHistory, demand_in}
+use Rattle.clock.specs.Reports.{ClockHistory}
 use Rattle.clock.specs.Standing.{steps_of, phase_of, prices_of, missing_of}
 use Rattle.clock.specs.Judging.{IsLegal}
 use Rattle.clock.specs.Accounts.{account_without}

@@ -1,5 +1,5 @@
 -- What the steps of settling find.
-use Rattle.std.specs.Prelude.{◌≡◌, List, Option, Some, None, map}
+use Rattle.std.specs.Prelude.{◌≡◌, List, Option, Some, None}
 use Rattle.std.specs.List.{AllZip}
 use Rattle.clock.specs.Reports.{ClockHistory}
 use Rattle.settlement.specs.Clocks.{choice_of, has_no_choice}

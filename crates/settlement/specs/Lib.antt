@@ -2,3 +2,4 @@ pub mod Clocks
 pub mod Settling
 pub mod Found
 pub mod Alike
+pub mod Efficient

@@ -1,8 +1,8 @@
 -- What the clocks of an auction settle, for any reports. The payments are those of Ausubel, "An Efficient Dynamic Auction for
 -- Heterogeneous Commodities", American Economic Review 96(3), 2006: a bidder's debit is the account of the clock without it,
 -- and its credit is what the other bidders' part of the account of the clock of all is.
-use Rattle.std.specs.Prelude.{◌≡◌, ℕ, ℤ, pos, ◌+ℤ◌, ◌-ℤ◌, List, [], ◌∷◌, map, find, Some, None, MatchOption, Bool}
-use Rattle.std.specs.List.{AllByRecursion, AllZip}
+use Rattle.std.specs.Prelude.{◌≡◌, pos, ◌+ℤ◌, ◌-ℤ◌, List, [], ◌∷◌, map, find, Some, None, MatchOption, Bool}
+use Rattle.std.specs.List.{AllZip}
 use Rattle.lot_base.specs.Goods.{cost}
 use Rattle.lot_base.specs.declared.phases.Phase.TheVariants.{Ended}
 use Rattle.lot_base.specs.declared.phases.Phase.TheVariants as phase

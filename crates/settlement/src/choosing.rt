@@ -90,11 +90,11 @@ fn last_demand(alloc: Global, clock: &Clock, bidder: u8) -> Result<Demand, NoMem
     clock.last_demand(bidder).unwrap().copy(alloc)
 }
 
-/// Appends a row.
-pub(crate) fn push<T: Drop>(rows: &mut Vec<T>, row: T) -> Result<(), NoMemory>
-    ensures { OnOk result (rows.new.items ≡ rows.old.items ++ row ∷ []) }
+/// Appends an element.
+pub(crate) fn push<T: Drop>(items: &mut Vec<T>, item: T) -> Result<(), NoMemory>
+    ensures { OnOk result (items.new.items ≡ items.old.items ++ item ∷ []) }
 {
-    match rows.push(row) {
+    match items.push(item) {
         Ok(()) => Ok(()),
         Err(_) => Err(NoMemory),
     }

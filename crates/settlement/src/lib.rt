@@ -1,13 +1,11 @@
 //! What the clocks of an auction settle: prices, awards and payments, or where they are open.
 #![tactic(auto)]
 
-ghost use Rattle.std.specs.Prelude.{◌≡◌, IfOk};
-ghost use Rattle.std.specs.List.{AllByRecursion, AllZip};
-ghost use Rattle.lot_base.specs.declared.phases.Phase.TheVariants.{Ended};
-ghost use Rattle.clock.specs.Reports.{ClockHistory};
-ghost use Rattle.clock.specs.Standing.{phase_of};
+ghost use Rattle.std.specs.Prelude.{ℕ, ℤ, List, IfOk};
+ghost use Rattle.std.specs.List.{AllZip};
 ghost use Rattle.settlement.specs.Clocks.{AreClocksOf};
 ghost use Rattle.settlement.specs.Settling.{IsClockRow, IsSettled, IsOutcomeOf};
+ghost use Rattle.settlement.specs.Efficient.{ExplainsAll, IsEfficientIfSettled};
 
 mod awarding;
 mod choosing;
@@ -25,6 +23,18 @@ use std::alloc::Global;
 
 /// What the clocks of an auction settle, in the order of their numbers.
 pub fn settle(alloc: Global, terms: &Terms, clocks: &[Clock]) -> Result<Settlement, NoMemory>
+    requires { AreClocksOf terms.now clocks.now }
+    ensures outcome { IfOk result (IsOutcomeOf clocks.now) }
+
+    // Where one valuation for each bidder explains all reports, an outcome is an equilibrium at the least such prices, each
+    // bidder pays what Vickrey, Clarke and Groves ask, and the choices show the greatest worth without each bidder.
+    ensures efficient { IfOk result (λ s. (u : ℕ → List ℕ → ℤ) → ExplainsAll u clocks.now → IsEfficientIfSettled u terms.now s) }
+{
+    settle_exactly(alloc, terms, clocks)
+}
+
+/// The same without the economy.
+fn settle_exactly(alloc: Global, terms: &Terms, clocks: &[Clock]) -> Result<Settlement, NoMemory>
     requires { AreClocksOf terms.now clocks.now }
     ensures { IfOk result (IsOutcomeOf clocks.now) }
 {
@@ -52,7 +62,6 @@ fn outcome_of(
     rows: Rows<ClockRow>,
 ) -> Result<Outcome, NoMemory>
     requires clocks { AreClocksOf terms.now clocks.now }
-    requires ended { AllByRecursion (λ (c : ClockHistory). phase_of c ≡ Ended) clocks.now }
     requires rows { AllZip IsClockRow clocks.now rows }
     ensures { IfOk result (IsSettled clocks.now) }
 {

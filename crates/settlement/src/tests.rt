@@ -155,6 +155,26 @@ fn fill(
     Ok(())
 }
 
+fn clock_of(
+    rt: &impl Abort,
+    alloc: Global,
+    terms: &Terms,
+    number: u8,
+    reports: Reports,
+) -> Result<Clock, Fail>
+    requires { number ≤ terms.now.bidders }
+    ensures terms { IfOk result (λ c. c.terms ≡ terms.now) }
+    ensures number { IfOk result (λ c. c.number ≡ number) }
+{
+    match reports {
+        Reports::Listed(lists) => {
+            assert!(rt; (number as usize) < lists.len());
+            listed(rt, alloc, terms, number, lists[number as usize])
+        }
+        Reports::True(values) => full(rt, alloc, terms, number, values),
+    }
+}
+
 fn clocks_of(
     rt: &impl Abort,
     alloc: Global,
@@ -165,14 +185,7 @@ fn clocks_of(
 {
     let mut clocks = Vec::new(alloc);
     for number in 0..terms.bidders + 1 {
-        let clock = match reports {
-            Reports::Listed(lists) => {
-                assert!(rt; (number as usize) < lists.len());
-                listed(rt, alloc, terms, number, lists[number as usize])?
-            }
-            Reports::True(values) => full(rt, alloc, terms, number, values)?,
-        };
-        clocks.push(clock)?;
+        clocks.push(clock_of(rt, alloc, terms, number, reports)?)?;
     }
     Ok(clocks)
 }

@@ -1,6 +1,5 @@
 use Rattle.std.proofs.Common.{◌≡◌, ◌∙◌, sym, ap, length, get_or}
 use Rattle.settlement.proofs.Auction.{first-count, first-small}
-use Rattle.settlement.specs.declared.outcome.ClockRow.{ClockRow}
 use Rattle.settlement.proofs.outcome_of.Goals as goal
 
 pub award_rows-requires-clause-count : goal.award_rows-requires-clause-count

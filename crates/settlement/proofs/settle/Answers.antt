@@ -1,12 +1,17 @@
-use Rattle.settlement.proofs.Firsts.{all-ended, rows-choose}
+use Rattle.std.specs.Prelude.{Result, Ok, Err, IfOk, ℕ, ℤ, List}
+use Rattle.lot_base.specs.declared.auction_terms.Terms.{Terms}
+use Rattle.clock.specs.Reports.{ClockHistory}
+use Rattle.settlement.specs.Clocks.{AreClocksOf}
+use Rattle.settlement.specs.Settling.{IsOutcomeOf}
+use Rattle.settlement.specs.Efficient.{ExplainsAll, IsEfficientIfSettled}
+use Rattle.settlement.specs.declared.outcome.Settlement.{Settlement}
+use Rattle.settlement.proofs.Efficient.{efficient-if}
 use Rattle.settlement.proofs.settle.Goals as goal
 
-pub clock_rows-requires-clause-ended : goal.clock_rows-requires-clause-ended
-clock_rows-requires-clause-ended c = all-ended c.args.clocks.now c.in_default.ensures c.in_default-halted.ensures
+efficient-answer : {E : Type 0} (terms : Terms) (clocks : List ClockHistory) (answer : Result Settlement E) → AreClocksOf terms clocks → IfOk answer (IsOutcomeOf clocks)
+    → IfOk answer (λ s. (u : ℕ → List ℕ → ℤ) → ExplainsAll u clocks → IsEfficientIfSettled u terms s)
+efficient-answer terms clocks (Ok s) h is = λ u explains. efficient-if u terms clocks s h explains is
+efficient-answer terms clocks (Err e) h is = tt
 
-pub outcome_of-requires-clause-ended : goal.outcome_of-requires-clause-ended
-outcome_of-requires-clause-ended c = all-ended c.args.clocks.now c.in_default.ensures c.in_default-halted.ensures
-
-pub returns-in-Ok : goal.returns-in-Ok
-returns-in-Ok c =
-    (c.in_default.ensures, c.in_default-halted.ensures, rows-choose c.args.clocks.now c.in-Ok-All.rows (rw c.in-Ok-All.field-0-is at c.in-Ok-All.ensures), c.in-Ok.ensures)
+pub returns-clause-efficient : goal.returns-clause-efficient
+returns-clause-efficient c = efficient-answer c.args.terms.now c.args.clocks.now c.settle_exactly.result c.requires c.settle_exactly.ensures

@@ -1,4 +1,4 @@
-use Rattle.std.proofs.Common.{◌≡◌, ℕ, List, take, map}
+use Rattle.std.proofs.Common.{◌≡◌, take, map}
 use Rattle.std.specs.List.{AllZip}
 use Rattle.settlement.specs.Settling.{IsAwardRow}
 use Rattle.settlement.specs.declared.outcome.AwardRow.{AwardRow}

@@ -1,6 +1,4 @@
-use Rattle.std.proofs.Common.{◌≡◌, length, map, Some, None, sym, ◌∙◌, ap}
-use Rattle.clock.specs.Reports.{members_of}
-use Rattle.clock.specs.Standing.{last_demands}
+use Rattle.std.proofs.Common.{length, Some, None, ◌∙◌, ap}
 use Rattle.settlement.proofs.Bounds.{path-of, choice-from}
 use Rattle.settlement.proofs.choosing.clock_row.Goals as goal
 

@@ -1,9 +1,6 @@
-use Rattle.std.proofs.Common.{◌≡◌, ◌+◌, ◌++◌, ◌∷◌, [], List, take, drop, Some, sym, ◌∙◌, ap, subst}
+use Rattle.std.proofs.Common.{◌≡◌, ◌+◌, take, drop, ◌∙◌, ap}
 use Rattle.std.specs.Prelude.{find}
-use Rattle.std.specs.List.{AllZip}
-use Rattle.clock.specs.Reports.{ClockHistory}
 use Rattle.settlement.specs.Clocks.{has_no_choice}
-use Rattle.settlement.specs.Settling.{IsClockRow}
 use Rattle.settlement.proofs.Firsts.{of_first, first-without, rows-more}
 use Rattle.settlement.proofs.Zips.{around}
 use Rattle.settlement.proofs.choosing.clock_rows.Goals as goal
@@ -18,4 +15,4 @@ returns-in-Ok-None c =
     of_first has_no_choice clocks (λ k. c.number.result ≡ k.number) clock first c.number.ensures.value
 
 pub loop-clock-preserved : goal.loop-clock-preserved
-loop-clock-preserved c = rows-more c.args.clocks.now c.clock-item.result c.loop-clock.rows.items c.push.new.rows.items c.in-Ok-Some.row c.loop-clock.clock-index c.loop-clock-test.true c.clock-item.is (rw c.in-Ok-Some.field-0-is at c.in-Ok-Some.ensures) c.in_ok-push-in-Ok-Some.ensures c.loop-clock.invariant
+loop-clock-preserved c = rows-more c.args.clocks.now c.clock-item.result c.loop-clock.rows.items c.push.new.items.items c.in-Ok-Some.row c.loop-clock.clock-index c.loop-clock-test.true c.clock-item.is (rw c.in-Ok-Some.field-0-is at c.in-Ok-Some.ensures) c.in_ok-push-in-Ok-Some.ensures c.loop-clock.invariant

@@ -1,4 +1,4 @@
-use Rattle.std.proofs.Common.{◌≡◌, ◌≢◌, ◌+◌, ℕ, List, sym, ◌∙◌, ap, subst}
+use Rattle.std.proofs.Common.{◌≢◌, ◌+◌, ℕ, List, sym, ◌∙◌, ap, subst}
 use Rattle.lot_base.specs.Demands.{IsDemand}
 use Rattle.lot_base.specs.declared.auction_terms.Terms.{Terms}
 use Rattle.settlement.proofs.Members.{IsCopied, copied-keep, copied-skip}
