@@ -1,16 +1,15 @@
 """Where the built program is, and how it is run."""
+import os
 import pathlib
 import subprocess
 
-HERE = pathlib.Path(__file__).resolve().parent
-
 
 def find():
-    """The newest executable that rt left for journal_bench."""
-    out = HERE / "crates" / "journal_bench" / "out"
-    found = [p for p in out.rglob("journal_bench") if p.is_file() and p.stat().st_mode & 0o111]
+    """The program that build.sh left."""
+    out = pathlib.Path(os.environ.get("TMPDIR", "/tmp")) / "journal_bench" / "crates" / "journal_bench" / "out"
+    found = [p for p in out.rglob("journal_bench*") if p.is_file() and os.access(p, os.X_OK)]
     if not found:
-        raise SystemExit("build it first: cd bench/crates/journal_bench && rt run -- list /tmp/none")
+        raise SystemExit("run build.sh first")
     return max(found, key=lambda p: p.stat().st_mtime)
 
 
