@@ -2,7 +2,7 @@
 ghost use Rattle.std.specs.Prelude.{◌≡◌, IfOk};
 ghost use Rattle.lot_base.specs.Demands.{IsDemand};
 
-use crate::{Clock, Judgement};
+use crate::{Clock, Judgement, ReplayFault};
 use demand_set::{Demand, Report};
 use lot_base::{Goods, Phase, RawDemand, Terms};
 use std::alloc::Global;
@@ -231,5 +231,53 @@ fn a_clock_without_members_has_ended(rt: HostRuntime) -> Result<(), Fail> {
     assert_stands(&rt, &auction.clock, 1, Phase::Ended, 0, &[0]);
     assert_eq!(rt; auction.report(&rt, 1, 1, &[1])?, Judgement::NotMember);
     assert!(rt; auction.clock.last_demand(1).is_none());
+    Ok(())
+}
+
+/// A report of the second bidder's wish for the one unit.
+fn second_wants_it(
+    rt: &impl Abort,
+    alloc: Global,
+    terms: &Terms,
+    round: u32,
+) -> Result<Report, Fail>
+    ensures { IfOk result (λ r. IsDemand terms.now.goods r.demand) }
+{
+    let demand = demand_of(rt, alloc, &terms.goods, &[1])?;
+    Ok(Report {
+        bidder: 2,
+        round,
+        demand,
+    })
+}
+
+#[test]
+fn replays_reports_that_are_taken(rt: HostRuntime) -> Result<(), Fail> {
+    let terms = terms_of(&[1], 2, 10)?;
+    let mut reports = Vec::new(rt.alloc());
+    reports.push(second_wants_it(&rt, rt.alloc(), &terms, 1)?)?;
+    match Clock::replay(rt.alloc(), &terms, 1, reports) {
+        Ok(clock) => assert_stands(&rt, &clock, 1, Phase::Ended, 0, &[0]),
+        Err(_) => assert!(rt; false, "the report is taken"),
+    }
+    Ok(())
+}
+
+#[test]
+fn names_the_first_report_that_is_not_taken(rt: HostRuntime) -> Result<(), Fail> {
+    let terms = terms_of(&[1], 2, 10)?;
+    let mut reports = Vec::new(rt.alloc());
+    reports.push(second_wants_it(&rt, rt.alloc(), &terms, 1)?)?;
+    reports.push(second_wants_it(&rt, rt.alloc(), &terms, 3)?)?;
+    match Clock::replay(rt.alloc(), &terms, 0, reports) {
+        Ok(_) => assert!(rt; false, "the second report is early"),
+        Err(fault) => assert_eq!(rt;
+            fault,
+            ReplayFault::NotTaken {
+                number: 2,
+                judgement: Judgement::Early(1),
+            }
+        ),
+    }
     Ok(())
 }
