@@ -28,6 +28,7 @@ use Rattle.settlement.specs.declared.outcome.Settlement.TheVariants.{Settled, Op
 use Rattle.settlement.proofs.Firsts.{all-ended}
 use Rattle.settlement.proofs.Bounds.{choice-count}
 use Rattle.settlement.proofs.Explained.{explained-equilibrium}
+use Rattle.settlement.proofs.Lower.{lower}
 
 -- bidders from 1 on: leaving out nobody changes nothing
 none-out : (js : List ℕ) → AllByRecursion (λ j. 1 ≤ j) js → without 0 js ≡ js
@@ -141,14 +142,15 @@ efficient u terms all others o h explains ended s = by o.clocks s.clocks_are
         let awards = zip-maps x (λ (row : AwardRow). row.award) js o.rows (map-bundle_of js xs (AllDifferent-range 1 terms.bidders) count) in
         let A : List ℕ → Type 0 = λ ks. AllZip (λ j (row : AwardRow). x j ≡ row.award) ks o.rows in
         let O : List ℕ → Type 0 = λ ks. AllByRecursion (λ i. IsOneOf i js) ks in
-        let pays = all-payments u terms all x whole others o.rows clocks h.terms_are.1 explains.1 ended.1 zip.1
-        (subst O (sym numbers.1) (all-one terms.bidders 1 terms.bidders (omega arith) (omega arith))) (subst A (sym numbers.1) awards) s.rows_are in
+        let ones = subst O (sym numbers.1) (all-one terms.bidders 1 terms.bidders (omega arith) (omega arith)) in
+        let pays = all-payments u terms all x whole others o.rows clocks h.terms_are.1 explains.1 ended.1 zip.1 ones (subst A (sym numbers.1) awards) s.rows_are in
         let V : List ℕ → Type 0 = λ ks. AllZip (PaysVcg u terms x) ks o.rows in
         let B : List ℕ → Type 0 = λ ks. AllZip (IsBestChoice u terms) ks o.clocks in
         record {
           equilibrium = equilibrium;
           least = subst L (sym s.prices_are) ((x, w), λ q v. below q v);
           payments = subst V numbers.1 pays;
+          no_higher = lower u terms o all s.prices_are h.terms_are.0 members-are explains.0 ended.0 others o.clocks h.terms_are.1 explains.1 ones s.clocks_are;
           choices = subst B h.numbers (all-choices u terms (all ∷ others) o.clocks h.terms_are explains ended s.clocks_are);
         }
       where

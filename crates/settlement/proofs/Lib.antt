@@ -8,4 +8,5 @@ pub mod Alike
 pub mod Same
 pub mod One
 pub mod Explained
+pub mod Lower
 pub mod Efficient
