@@ -75,7 +75,8 @@ def fold(folder, supply, log):
 
 def main():
     if "--no-build" not in sys.argv:
-        subprocess.run(["rt", "run"], cwd=CRATE, check=True, stdout=subprocess.DEVNULL)
+        build = ["rt", "run", "--", "fold", "1", "2", "5", "data/two-bidders.log"]
+        subprocess.run(build, cwd=CRATE, check=True, capture_output=True)
     with tempfile.TemporaryDirectory() as name:
         folder = Path(name)
         for kind, supply, make in [
