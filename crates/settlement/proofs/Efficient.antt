@@ -19,7 +19,7 @@ use Rattle.clock.specs.Explained.{Explains}
 use Rattle.clock.proofs.Truthful.{account-rise, least-minimiser}
 use Rattle.settlement.specs.Clocks.{AreClocksOf, choice_of}
 use Rattle.settlement.specs.Settling.{AreSettled, IsClockRow, IsAwardRow, IsOutcomeOf}
-use Rattle.settlement.specs.Efficient.{ExplainsAll, award_of, PaysVcg, IsBestChoice, IsEfficient, IsEfficientIfSettled}
+use Rattle.settlement.specs.Efficient.{ExplainsAll, award_of, PaysVcg, IsBestChoice, IsEfficient, IsEfficientSettlement}
 use Rattle.settlement.specs.declared.outcome.AwardRow.{AwardRow}
 use Rattle.settlement.specs.declared.outcome.ClockRow.{ClockRow}
 use Rattle.settlement.specs.declared.outcome.Outcome.{Outcome}
@@ -29,6 +29,7 @@ use Rattle.settlement.proofs.Firsts.{all-ended}
 use Rattle.settlement.proofs.Bounds.{choice-count}
 use Rattle.settlement.proofs.Explained.{explained-equilibrium}
 use Rattle.settlement.proofs.Lower.{lower}
+use Rattle.settlement.proofs.Never.{never-lacks, never-halts}
 
 -- bidders from 1 on: leaving out nobody changes nothing
 none-out : (js : List ℕ) → AllByRecursion (λ j. 1 ≤ j) js → without 0 js ≡ js
@@ -162,9 +163,9 @@ efficient u terms all others o h explains ended s = by o.clocks s.clocks_are
             let least = subst N (ap (members terms.bidders) numbers.0 ∙ all-are-members terms.bidders) (subst K h.terms_are.0 (least-minimiser u all explains.0 ended.0)) in
             least.1 q (walrasian-minimises terms.goods (opening_of terms) u (all_bidders terms.bidders) q v.0 v.1)
 
-pub efficient-if : (u : ℕ → List ℕ → ℤ) (terms : Terms) (clocks : List ClockHistory) (s : Settlement) → AreClocksOf terms clocks → ExplainsAll u clocks → IsOutcomeOf clocks s → IsEfficientIfSettled u terms s
+pub efficient-if : (u : ℕ → List ℕ → ℤ) (terms : Terms) (clocks : List ClockHistory) (s : Settlement) → AreClocksOf terms clocks → ExplainsAll u clocks → IsOutcomeOf clocks s → IsEfficientSettlement u terms s
 efficient-if u terms clocks (Open clock round missing) h explains is = tt
-efficient-if u terms clocks (Halted clock good) h explains is = tt
-efficient-if u terms clocks (NoAward clock) h explains is = tt
+efficient-if u terms clocks (Halted clock good) h explains is = λ below. never-halts u terms clocks clock good explains h.terms_are below is.1
+efficient-if u terms clocks (NoAward clock) h explains is = never-lacks u clocks (λ (c : ClockHistory). clock ≡ c.number) explains (all-ended clocks is.0 is.1) is.2
 efficient-if u terms [] (Settled o) h explains is = absurd is.3
 efficient-if u terms (all ∷ others) (Settled o) h explains is = efficient u terms all others o h explains (all-ended (all ∷ others) is.0 is.1) is.3

@@ -36,7 +36,7 @@ found-true u c j (r ∷ reports) all e = by (is_named (last_round c) j r) refl (
         all.0 (steps_of c) (omega arith) round ∙ ap (λ k. demand c.terms.goods (u k) (prices_of c)) bidder
     by false named rest f = rest f
 
-demands-true : (u : ℕ → List ℕ → ℤ) (c : ClockHistory) → AllByRecursion (IsTrueReport u c) c.reports → (ms : List ℕ) → is_full ms c.reports (last_round c) ≡ true
+pub demands-true : (u : ℕ → List ℕ → ℤ) (c : ClockHistory) → AllByRecursion (IsTrueReport u c) c.reports → (ms : List ℕ) → is_full ms c.reports (last_round c) ≡ true
     → map (last_demands c) ms ≡ map (λ j. demand c.terms.goods (u j) (prices_of c)) ms
 demands-true u c all [] full = refl
 demands-true u c all (j ∷ ms) full =

@@ -9,4 +9,5 @@ pub mod Same
 pub mod One
 pub mod Explained
 pub mod Lower
+pub mod Never
 pub mod Efficient

@@ -60,8 +60,7 @@ lower-all u terms outcome all prices_are all_same all_members explains ended [] 
 lower-all u terms outcome all prices_are all_same all_members explains ended (own ∷ others) [] same own_explain one zip = absurd zip
 lower-all u terms outcome all prices_are all_same all_members explains ended (own ∷ others) (row ∷ rows) same own_explain one zip =
     let l = lower-one u terms all own all_same all_members explains ended same.0 own_explain.0 one.0 in
-    let P : List ℕ → List ℕ → ℕ → Type 0 = λ p q n. AtMost p q × (n ≤ highest q) in
-    (
+    let P : List ℕ → List ℕ → ℕ → Type 0 = λ p q n. AtMost p q × (n ≤ highest q) in (
       subst (λ n. P row.prices outcome.prices n) (sym zip.0.steps_are) (subst (λ p. P p outcome.prices (steps_of own)) (sym zip.0.prices_are) (subst (λ q. P (prices_of own) q (steps_of own)) (sym prices_are) l)),
       lower-all u terms outcome all prices_are all_same all_members explains ended others rows same.1 own_explain.1 one.1 zip.1,
     )

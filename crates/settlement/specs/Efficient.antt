@@ -3,6 +3,7 @@
 use Rattle.std.specs.Prelude.{ℕ, ◌≤◌, ◌+◌, List, map, ℤ}
 use Rattle.std.specs.List.{AllByRecursion, AllZip, range_with_len}
 use Rattle.lot_base.specs.Goods.{AtMost}
+use Rattle.lot_base.specs.Economy.{AllBelowCeiling}
 use Rattle.lot_base.specs.Equilibrium.{IsWalrasian, IsLeastWalrasian, IsWelfare, IsVcgPayment, worth}
 use Rattle.lot_base.specs.declared.auction_terms.Terms.{Terms}
 use Rattle.lyapunov.specs.Bidders.{bundle_of}
@@ -45,9 +46,9 @@ pub record IsEfficient (u : ℕ → List ℕ → ℤ) (terms : Terms) (outcome :
   pub no_higher : AllByRecursion (IsNoHigher outcome) outcome.clocks
   pub choices : AllZip (IsBestChoice u terms) (range_with_len 0 (terms.bidders + 1)) outcome.clocks
 
--- the outcome is efficient where there is one
-abbrev pub IsEfficientIfSettled : (ℕ → List ℕ → ℤ) → Terms → Settlement → Type 0
-IsEfficientIfSettled u terms (Settled outcome) = IsEfficient u terms outcome
-IsEfficientIfSettled u terms (Open clock round missing) = Unit {0}
-IsEfficientIfSettled u terms (Halted clock good) = Unit {0}
-IsEfficientIfSettled u terms (NoAward clock) = Unit {0}
+-- Where there is an outcome it is efficient. Some choice of each clock clears, and no clock halts whose ceiling is above all values.
+abbrev pub IsEfficientSettlement : (ℕ → List ℕ → ℤ) → Terms → Settlement → Type 0
+IsEfficientSettlement u terms (Settled outcome) = IsEfficient u terms outcome
+IsEfficientSettlement u terms (Open clock round missing) = Unit {0}
+IsEfficientSettlement u terms (Halted clock good) = AllBelowCeiling terms.goods u terms.ceiling (all_bidders terms.bidders) → ⊥
+IsEfficientSettlement u terms (NoAward clock) = ⊥

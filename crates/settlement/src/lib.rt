@@ -5,7 +5,7 @@ ghost use Rattle.std.specs.Prelude.{ℕ, ℤ, List, IfOk};
 ghost use Rattle.std.specs.List.{AllZip};
 ghost use Rattle.settlement.specs.Clocks.{AreClocksOf};
 ghost use Rattle.settlement.specs.Settling.{IsClockRow, IsSettled, IsOutcomeOf};
-ghost use Rattle.settlement.specs.Efficient.{ExplainsAll, IsEfficientIfSettled};
+ghost use Rattle.settlement.specs.Efficient.{ExplainsAll, IsEfficientSettlement};
 
 mod awarding;
 mod choosing;
@@ -27,8 +27,9 @@ pub fn settle(alloc: Global, terms: &Terms, clocks: &[Clock]) -> Result<Settleme
     ensures outcome { IfOk result (IsOutcomeOf clocks.now) }
 
     // Where one valuation for each bidder explains all reports, an outcome is an equilibrium at the least such prices, each
-    // bidder pays what Vickrey, Clarke and Groves ask, and the choices show the greatest worth without each bidder.
-    ensures efficient { IfOk result (λ s. (u : ℕ → List ℕ → ℤ) → ExplainsAll u clocks.now → IsEfficientIfSettled u terms.now s) }
+    // bidder pays what Vickrey, Clarke and Groves ask, and the choices show the greatest worth without each bidder. No clock
+    // is then without a choice, and none halts whose ceiling is above all values.
+    ensures efficient { IfOk result (λ s. (u : ℕ → List ℕ → ℤ) → ExplainsAll u clocks.now → IsEfficientSettlement u terms.now s) }
 {
     settle_exactly(alloc, terms, clocks)
 }

@@ -3,13 +3,13 @@ use Rattle.lot_base.specs.declared.auction_terms.Terms.{Terms}
 use Rattle.clock.specs.Reports.{ClockHistory}
 use Rattle.settlement.specs.Clocks.{AreClocksOf}
 use Rattle.settlement.specs.Settling.{IsOutcomeOf}
-use Rattle.settlement.specs.Efficient.{ExplainsAll, IsEfficientIfSettled}
+use Rattle.settlement.specs.Efficient.{ExplainsAll, IsEfficientSettlement}
 use Rattle.settlement.specs.declared.outcome.Settlement.{Settlement}
 use Rattle.settlement.proofs.Efficient.{efficient-if}
 use Rattle.settlement.proofs.settle.Goals as goal
 
 efficient-answer : {E : Type 0} (terms : Terms) (clocks : List ClockHistory) (answer : Result Settlement E) → AreClocksOf terms clocks → IfOk answer (IsOutcomeOf clocks)
-    → IfOk answer (λ s. (u : ℕ → List ℕ → ℤ) → ExplainsAll u clocks → IsEfficientIfSettled u terms s)
+    → IfOk answer (λ s. (u : ℕ → List ℕ → ℤ) → ExplainsAll u clocks → IsEfficientSettlement u terms s)
 efficient-answer terms clocks (Ok s) h is = λ u explains. efficient-if u terms clocks s h explains is
 efficient-answer terms clocks (Err e) h is = tt
 
