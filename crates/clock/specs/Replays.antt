@@ -1,5 +1,5 @@
 -- Why a list of reports gives no clock: the first report that is not taken.
-use Rattle.std.specs.Prelude.{◌≡◌, ◌≢◌, ◌+◌, ℕ, List, [], ◌∷◌, ◌++◌, length}
+use Rattle.std.specs.Prelude.{◌≡◌, ◌≢◌, ◌+◌, ℕ, List, ◌∷◌, ◌++◌, length}
 use Rattle.demand_set.specs.declared.reports.Report.{Report}
 use Rattle.clock.specs.declared.judging.Judgement.{Judgement}
 use Rattle.clock.specs.declared.judging.Judgement.TheVariants.{Take}

@@ -1,6 +1,6 @@
-use Rattle.std.proofs.Common.{◌≡◌, ◌∙◌, sym, ap, subst, refl, arith, [], ◌∷◌, ◌++◌, List, length, append_assoc, append-nil, ◌+◌}
+use Rattle.std.proofs.Common.{◌≡◌, ◌∙◌, sym, ap, subst, refl, arith, [], ◌∷◌, ◌++◌, List, length, append_assoc, append-nil}
 use Rattle.std.specs.List.{AllByRecursion}
-use Rattle.std.specs.Vec.Iter.{into_iter_items, into_iter_len}
+use Rattle.std.specs.Vec.Iter.{into_iter_items}
 use Rattle.std.proofs.lemmas.List.{length-append}
 use Rattle.lot_base.specs.Demands.{IsDemand}
 use Rattle.demand_set.specs.declared.reports.Report.{Report}
