@@ -1,6 +1,5 @@
 //! What the demands behind can still make clear.
-ghost use Rattle.std.specs.Prelude.{◌≡◌, ◌≤◌, ◌<◌, ℕ, List, [], ◌∷◌, false, find, length, slice_index_or, IfOk};
-ghost use Rattle.std.specs.List.{AllByRecursion};
+ghost use Rattle.std.specs.Prelude.{◌≡◌, ◌<◌, ℕ, List, [], ◌∷◌, false, find, length, slice_index_or, IfOk};
 ghost use Rattle.lot_base.specs.Goods.{plus, zeros, is_within, box_size, AtMost};
 ghost use Rattle.lot_base.specs.Box.{bundle_at, index_of};
 ghost use Rattle.lot_base.specs.Choices.{clears};

@@ -1,6 +1,6 @@
 //! The search for the first choice that clears: back from the last demand, what can still clear; then forward from the
 //! first demand, the first bundle from which the demands behind can.
-ghost use Rattle.std.specs.Prelude.{◌≡◌, ◌≤◌, ◌+◌, ℕ, length, IfOk};
+ghost use Rattle.std.specs.Prelude.{◌≡◌, length, IfOk};
 ghost use Rattle.std.specs.List.{AllByRecursion};
 ghost use Rattle.lot_base.specs.Goods.{zeros};
 ghost use Rattle.lot_base.specs.Choices.{first_choice};

@@ -131,7 +131,7 @@ not_full-beyond c limit round b member beyond past =
     (λ j. ap (λ o. is_some (option_map (λ r. r.demand) o)) (absent-beyond limit round j c.reports beyond past))
 
 -- a report that is taken keeps the history legal
-takes-more : (c : ClockHistory) (rs : List Report) (r : Report) → TakesAll c rs → judgement_of (record c { reports = c.reports ++ rs }) r ≡ Take → TakesAll c (rs ++ r ∷ [])
+pub takes-more : (c : ClockHistory) (rs : List Report) (r : Report) → TakesAll c rs → judgement_of (record c { reports = c.reports ++ rs }) r ≡ Take → TakesAll c (rs ++ r ∷ [])
 takes-more c [] r all take = (ap (λ reports. judgement_of (record c { reports = reports }) r) (sym (append-nil c.reports)) ∙ take, tt)
 takes-more c (x ∷ rs) r all take =
     (all.0, takes-more (with_report c x) rs r all.1 (ap (λ reports. judgement_of (record c { reports = reports }) r) (append_assoc c.reports (x ∷ []) rs) ∙ take))

@@ -6,3 +6,4 @@ pub mod Accounts
 pub mod Kept
 pub mod Tables
 pub mod Next
+pub mod Replays

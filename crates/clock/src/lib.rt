@@ -3,8 +3,12 @@
 
 pub mod clocks;
 pub mod judging;
+pub mod replaying;
 mod rounds;
 mod standing;
+#[cfg(test)]
+mod tests;
 
 pub use clocks::{Clock, Look, NotApplied};
 pub use judging::Judgement;
+pub use replaying::ReplayFault;

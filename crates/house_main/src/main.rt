@@ -4,9 +4,8 @@
 
 use house_io::{FolderShelf, StdoutSink, write_whole};
 use house_run::{Ended, run};
-use std::env;
-use std::io;
 use std::process::ExitCode;
+use std::{env, io};
 
 fn main(rt: HostRuntime) -> ExitCode {
     let mut out = StdoutSink::new(&rt);

@@ -1,20 +1,19 @@
 -- Where nothing outside failed and the log is good, only two answers are left.
-use Rattle.std.proofs.Common.{◌≡◌, ◌≤◌, ◌<◌, ◌⊎◌, inl, inr, ℕ, ◌+◌, ◌-◌, ◌^◌, List, [], ◌∷◌, length, map, Option, Some, None, Result, Ok, Err, refl, sym, ap, ◌∙◌, subst, arith, decimal}
-use Rattle.std.specs.Prelude.{codes, min}
+use Rattle.std.proofs.Common.{◌≡◌, ◌≤◌, ◌<◌, inl, inr, ℕ, ◌-◌, ◌^◌, List, [], ◌∷◌, length, Option, Some, Ok, Err, refl, sym, ◌∙◌, subst, arith, decimal}
+use Rattle.std.specs.Prelude.{codes}
 use Rattle.std.proofs.lemmas.Fmt.{decimal_injective}
 use Rattle.std.proofs.Props.{props}
 use Rattle.house_io.specs.Faults.{Rose}
 use Rattle.house_io.specs.Shelves.{NamedFile, IfTells}
 use Rattle.lot_base.specs.Goods.{IsSupply, IsRange}
 use Rattle.lot_base.specs.declared.auction_terms.Terms.{Terms}
-use Rattle.clock.specs.Reports.{ClockHistory}
 use Rattle.house_run.specs.Words.{Command, Fold, Spells, IsFold, comma_list}
 use Rattle.house_run.specs.Entries.{log_of}
-use Rattle.house_run.specs.Ends.{ShelfSeen, SinkSeen, FoldJob, Wrote, WroteWhole, WroteFront, CommandEnds, UsageEnds, SomeCommandEnds, RunEnds, NothingFailed, IsGoodLog, IsDoneOrNoMemory, content, log_limit}
+use Rattle.house_run.specs.Ends.{ShelfSeen, SinkSeen, FoldJob, Wrote, CommandEnds, RunEnds, NothingFailed, IsGoodLog, IsDoneOrNoMemory, content, log_limit}
 use Rattle.house_run.specs.declared.ends.Ended.{Ended}
 use Rattle.house_run.specs.declared.ends.Ended.TheVariants as how
 use Rattle.house_run.specs.declared.ends.File.TheVariants as which
-use Rattle.house_run.proofs.Commas.{parts, parts-supply, decimals-same, supplies-few, small-enough}
+use Rattle.house_run.proofs.Commas.{parts-supply, decimals-same, supplies-few, small-enough}
 
 supply-one : (supply : List ℕ) (s r : IsSupply supply) → s ≡ r
 supply-one supply = hlevel props

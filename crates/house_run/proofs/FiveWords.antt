@@ -1,5 +1,5 @@
 -- A list of five words.
-use Rattle.std.proofs.Common.{◌≡◌, ◌≤◌, ◌<◌, ℕ, List, [], ◌∷◌, length, get_or, String, Global, arith}
+use Rattle.std.proofs.Common.{◌≡◌, ◌≤◌, ◌<◌, List, [], ◌∷◌, length, get_or, String, Global, arith}
 use Rattle.std.specs.Prelude.{string_bytes}
 use Rattle.house_run.specs.Words.{words_of}
 

@@ -1,11 +1,11 @@
 -- What holds where the files are told, and which texts were written.
-use Rattle.std.proofs.Common.{◌≡◌, ◌≤◌, ◌⊎◌, inl, inr, ℕ, List, [], length, Option, Some, None, Result, Ok, Err, refl, sym, ap, subst, ◌∙◌}
+use Rattle.std.proofs.Common.{◌≡◌, ◌≤◌, inl, inr, ℕ, List, [], length, Option, Some, None, Ok, Err, refl, sym, ap, subst, ◌∙◌}
 use Rattle.house_io.specs.Shelves.{NamedFile, IfTells}
 use Rattle.lot_base.specs.declared.auction_terms.Terms.{Terms}
 use Rattle.clock.specs.Reports.{ClockHistory}
 use Rattle.house_run.specs.Entries.{log_of}
 use Rattle.house_run.specs.Texts.{standing_of}
-use Rattle.house_run.specs.Ends.{ShelfSeen, SinkSeen, FoldJob, FoldAnswer, Wrote, WroteLine, Job, CommandEnds, RunEnds, content, log_limit, line_of}
+use Rattle.house_run.specs.Ends.{ShelfSeen, SinkSeen, FoldJob, Wrote, WroteLine, CommandEnds, RunEnds, content, log_limit, line_of}
 use Rattle.house_run.specs.Words.{Command, Fold, Spells}
 use Rattle.house_run.specs.declared.ends.Ended.{Ended}
 use Rattle.house_run.specs.declared.ends.Ended.TheVariants as how

@@ -1,6 +1,6 @@
 -- How a command ends: what it answers, what it wrote, and why. A job, the command's own work, has an end and a text; then
 -- the text is written, and only that may still fail.
-use Rattle.std.specs.Prelude.{◌≡◌, ◌<◌, ◌≤◌, ◌-◌, ◌^◌, ◌⊎◌, ℕ, List, [], ◌∷◌, ◌++◌, length, take, Option, Some, None, Result, Ok, Err, unwrap_or, codes, decimal, String, string_bytes}
+use Rattle.std.specs.Prelude.{◌≡◌, ◌<◌, ◌≤◌, ◌-◌, ◌^◌, ◌⊎◌, ℕ, List, [], ◌++◌, length, take, Option, Result, Ok, Err, unwrap_or, codes, decimal, String, string_bytes}
 use Rattle.std.specs.declared.alloc.Global.{Global}
 use Rattle.house_io.specs.Faults.{Rose}
 use Rattle.house_io.specs.Told.{IfTold}
@@ -12,7 +12,6 @@ use Rattle.house_run.specs.Entries.{log_of}
 use Rattle.house_run.specs.Texts.{standing_of}
 use Rattle.house_run.specs.declared.ends.Ended.{Ended}
 use Rattle.house_run.specs.declared.ends.Ended.TheVariants as how
-use Rattle.house_run.specs.declared.ends.File.{File}
 use Rattle.house_run.specs.declared.ends.File.TheVariants as which
 
 -- the shelf of a call: its files, where they are told, and the counts of faults by name as the call began and as it ended

@@ -2,7 +2,7 @@
 -- byte, the round in four, the number of goods in one, the number of bundles in two, and the quantities of the bundles one
 -- after another in two each. A payload has at most 32,768 bytes. A log is a list of entries, read from the front, and each is
 -- judged by the clock of all bidders in the standing of those before it.
-use Rattle.std.specs.Prelude.{◌≡◌, ◌≢◌, ℕ, zero, suc, ◌+◌, ◌-◌, ◌*◌, ◌==◌, nat_lt, nat_le, ◌&&◌, ◌||◌, if◌then◌else◌, List, [], ◌∷◌, ◌++◌, length, take, drop, slice_index, Option, Some, None, Result, Ok, Err}
+use Rattle.std.specs.Prelude.{ℕ, zero, suc, ◌+◌, ◌-◌, ◌*◌, ◌==◌, nat_lt, nat_le, ◌&&◌, ◌||◌, if◌then◌else◌, List, [], ◌∷◌, length, take, drop, slice_index, Option, Some, None, Result, Ok, Err}
 use Rattle.std.specs.Int.{w16, w32, from_be_bytes}
 use Rattle.lot_base.specs.declared.auction_terms.Terms.{Terms}
 use Rattle.demand_set.specs.declared.reports.Report.{Report}

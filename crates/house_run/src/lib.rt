@@ -7,6 +7,8 @@ mod entries;
 mod fold;
 mod runs;
 mod supplies;
+#[cfg(test)]
+mod tests;
 mod texts;
 mod words;
 

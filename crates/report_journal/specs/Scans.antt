@@ -51,3 +51,8 @@ IsFormed s = ⊥
 abbrev pub contents_of : Scanned → List ℕ → Contents
 contents_of (Formed clock digest places end) file = said clock digest places file
 contents_of s file = record { clock = 0; digest = []; payloads = [] }
+
+-- the gate that ends the list that a scan found
+abbrev pub end_in : Scanned → ℕ
+end_in (Formed clock digest places end) = end
+end_in s = 0

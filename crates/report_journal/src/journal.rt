@@ -5,7 +5,7 @@ ghost use Rattle.house_io.specs.Moments.{AtEach, Leaves, IsSettled};
 ghost use Rattle.report_journal.specs.Format.{StandsFor, IsUnformed, front};
 ghost use Rattle.report_journal.specs.Journals.{Stands, payload_at};
 ghost use Rattle.report_journal.specs.Puts.{empty, with_one_more, IsBeforeOrAfter, IsUnformedOrEmpty};
-ghost use Rattle.report_journal.specs.Scans.{IsFormed, HasLimits, IsScan, contents_of};
+ghost use Rattle.report_journal.specs.Scans.{IsFormed, HasLimits, IsScan, contents_of, end_in};
 
 use crate::faults::{JournalFault, Mended, NotFormed};
 use crate::places::Place;
@@ -213,6 +213,7 @@ impl<D: Disk> Journal<D> {
         ensures disk { result.disk ≡ disk }
         ensures pending { result.pending ≡ None }
         ensures contents { result.contents ≡ contents_of scan (D.moments disk).now.read }
+        ensures end { result.end ≡ end_in scan }
     {
         let Scanned::Formed {
             clock,

@@ -1,0 +1,134 @@
+-- What an auction file says, or the first fault of it. The file is a TOML table with these keys, looked at in this order:
+--
+--     version    1
+--     ceiling    2 to 10,000
+--     goods      an array of tables, each with a name, and a supply of 0 to 65,535
+--     bidders    an array of 1 to 12 tables, each with a name, and the SHA-256 of its token as 64 hexadecimal digits
+--
+-- Sources: TOML 1.1 (https://toml.io/en/v1.1.0) as `toml` reads it, SHA-256 of FIPS 180-4 as `sha2` computes it,
+-- hexadecimal digits of either case as `hex` reads them.
+-- Odd cases: bytes that are not UTF-8 are no TOML. An array of inline tables is the same tree as an array of tables. An empty
+-- `goods` has the fault of no goods, and an empty `bidders` that of 0 bidders. A name is taken where an earlier element of its
+-- array has it. Goods are counted from 0 and bidders from 1; a number that its type cannot hold stands at the type's end,
+-- 4,294,967,295 in a key and 255 in the fault of a supply.
+use Rattle.std.specs.Prelude.{ℕ, ◌+◌, ◌-◌, ◌^◌, nat_le, min, codes, Bool, ◌&&◌, not, false, List, [], ◌∷◌, length, map, take, Result, Ok, Err, option_and_then}
+use Rattle.std.specs.List.{list_any, enumerate_from}
+use Rattle.std.specs.Option.{ok_or, option_map_or}
+use Rattle.std.specs.Result.{result_ok}
+use Rattle.std.specs.Str.{bytes_eq, is_utf8}
+use Rattle.lot_base.specs.Limits.{supply_of}
+use Rattle.lot_base.specs.declared.supply.GoodsFault.{GoodsFault}
+use Rattle.toml.specs.Data.{Data, Members, get, as_str}
+use Rattle.toml.specs.Parse.{parse_document}
+use Rattle.sha2.specs.Sha256.{sha256}
+use Rattle.hex.specs.Hex.{decode_sized}
+use Rattle.auction_file.specs.declared.faults.Key.{Key}
+use Rattle.auction_file.specs.declared.faults.Key.TheVariants as key
+use Rattle.auction_file.specs.declared.faults.AuctionFault.{AuctionFault}
+use Rattle.auction_file.specs.declared.faults.AuctionFault.TheVariants as fault
+use Rattle.auction_file.specs.declared.goods_list.Good.{Good}
+use Rattle.auction_file.specs.declared.bidders_list.Bidder.{Bidder}
+use Rattle.auction_file.specs.Names.{name_of}
+use Rattle.auction_file.specs.Tree.{◌>>=◌, all_of, check, integer_at, string_at, array_at, table_of, known_keys, ranged}
+
+-- what a seller offers, to whom and up to which price
+pub record Listing : Type 0 where
+  pub supply : List ℕ
+  pub ceiling : ℕ
+  pub good_names : List (List ℕ)
+  pub bidder_names : List (List ℕ)
+  pub token_digests : List (List ℕ)
+  pub digest : List ℕ
+
+-- the tree of the document
+unfoldable pub document_of : List ℕ → Result Members AuctionFault
+document_of bytes = do
+  _ ← check (is_utf8 bytes) fault.NotToml
+  ok_or (parse_document bytes) fault.NotToml
+
+unfoldable pub version_of : Members → Result ℕ AuctionFault
+version_of file = integer_at key.Version (codes "version") file >>= ranged 1 1 fault.Version
+
+unfoldable pub ceiling_of : Members → Result ℕ AuctionFault
+ceiling_of file = integer_at key.Ceiling (codes "ceiling") file >>= ranged 2 10000 fault.Ceiling
+
+-- the element is a table with this name
+abbrev pub has_name : List ℕ → Data → Bool
+has_name name element = option_map_or (bytes_eq name) (option_and_then as_str (get (codes "name") element)) false
+
+-- the name of an element that stands behind these
+unfoldable pub name_after : Key → List Data → Members → Result (List ℕ) AuctionFault
+name_after key earlier table = do
+  text ← string_at key (codes "name") table
+  name ← ok_or (name_of text) (fault.BadName key)
+  _ ← check (not (list_any (has_name text) earlier)) (fault.Repeated key)
+  Ok name
+
+-- what f gives for each element, its place and those before it, or the first fault of these
+abbrev pub each : {A : Type 0} → (List Data → ℕ → Data → Result A AuctionFault) → List Data → Result (List A) AuctionFault
+each f elements = all_of (map (λ e. f (take e.0 elements) e.0 e.1) (enumerate_from 0 elements))
+
+-- a good's number in a key, and in the fault of its supply
+abbrev pub good_number : ℕ → ℕ
+good_number place = min place (2 ^ 32 - 1)
+
+abbrev pub short_number : ℕ → ℕ
+short_number place = min place 255
+
+unfoldable pub supply_at : ℕ → Members → Result ℕ AuctionFault
+supply_at place table =
+    integer_at (key.Supply (good_number place)) (codes "supply") table >>= ranged 0 65535 (fault.BadSupply (short_number place))
+
+unfoldable pub good_at : List Data → ℕ → Data → Result Good AuctionFault
+good_at earlier place element = do
+  table ← table_of (key.GoodTable (good_number place)) element
+  _ ← known_keys (codes "name" ∷ codes "supply" ∷ []) table
+  name ← name_after (key.GoodName (good_number place)) earlier table
+  supply ← supply_at place table
+  Ok (record { name = name; supply = supply })
+
+unfoldable pub goods_of : Members → Result (List Good) AuctionFault
+goods_of file = array_at key.Goods (codes "goods") file >>= each good_at
+
+-- the supplies, if they can be sold
+abbrev pub sold : Result (List ℕ) GoodsFault → Result (List ℕ) AuctionFault
+sold (Ok supply) = Ok supply
+sold (Err refusal) = Err (fault.Goods refusal)
+
+unfoldable pub digest_at : ℕ → Members → Result (List ℕ) AuctionFault
+digest_at bidder table = do
+  text ← string_at (key.Token bidder) (codes "token") table
+  ok_or (result_ok (decode_sized text 32)) (fault.BadDigest bidder)
+
+unfoldable pub bidder_at : List Data → ℕ → Data → Result Bidder AuctionFault
+bidder_at earlier place element = do
+  table ← table_of (key.BidderTable (place + 1)) element
+  _ ← known_keys (codes "name" ∷ codes "token" ∷ []) table
+  name ← name_after (key.BidderName (place + 1)) earlier table
+  digest ← digest_at (place + 1) table
+  Ok (record { name = name; digest = digest })
+
+unfoldable pub bidders_of : Members → Result (List Bidder) AuctionFault
+bidders_of file = do
+  bidders ← array_at key.Bidders (codes "bidders") file
+  _ ← check (nat_le 1 (length bidders) && nat_le (length bidders) 12) (fault.Bidders (length bidders))
+  each bidder_at bidders
+
+-- what the bytes say, or their first fault
+unfoldable pub auction_of : List ℕ → Result Listing AuctionFault
+auction_of bytes = do
+  file ← document_of bytes
+  _ ← known_keys (codes "version" ∷ codes "ceiling" ∷ codes "goods" ∷ codes "bidders" ∷ []) file
+  _ ← version_of file
+  ceiling ← ceiling_of file
+  goods ← goods_of file
+  supply ← sold (supply_of (map (λ good. good.supply) goods))
+  bidders ← bidders_of file
+  Ok (record {
+    supply = supply;
+    ceiling = ceiling;
+    good_names = map (λ good. good.name) goods;
+    bidder_names = map (λ bidder. bidder.name) bidders;
+    token_digests = map (λ bidder. bidder.digest) bidders;
+    digest = sha256 bytes;
+  })

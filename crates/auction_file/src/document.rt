@@ -1,0 +1,100 @@
+//! Reading the tables of a TOML document.
+ghost use Rattle.std.specs.Prelude.{◌≡◌, ◌≢◌, map, option_map, string_bytes};
+ghost use Rattle.std.specs.List.{list_any};
+ghost use Rattle.std.specs.Str.{bytes_eq};
+ghost use Rattle.toml.specs.View.{view, table_view};
+ghost use Rattle.auction_file.specs.Tree.{value_at, integer_at, string_at, array_at, table_of, least_unknown, known_keys, within};
+ghost use Rattle.auction_file.specs.Seen.{Gives, GivesIfRoom};
+
+use crate::faults::{AuctionFault, Key, KeyText};
+use std::alloc::Global;
+use toml::{Table, Value};
+
+/// The value at a key that has to be there.
+fn value_at<'a>(table: &'a Table, name: &str, key: Key) -> Result<&'a Value, AuctionFault>
+    ensures { Gives (λ v. view v.now) result (value_at key name.now (table_view table.now)) }
+{
+    table.get(name).ok_or(AuctionFault::Missing(key))
+}
+
+/// The integer at a key.
+pub(crate) fn integer_at(table: &Table, name: &str, key: Key) -> Result<i64, AuctionFault>
+    ensures { result ≡ integer_at key name.now (table_view table.now) }
+{
+    let value = value_at(table, name, key)?;
+    value.as_integer().ok_or(AuctionFault::WrongKind(key))
+}
+
+/// The string at a key.
+pub(crate) fn string_at<'a>(table: &'a Table, name: &str, key: Key) -> Result<&'a str, AuctionFault>
+    ensures { Gives (λ s. s.now) result (string_at key name.now (table_view table.now)) }
+{
+    let value = value_at(table, name, key)?;
+    value.as_str().ok_or(AuctionFault::WrongKind(key))
+}
+
+/// The elements of the array at a key.
+pub(crate) fn array_at<'a>(
+    table: &'a Table,
+    name: &str,
+    key: Key,
+) -> Result<&'a [Value], AuctionFault>
+    ensures { Gives (λ s. map view s.now) result (array_at key name.now (table_view table.now)) }
+{
+    let value = value_at(table, name, key)?;
+    match value {
+        Value::Array(elements) => Ok(elements.as_slice()),
+        _ => Err(AuctionFault::WrongKind(key)),
+    }
+}
+
+/// The table that an element of an array is.
+pub(crate) fn table_of(element: &Value, key: Key) -> Result<&Table, AuctionFault>
+    ensures { Gives (λ t. table_view t.now) result (table_of key (view element.now)) }
+{
+    element.as_table().ok_or(AuctionFault::WrongKind(key))
+}
+
+/// Refuses a table with a key that is none of the known ones. The fault has the least such key.
+pub(crate) fn known_keys(alloc: Global, table: &Table, known: &[&str]) -> Result<(), AuctionFault>
+    ensures { GivesIfRoom (λ u. u) result (known_keys (map (λ k. k.now) known.now) (table_view table.now)) }
+{
+    match least_unknown(table, known) {
+        Some(key) => Err(unknown_key(alloc, key.as_str())),
+        None => Ok(()),
+    }
+}
+
+/// The least key that is none of the known ones. A table gives its keys in byte order.
+fn least_unknown<'a>(table: &'a Table, known: &[&str]) -> Option<&'a String>
+    ensures { option_map (λ k. string_bytes k.now) result ≡ least_unknown (map (λ k. k.now) known.now) (table_view table.now) }
+{
+    table.keys().find(|key| !is_known(key.as_str(), known))
+}
+
+/// Whether the key is one of the known ones.
+fn is_known(key: &str, known: &[&str]) -> bool
+    ensures { result ≡ list_any (λ k. bytes_eq key.now k.now) known.now }
+{
+    known.iter().any(|other| key == *other)
+}
+
+/// The fault of an unknown key.
+fn unknown_key(alloc: Global, key: &str) -> AuctionFault
+    ensures { result ≢ AuctionFault.NoMemory → result ≡ AuctionFault.UnknownKey key.now }
+{
+    match String::from_str(alloc, key) {
+        Ok(text) => AuctionFault::UnknownKey(KeyText::new(text)),
+        Err(_) => AuctionFault::NoMemory,
+    }
+}
+
+/// The number, if it is from `low` to `high`.
+pub(crate) fn within(value: i64, low: u16, high: u16) -> Option<u16>
+    ensures { result ≡ within low high value }
+{
+    match u16::try_from(value) {
+        Ok(number) if low <= number && number <= high => Some(number),
+        _ => None,
+    }
+}

@@ -1,0 +1,109 @@
+//! Why an auction file is refused, and where.
+
+ghost use Rattle.std.specs.Prelude.{◌≡◌};
+ghost use Rattle.auction_file.specs.declared.faults.AuctionFault.TheVariants.{NoMemory};
+
+use lot_base::GoodsFault;
+use std::alloc::{AllocError, AllocFailed};
+use std::fmt;
+use std::marker::Model;
+
+/// A key of an auction file, or a table of one of its arrays. Goods are counted from 0, bidders from 1.
+#[derive(Clone, Copy, Debug, PartialEq, Eq)]
+pub enum Key {
+    Version,
+    Ceiling,
+    Goods,
+    Bidders,
+    GoodTable(u32),
+    GoodName(u32),
+    Supply(u32),
+    BidderTable(u32),
+    BidderName(u32),
+    Token(u32),
+}
+
+/// A key as it stands in the file, seen as the list of its bytes.
+#[derive(Drop)]
+pub struct KeyText {
+    text: String,
+}
+
+impl Model for KeyText {
+    ghost use Rattle.std.specs.Prelude.{ℕ, List, string_bytes};
+
+    ghost Value = { List ℕ };
+
+    ghost view = { λ key. string_bytes key.text };
+}
+
+impl KeyText {
+    ghost use Rattle.std.specs.Prelude.{◌≡◌, string_bytes};
+
+    /// The key of this text.
+    pub fn new(text: String) -> KeyText
+        ensures { result ≡ string_bytes text }
+    {
+        KeyText { text }
+    }
+
+    /// The text of the key.
+    pub fn as_str(&self) -> &str
+        ensures { result.now ≡ self.now }
+    {
+        self.text.as_str()
+    }
+}
+
+impl fmt::Debug for KeyText {
+    fn fmt<W: fmt::Write>(&self, f: &mut fmt::Formatter<W>) -> fmt::Result {
+        fmt::Debug::fmt(self.as_str(), f)
+    }
+}
+
+/// Why an auction file is refused: the first fault in the order of the format.
+#[derive(Debug, Drop)]
+pub enum AuctionFault {
+    /// The bytes are no TOML document.
+    NotToml,
+    /// The key is not there.
+    Missing(Key),
+    /// The value is of another kind than the format asks for.
+    WrongKind(Key),
+    /// The supplies cannot be sold.
+    Goods(GoodsFault),
+    /// There are not 1 to 12 bidders but so many.
+    Bidders(u64),
+    /// The token of this bidder is not 64 hexadecimal digits.
+    BadDigest(u8),
+    /// The ceiling is not 2 to 10,000.
+    Ceiling(i64),
+    /// An earlier element of the same array has the name.
+    Repeated(Key),
+    /// The least key, in byte order, that the format does not know in its table.
+    UnknownKey(KeyText),
+    /// The version is not 1.
+    Version(i64),
+    /// The string is no name.
+    BadName(Key),
+    /// The supply is not 0 to 65,535. `good` is 255 where the good's place is larger.
+    BadSupply { good: u8, value: i64 },
+    /// Want of memory.
+    NoMemory,
+}
+
+impl From<AllocError> for AuctionFault {
+    ghost from_gives = { λ _ fault. fault ≡ NoMemory };
+
+    fn from(_error: AllocError) -> AuctionFault {
+        AuctionFault::NoMemory
+    }
+}
+
+impl<T: Drop> From<AllocFailed<T>> for AuctionFault {
+    ghost from_gives = { λ _ fault. fault ≡ NoMemory };
+
+    fn from(_failed: AllocFailed<T>) -> AuctionFault {
+        AuctionFault::NoMemory
+    }
+}

@@ -1,0 +1,19 @@
+//! The auction file: what a seller offers, to whom and up to which price, read from TOML.
+#![tactic(auto)]
+
+mod bidders_list;
+mod document;
+mod elements;
+pub mod faults;
+mod goods_list;
+pub mod laws;
+pub mod listing;
+pub mod naming;
+pub mod reader;
+#[cfg(test)]
+mod tests;
+
+pub use faults::{AuctionFault, Key, KeyText};
+pub use listing::{Auction, TokenDigests};
+pub use naming::{Name, Names};
+pub use reader::{MOST_BYTES, read};

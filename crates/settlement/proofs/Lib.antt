@@ -1,0 +1,13 @@
+pub mod Firsts
+pub mod Zips
+pub mod Members
+pub mod Bounds
+pub mod Awards
+pub mod Auction
+pub mod Alike
+pub mod Same
+pub mod One
+pub mod Explained
+pub mod Lower
+pub mod Never
+pub mod Efficient

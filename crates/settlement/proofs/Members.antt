@@ -1,0 +1,113 @@
+-- The members of a clock in its last round: each has reported, and what they demand is a list in their order.
+use Rattle.std.proofs.Common.{◌≡◌, ◌≢◌, ◌<◌, ◌≤◌, ℕ, zero, suc, ◌+◌, ◌-◌, Bool, true, false, not, nat_eq, cond, List, [], ◌∷◌, ◌++◌, length, map, Option, Some, None, is_some, refl, sym, ◌∙◌, ap, subst, arith}
+use Rattle.std.proofs.lemmas.Bool.Decides.{nat_tests}
+use Rattle.std.specs.Prelude.{filter, find, option_map}
+use Rattle.std.specs.List.{AllByRecursion, range_with_len}
+use Rattle.lot_base.specs.Demands.{IsDemand}
+use Rattle.lot_base.specs.Choices.{IsChoice}
+use Rattle.lot_base.specs.declared.phases.Phase.TheVariants.{Running, Ended}
+use Rattle.demand_set.specs.declared.reports.Report.{Report}
+use Rattle.clock.specs.Reports.{ClockHistory, members, members_of, demand_in, is_full, is_named}
+use Rattle.clock.specs.Standing.{phase_of, phase_by, steps_of, is_full_after, last_round, last_demands}
+use Rattle.clock.proofs.Members.{members_from, members-keep, members-skip}
+use Rattle.clock.proofs.Path.{both}
+use Rattle.settlement.proofs.Firsts.{find-some}
+
+-- a clock that has ended has a full last round
+full-by : (full empty : Bool) (good : Option ℕ) → phase_by full empty good ≡ Ended → full ≡ true
+full-by false empty good e = absurd (let f : Running ≡ Ended = e in cc)
+full-by true empty good e = refl
+
+pub full-ended : (c : ClockHistory) → phase_of c ≡ Ended → is_full (members_of c) c.reports (last_round c) ≡ true
+full-ended c e = full-by (is_full_after c (steps_of c)) _ _ e
+
+-- What a loop over the bidders has copied after so many of them, and what it still knows of the members from there on.
+pub record IsCopied (c : ClockHistory) (goods : List ℕ) (step bidders : ℕ) (demands : List (List (List ℕ))) : Type 0 where
+  pub whole : demands ++ map (last_demands c) (members_from step bidders c.number) ≡ map (last_demands c) (members_of c)
+  pub reported : is_full (members_from step bidders c.number) c.reports (last_round c) ≡ true
+  pub fit : AllByRecursion (λ d. IsDemand goods d) demands
+
+append-one : {A : Type 0} (xs : List A) (y : A) (ys : List A) → (xs ++ y ∷ []) ++ ys ≡ xs ++ (y ∷ ys)
+append-one [] y ys = refl
+append-one (x ∷ xs) y ys = ap (λ zs. x ∷ zs) (append-one xs y ys)
+
+append-none : {A : Type 0} (xs : List A) → xs ++ [] ≡ xs
+append-none [] = refl
+append-none (x ∷ xs) = ap (λ zs. x ∷ zs) (append-none xs)
+
+all-push : {A : Type 0} (P : A → Type 0) (xs : List A) (x : A) → AllByRecursion P xs → P x → AllByRecursion P (xs ++ x ∷ [])
+all-push P [] x all p = (p, tt)
+all-push P (y ∷ ys) x all p = (all.0, all-push P ys x all.1 p)
+
+none-from : (n clock : ℕ) → members_from n n clock ≡ []
+none-from n clock = let e : n - n ≡ 0 = omega arith in ap (λ k. filter (λ j. not (nat_eq j clock)) (range_with_len (1 + n) k)) e
+
+pub copied-start : (c : ClockHistory) (goods : List ℕ) (bidders : ℕ) → bidders ≡ c.terms.bidders → phase_of c ≡ Ended → IsCopied c goods 0 bidders []
+copied-start c goods bidders same ended =
+    let e : members_from 0 bidders c.number ≡ members_of c = let n : bidders - 0 ≡ c.terms.bidders = omega arith in ap (λ n. filter (λ j. not (nat_eq j c.number)) (range_with_len 1 n)) n in
+    record {
+      whole = ap (map (last_demands c)) e;
+      reported = ap (λ js. is_full js c.reports (last_round c)) e ∙ full-ended c ended;
+      fit = tt;
+    }
+
+pub copied-reported : (c : ClockHistory) (goods : List ℕ) (step bidders : ℕ) (demands : List (List (List ℕ))) → IsCopied c goods step bidders demands → step < bidders → step + 1 ≢ c.number
+    → (is_some (demand_in c.reports (last_round c) (step + 1)) ≡ true) × (is_full (members_from (step + 1) bidders c.number) c.reports (last_round c) ≡ true)
+copied-reported c goods step bidders demands h below other =
+    both _ _ (ap (λ js. is_full js c.reports (last_round c)) (sym (members-keep step bidders c.number below other)) ∙ h.reported)
+
+pub copied-keep : (c : ClockHistory) (goods : List ℕ) (step bidders : ℕ) (demands next : List (List (List ℕ))) (d : List (List ℕ)) → IsCopied c goods step bidders demands → step < bidders → step + 1 ≢ c.number
+    → d ≡ last_demands c (step + 1) → IsDemand goods d → next ≡ demands ++ d ∷ [] → IsCopied c goods (step + 1) bidders next
+copied-keep c goods step bidders demands next d h below other e fits pushed =
+    let rest = map (last_demands c) (members_from (step + 1) bidders c.number) in
+    record {
+      whole = ap (λ ds. ds ++ rest) pushed ∙ append-one demands d rest ∙ ap (λ x. demands ++ (x ∷ rest)) e ∙ ap (λ js. demands ++ map (last_demands c) js) (sym (members-keep step bidders c.number below other)) ∙ h.whole;
+      reported = (copied-reported c goods step bidders demands h below other).1;
+      fit = let P : List (List (List ℕ)) → Type 0 = AllByRecursion (λ d. IsDemand goods d) in subst P (sym pushed) (all-push (λ d. IsDemand goods d) demands d h.fit fits);
+    }
+
+pub copied-skip : (c : ClockHistory) (goods : List ℕ) (step bidders : ℕ) (demands : List (List (List ℕ))) → IsCopied c goods step bidders demands → step < bidders → step + 1 ≡ c.number → IsCopied c goods (step + 1) bidders demands
+copied-skip c goods step bidders demands h below same =
+    let e = members-skip step bidders c.number below same in
+    record {
+      whole = ap (λ js. demands ++ map (last_demands c) js) (sym e) ∙ h.whole;
+      reported = ap (λ js. is_full js c.reports (last_round c)) (sym e) ∙ h.reported;
+      fit = h.fit;
+    }
+
+pub copied-end : (c : ClockHistory) (goods : List ℕ) (bidders : ℕ) (demands : List (List (List ℕ))) → IsCopied c goods bidders bidders demands → demands ≡ map (last_demands c) (members_of c)
+copied-end c goods bidders demands h =
+    sym (append-none demands) ∙ ap (λ js. demands ++ map (last_demands c) js) (sym (none-from bidders c.number)) ∙ h.whole
+
+-- each report of a legal history demands what the supply has
+pub demand-fits : (goods : List ℕ) (reports : List Report) (round bidder : ℕ) (d : List (List ℕ)) → AllByRecursion (λ (r : Report). IsDemand goods r.demand) reports → demand_in reports round bidder ≡ Some d → IsDemand goods d
+demand-fits goods reports round bidder d all e = by (find (is_named round bidder) reports) refl e
+  where
+    by : (o : Option Report) → find (is_named round bidder) reports ≡ o → option_map (λ (r : Report). r.demand) o ≡ Some d → IsDemand goods d
+    by None f g = absurd (let k : None ≡ Some d = g in cc)
+    by (Some r) f g = let k : r.demand ≡ d = cc in subst (IsDemand goods) k (find-some (λ (r : Report). IsDemand goods r.demand) (is_named round bidder) reports r all f).1
+
+-- all bidders are members of the clock of all
+pub count-members : (n : ℕ) → length (members n 0) ≡ n
+count-members n = from 1 n (omega arith)
+  where
+    from : (a n : ℕ) → 1 ≤ a → length (filter (λ j. not (nat_eq j 0)) (range_with_len a n)) ≡ n
+    from a zero some = refl
+    from a (suc n) some =
+        let t : nat_eq a 0 ≡ false = grind (arith, nat_tests) in
+        let r = from (a + 1) n (omega arith) in
+        ap (λ b. length (cond (not b) (a ∷ filter (λ j. not (nat_eq j 0)) (range_with_len (a + 1) n)) (filter (λ j. not (nat_eq j 0)) (range_with_len (a + 1) n)))) t ∙ ap suc r
+
+pub count-choice : (ds : List (List (List ℕ))) (xs : List (List ℕ)) → IsChoice ds xs → length xs ≡ length ds
+count-choice [] [] h = refl
+count-choice [] (x ∷ xs) h = absurd h
+count-choice (d ∷ ds) [] h = absurd h
+count-choice (d ∷ ds) (x ∷ xs) h = ap suc (count-choice ds xs h.1)
+
+pub count-map : {A B : Type 0} (f : A → B) (xs : List A) → length (map f xs) ≡ length xs
+count-map f [] = refl
+count-map f (x ∷ xs) = ap suc (count-map f xs)
+
+pub count-range : (a n : ℕ) → length (range_with_len a n) ≡ n
+count-range a zero = refl
+count-range a (suc n) = ap suc (count-range (a + 1) n)

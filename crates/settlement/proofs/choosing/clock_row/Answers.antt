@@ -1,0 +1,19 @@
+use Rattle.std.proofs.Common.{length, Some, None, ◌∙◌, ap}
+use Rattle.settlement.proofs.Bounds.{path-of, choice-from}
+use Rattle.settlement.proofs.choosing.clock_row.Goals as goal
+
+pub assemble-requires-clause-prices : goal.assemble-requires-clause-prices
+assemble-requires-clause-prices c = ap length c.look-look.ensures.prices ∙ (path-of c.args.clock.now).goods ∙ ap (λ terms. length terms.goods) c.requires.terms
+
+pub returns-in-Ok-Award : goal.returns-in-Ok-Award
+returns-in-Ok-Award c = record {
+  steps_are = c.steps.ensures.value;
+  prices_are = c.look-look.ensures.prices;
+  choice_is = choice-from c.args.clock.now c.args.terms.now c.look-look.result.prices c.deref.result.now (Some c.in-Ok-Award.choices) c.requires.terms c.look-look.ensures.prices (c.deref.ensures.value ∙ c.in_ok-demands.ensures.demands)
+      (rw c.in-Ok-Award.field-0-is at c.in-Ok-Award.ensures.first);
+}
+
+pub returns-in-Ok-NoChoice : goal.returns-in-Ok-NoChoice
+returns-in-Ok-NoChoice c =
+    choice-from c.args.clock.now c.args.terms.now c.look-look.result.prices c.deref.result.now None c.requires.terms c.look-look.ensures.prices (c.deref.ensures.value ∙ c.in_ok-demands.ensures.demands)
+    (rw c.in-Ok-NoChoice.field-0-is at c.in-Ok-NoChoice.ensures.first)

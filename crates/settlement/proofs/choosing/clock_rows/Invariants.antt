@@ -1,0 +1,7 @@
+use Rattle.std.proofs.Common.{take}
+use Rattle.std.specs.List.{AllZip}
+use Rattle.settlement.specs.Settling.{IsClockRow}
+use Rattle.settlement.proofs.choosing.clock_rows.Given as goal
+
+abbrev pub invariant-loop-clock : goal.invariant-loop-clock
+invariant-loop-clock l = AllZip IsClockRow (take l.clock-index l.clocks) l.rows.items

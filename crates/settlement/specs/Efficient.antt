@@ -1,0 +1,54 @@
+-- What an outcome is where valuations explain the reports of all clocks: an equilibrium of the bidders' economy, with the
+-- payments of Vickrey, Clarke and Groves.
+use Rattle.std.specs.Prelude.{ℕ, ◌≤◌, ◌+◌, List, map, ℤ}
+use Rattle.std.specs.List.{AllByRecursion, AllZip, range_with_len}
+use Rattle.lot_base.specs.Goods.{AtMost}
+use Rattle.lot_base.specs.Economy.{AllBelowCeiling}
+use Rattle.lot_base.specs.Equilibrium.{IsWalrasian, IsLeastWalrasian, IsWelfare, IsVcgPayment, worth}
+use Rattle.lot_base.specs.declared.auction_terms.Terms.{Terms}
+use Rattle.lyapunov.specs.Bidders.{bundle_of}
+use Rattle.lyapunov.specs.Paths.{highest}
+use Rattle.clock.specs.Reports.{ClockHistory, opening_of, all_bidders, members}
+use Rattle.clock.specs.Explained.{Explains}
+use Rattle.settlement.specs.declared.outcome.AwardRow.{AwardRow}
+use Rattle.settlement.specs.declared.outcome.ClockRow.{ClockRow}
+use Rattle.settlement.specs.declared.outcome.Outcome.{Outcome}
+use Rattle.settlement.specs.declared.outcome.Settlement.{Settlement}
+use Rattle.settlement.specs.declared.outcome.Settlement.TheVariants.{Settled, Open, Halted, NoAward}
+
+-- one valuation for each bidder explains the reports of all clocks
+abbrev pub ExplainsAll : (ℕ → List ℕ → ℤ) → List ClockHistory → Type 0
+ExplainsAll u clocks = AllByRecursion (Explains u) clocks
+
+-- what the outcome awards each bidder
+abbrev pub award_of : Terms → Outcome → ℕ → List ℕ
+award_of terms outcome = bundle_of (all_bidders terms.bidders) (map (λ (row : AwardRow). row.award) outcome.rows)
+
+-- the row has the payment of Vickrey, Clarke and Groves at the awards
+abbrev pub PaysVcg : (ℕ → List ℕ → ℤ) → Terms → (ℕ → List ℕ) → ℕ → AwardRow → Type 0
+PaysVcg u terms awards bidder row = IsVcgPayment terms.goods (opening_of terms) u (all_bidders terms.bidders) awards bidder row.pays
+
+-- no allocation among the members of a clock is worth more than its choice
+abbrev pub IsBestChoice : (ℕ → List ℕ → ℤ) → Terms → ℕ → ClockRow → Type 0
+IsBestChoice u terms number row =
+    let js = members terms.bidders number in
+    IsWelfare terms.goods (opening_of terms) u js (worth terms.goods (opening_of terms) u js (bundle_of js row.choices))
+
+-- The prices of a clock are at most those of the outcome on every good, and it has made no more steps than the highest of these,
+-- which is as many as the clock of all has made: without a bidder prices are no higher.
+abbrev pub IsNoHigher : Outcome → ClockRow → Type 0
+IsNoHigher outcome row = AtMost row.prices outcome.prices × (row.steps ≤ highest outcome.prices)
+
+pub record IsEfficient (u : ℕ → List ℕ → ℤ) (terms : Terms) (outcome : Outcome) : Type 0 where
+  pub equilibrium : IsWalrasian terms.goods (opening_of terms) u (all_bidders terms.bidders) outcome.prices (award_of terms outcome)
+  pub least : IsLeastWalrasian terms.goods (opening_of terms) u (all_bidders terms.bidders) outcome.prices
+  pub payments : AllZip (PaysVcg u terms (award_of terms outcome)) (all_bidders terms.bidders) outcome.rows
+  pub no_higher : AllByRecursion (IsNoHigher outcome) outcome.clocks
+  pub choices : AllZip (IsBestChoice u terms) (range_with_len 0 (terms.bidders + 1)) outcome.clocks
+
+-- Where there is an outcome it is efficient. Some choice of each clock clears, and no clock halts whose ceiling is above all values.
+abbrev pub IsEfficientSettlement : (ℕ → List ℕ → ℤ) → Terms → Settlement → Type 0
+IsEfficientSettlement u terms (Settled outcome) = IsEfficient u terms outcome
+IsEfficientSettlement u terms (Open clock round missing) = Unit {0}
+IsEfficientSettlement u terms (Halted clock good) = AllBelowCeiling terms.goods u terms.ceiling (all_bidders terms.bidders) → ⊥
+IsEfficientSettlement u terms (NoAward clock) = ⊥

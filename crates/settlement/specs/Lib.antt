@@ -1,0 +1,5 @@
+pub mod Clocks
+pub mod Settling
+pub mod Found
+pub mod Alike
+pub mod Efficient

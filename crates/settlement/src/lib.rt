@@ -1,0 +1,81 @@
+//! What the clocks of an auction settle: prices, awards and payments, or where they are open.
+#![tactic(auto)]
+
+ghost use Rattle.std.specs.Prelude.{ℕ, ℤ, List, IfOk};
+ghost use Rattle.std.specs.List.{AllZip};
+ghost use Rattle.settlement.specs.Clocks.{AreClocksOf};
+ghost use Rattle.settlement.specs.Settling.{IsClockRow, IsSettled, IsOutcomeOf};
+ghost use Rattle.settlement.specs.Efficient.{ExplainsAll, IsEfficientSettlement};
+
+mod awarding;
+mod choosing;
+pub mod laws;
+pub mod outcome;
+mod standing;
+#[cfg(test)]
+mod tests;
+
+use choosing::Choices;
+use clock::Clock;
+use lot_base::{NoMemory, Terms};
+pub use outcome::{AwardRow, ClockRow, Outcome, Rows, Settlement};
+use std::alloc::Global;
+
+/// What the clocks of an auction settle, in the order of their numbers.
+pub fn settle(alloc: Global, terms: &Terms, clocks: &[Clock]) -> Result<Settlement, NoMemory>
+    requires { AreClocksOf terms.now clocks.now }
+    ensures outcome { IfOk result (IsOutcomeOf clocks.now) }
+
+    // Where one valuation for each bidder explains all reports, an outcome is an equilibrium at the least such prices, each
+    // bidder pays what Vickrey, Clarke and Groves ask, and the choices show the greatest worth without each bidder. No clock
+    // is then without a choice, and none halts whose ceiling is above all values.
+    ensures efficient { IfOk result (λ s. (u : ℕ → List ℕ → ℤ) → ExplainsAll u clocks.now → IsEfficientSettlement u terms.now s) }
+{
+    settle_exactly(alloc, terms, clocks)
+}
+
+/// The same without the economy.
+fn settle_exactly(alloc: Global, terms: &Terms, clocks: &[Clock]) -> Result<Settlement, NoMemory>
+    requires { AreClocksOf terms.now clocks.now }
+    ensures { IfOk result (IsOutcomeOf clocks.now) }
+{
+    if let Some(settlement) = standing::open(clocks) {
+        return Ok(settlement);
+    }
+    if let Some(settlement) = standing::halted(clocks) {
+        return Ok(settlement);
+    }
+    match choosing::clock_rows(alloc, terms, clocks) {
+        Ok(Choices::NoneOf(clock)) => Ok(Settlement::NoAward { clock }),
+        Ok(Choices::All(rows)) => match outcome_of(alloc, terms, clocks, rows) {
+            Ok(outcome) => Ok(Settlement::Settled(outcome)),
+            Err(NoMemory) => Err(NoMemory),
+        },
+        Err(NoMemory) => Err(NoMemory),
+    }
+}
+
+/// The outcome of clocks that have these rows.
+fn outcome_of(
+    alloc: Global,
+    terms: &Terms,
+    clocks: &[Clock],
+    rows: Rows<ClockRow>,
+) -> Result<Outcome, NoMemory>
+    requires clocks { AreClocksOf terms.now clocks.now }
+    requires rows { AllZip IsClockRow clocks.now rows }
+    ensures { IfOk result (IsSettled clocks.now) }
+{
+    let all = &clocks[0];
+    let others = clocks.split_at(1).1;
+    let row = &rows.as_slice()[0];
+    let prices = row.prices;
+    match awarding::award_rows(alloc, all, others, &prices, &row.choices) {
+        Ok(awards) => Ok(Outcome {
+            prices,
+            rows: awards,
+            clocks: rows,
+        }),
+        Err(NoMemory) => Err(NoMemory),
+    }
+}

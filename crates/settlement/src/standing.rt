@@ -1,0 +1,65 @@
+//! Clocks that have not ended.
+ghost use Rattle.std.specs.Prelude.{◌≡◌, find, option_copied, MatchOption};
+ghost use Rattle.settlement.specs.Clocks.{is_running, is_halted};
+ghost use Rattle.settlement.specs.Settling.{NoneIs, IsOutcomeOf};
+
+use crate::outcome::Settlement;
+use clock::Clock;
+use lot_base::Phase;
+
+/// What the clocks settle where one is running.
+pub(crate) fn open(clocks: &[Clock]) -> Option<Settlement>
+    ensures { MatchOption result (NoneIs is_running clocks.now) (IsOutcomeOf clocks.now) }
+{
+    let clock = first_running(clocks)?;
+    Some(Settlement::Open {
+        clock: clock.number(),
+        round: clock.look().round,
+        missing: clock.missing(),
+    })
+}
+
+/// What the clocks settle where none is running and one has halted.
+pub(crate) fn halted(clocks: &[Clock]) -> Option<Settlement>
+    requires { NoneIs is_running clocks.now }
+    ensures { MatchOption result (NoneIs is_halted clocks.now) (IsOutcomeOf clocks.now) }
+{
+    let clock = first_halted(clocks)?;
+    match clock.look().phase {
+        Phase::Halted(good) => Some(Settlement::Halted {
+            clock: clock.number(),
+            good,
+        }),
+        Phase::Running | Phase::Ended => None,
+    }
+}
+
+fn first_running(clocks: &[Clock]) -> Option<&Clock>
+    ensures { option_copied result ≡ find is_running clocks.now }
+{
+    clocks.iter().find(|clock| is_running(clock))
+}
+
+fn first_halted(clocks: &[Clock]) -> Option<&Clock>
+    ensures { option_copied result ≡ find is_halted clocks.now }
+{
+    clocks.iter().find(|clock| is_halted(clock))
+}
+
+fn is_running(clock: &Clock) -> bool
+    ensures { result ≡ is_running clock.now }
+{
+    match clock.look().phase {
+        Phase::Running => true,
+        Phase::Ended | Phase::Halted(_) => false,
+    }
+}
+
+fn is_halted(clock: &Clock) -> bool
+    ensures { result ≡ is_halted clock.now }
+{
+    match clock.look().phase {
+        Phase::Halted(_) => true,
+        Phase::Running | Phase::Ended => false,
+    }
+}
