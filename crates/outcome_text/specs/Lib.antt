@@ -1,0 +1,5 @@
+pub mod Lines
+pub mod Standing
+pub mod Plain
+pub mod Json
+pub mod Reading

@@ -1,0 +1,2 @@
+//! Outcomes and standings as texts.
+#![tactic(auto)]
