@@ -2,7 +2,7 @@
 -- how a value is spelled.
 use Rattle.std.specs.Prelude.{ℕ, suc, ℤ, List, [], ◌∷◌, ◌++◌, length, codes}
 use Rattle.clock.specs.Reports.{members}
-use Rattle.serde_json.specs.Data.{Data, number, array, object, unsigned, Items, no_items, item, Members, no_members, member}
+use Rattle.serde_json.specs.Data.{Data, number, array, object, unsigned, Items, no_items, item, no_members, member}
 use Rattle.serde_json.specs.Find.{of_integer}
 use Rattle.serde_json.specs.Written.{compact_text}
 use Rattle.settlement.specs.declared.outcome.AwardRow.{AwardRow}
@@ -22,7 +22,7 @@ counts (n ∷ ns) = item (count n) (counts ns)
 abbrev pub bidder_object : ℕ → AwardRow → Data
 bidder_object bidder row =
     object (member (codes "award") (array (counts row.award)) (member (codes "bidder") (count bidder)
-      (member (codes "credit") (amount row.credit) (member (codes "debit") (amount row.debit) (member (codes "pays") (amount row.pays) no_members)))))
+    (member (codes "credit") (amount row.credit) (member (codes "debit") (amount row.debit) (member (codes "pays") (amount row.pays) no_members)))))
 
 -- the objects of bidders that are numbered from here on
 abbrev pub bidder_objects : ℕ → List AwardRow → Items
@@ -41,7 +41,7 @@ choice_objects (j ∷ js) (bundle ∷ bundles) = item (choice_object j bundle) (
 abbrev pub clock_object : ℕ → ℕ → ClockRow → Data
 clock_object bidders clock row =
     object (member (codes "choices") (array (choice_objects (members bidders clock) row.choices)) (member (codes "clock") (count clock)
-      (member (codes "prices") (array (counts row.prices)) (member (codes "steps") (count row.steps) no_members))))
+    (member (codes "prices") (array (counts row.prices)) (member (codes "steps") (count row.steps) no_members))))
 
 -- the objects of clocks that are numbered from here on
 abbrev pub clock_objects : ℕ → ℕ → List ClockRow → Items
@@ -51,7 +51,7 @@ clock_objects bidders clock (row ∷ rows) = item (clock_object bidders clock ro
 unfoldable pub outcome_object : Outcome → Data
 outcome_object o =
     object (member (codes "bidders") (array (bidder_objects 1 o.rows)) (member (codes "clocks") (array (clock_objects (length o.rows) 0 o.clocks))
-      (member (codes "goods") (count (length o.prices)) (member (codes "prices") (array (counts o.prices)) no_members))))
+    (member (codes "goods") (count (length o.prices)) (member (codes "prices") (array (counts o.prices)) no_members))))
 
 unfoldable pub json_text : Outcome → List ℕ
 json_text o = compact_text (outcome_object o) ++ codes "\n"

@@ -1,4 +1,5 @@
 pub mod Lines
+pub mod Spaced
 pub mod Standing
 pub mod Plain
 pub mod Json

@@ -8,7 +8,7 @@
 --
 -- P.. are the prices of the goods and X.. the quantities of a bundle. Numbers have decimal digits without a leading zero, and
 -- one below 0 has a minus sign in front.
-use Rattle.std.specs.Prelude.{ℕ, suc, ℤ, List, [], ◌∷◌, ◌++◌, length, codes, decimal}
+use Rattle.std.specs.Prelude.{ℕ, suc, List, [], ◌∷◌, ◌++◌, length, codes, decimal}
 use Rattle.std.specs.Fmt.{signed_decimal}
 use Rattle.clock.specs.Reports.{members}
 use Rattle.settlement.specs.declared.outcome.AwardRow.{AwardRow}
@@ -26,7 +26,7 @@ price_words prices = codes "prices" ∷ numerals prices
 abbrev pub bidder_words : ℕ → AwardRow → List (List ℕ)
 bidder_words bidder row =
     codes "bidder" ∷ decimal bidder ∷ codes "award" ∷ numerals row.award ++
-      (codes "debit" ∷ signed_decimal row.debit ∷ codes "credit" ∷ signed_decimal row.credit ∷ codes "pays" ∷ signed_decimal row.pays ∷ [])
+    (codes "debit" ∷ signed_decimal row.debit ∷ codes "credit" ∷ signed_decimal row.credit ∷ codes "pays" ∷ signed_decimal row.pays ∷ [])
 
 -- the lines of bidders that are numbered from here on
 abbrev pub bidder_lines : ℕ → List AwardRow → List (List (List ℕ))

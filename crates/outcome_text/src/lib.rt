@@ -1,2 +1,7 @@
-//! Outcomes and standings as texts.
+//! Texts of what clocks settle: the plain text of an outcome and its reading, its JSON text, and the standing line of a clock.
 #![tactic(auto)]
+
+mod numerals;
+pub mod standing;
+
+pub use standing::write_standing;
