@@ -1,1 +1,3 @@
 pub mod Lining
+pub mod StandingLine
+pub mod PlainLines

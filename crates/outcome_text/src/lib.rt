@@ -2,6 +2,8 @@
 #![tactic(auto)]
 
 mod numerals;
+pub mod plain;
 pub mod standing;
 
+pub use plain::write_plain;
 pub use standing::write_standing;

@@ -1,5 +1,6 @@
 //! Numbers as words inside a line.
-ghost use Rattle.std.specs.Prelude.{◌≡◌, ◌++◌, OnOk, string_bytes};
+ghost use Rattle.std.specs.Prelude.{◌≡◌, ◌++◌, ◌∷◌, [], OnOk, string_bytes};
+ghost use Rattle.std.specs.Fmt.{signed_decimal};
 ghost use Rattle.outcome_text.specs.Lines.{numerals};
 ghost use Rattle.outcome_text.specs.Spaced.{spaced};
 
@@ -27,4 +28,11 @@ pub(crate) fn write_bundle(text: &mut String, bundle: &Bundle) -> Result<(), All
         write!(text, " {quantity}")?;
     }
     Ok(())
+}
+
+/// Writes the name of an amount and the amount, each behind a blank.
+pub(crate) fn write_amount(text: &mut String, name: &str, amount: i64) -> Result<(), AllocError>
+    ensures { OnOk result (string_bytes text.new ≡ string_bytes text.old ++ spaced (name.now ∷ signed_decimal amount ∷ [])) }
+{
+    write!(text, " {name} {amount}")
 }

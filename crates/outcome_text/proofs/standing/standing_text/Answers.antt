@@ -1,5 +1,5 @@
 -- The line is what was written, one write after another.
-use Rattle.outcome_text.proofs.Lining.{standing-written}
+use Rattle.outcome_text.proofs.StandingLine.{standing-written}
 use Rattle.outcome_text.proofs.standing.standing_text.Goals as goal
 
 pub returns : goal.returns
