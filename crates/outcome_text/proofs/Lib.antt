@@ -1,3 +1,4 @@
 pub mod Lining
 pub mod StandingLine
 pub mod PlainLines
+pub mod NumberWords

@@ -3,6 +3,7 @@
 
 mod numerals;
 pub mod plain;
+mod scanning;
 pub mod standing;
 
 pub use plain::write_plain;
