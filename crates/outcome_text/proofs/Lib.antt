@@ -2,3 +2,4 @@ pub mod Lining
 pub mod StandingLine
 pub mod PlainLines
 pub mod NumberWords
+pub mod Cells

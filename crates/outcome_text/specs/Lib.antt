@@ -5,3 +5,5 @@ pub mod Numbers
 pub mod Plain
 pub mod Json
 pub mod Reading
+pub mod Listed
+pub mod Parts

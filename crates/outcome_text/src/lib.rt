@@ -1,6 +1,7 @@
 //! Texts of what clocks settle: the plain text of an outcome and its reading, its JSON text, and the standing line of a clock.
 #![tactic(auto)]
 
+mod building;
 mod numerals;
 pub mod plain;
 mod scanning;
