@@ -3,3 +3,4 @@ pub mod StandingLine
 pub mod PlainLines
 pub mod NumberWords
 pub mod Cells
+pub mod Awards

@@ -1,14 +1,16 @@
 //! The parts of an outcome from the numbers of its plain text.
-ghost use Rattle.std.specs.Prelude.{◌≡◌, ◌<◌, ◌≤◌, ◌^◌, ◌++◌, ◌∷◌, ℕ, ℤ, pos, List, Some, IfSome};
+ghost use Rattle.std.specs.Prelude.{◌≡◌, ◌<◌, ◌≤◌, ◌^◌, ◌++◌, ◌∷◌, [], ℕ, ℤ, pos, List, length, Some, IfSome, IfOk, OnOk};
 ghost use Rattle.std.specs.List.{AllByRecursion};
 ghost use Rattle.settlement.specs.Shapes.{IsOf};
 ghost use Rattle.settlement.specs.declared.outcome.AwardRow.{AwardRow as AwardValue};
 ghost use Rattle.outcome_text.specs.Reading.{IsAmount};
-ghost use Rattle.outcome_text.specs.Listed.{naturals, award_numbers};
-ghost use Rattle.outcome_text.specs.Parts.{IsBundleOf, ArePricesOf, IsAwardOf};
+ghost use Rattle.outcome_text.specs.Listed.{naturals, award_numbers, awards_numbers, choice_numbers, choices_numbers};
+ghost use Rattle.outcome_text.specs.Parts.{IsBundleOf, ArePricesOf, IsAwardOf, AreAwardsOf, AreChoicesOf};
 
-use lot_base::{Bundle, Prices};
-use settlement::AwardRow;
+use award_assembly::Choice;
+use lot_base::{Bundle, NoMemory, Prices};
+use settlement::{AwardRow, Rows};
+use std::alloc::Global;
 
 /// Numbers that are taken from the front.
 #[derive(Clone, Copy)]
@@ -83,5 +85,72 @@ impl Numbers<'_> {
             credit: self.next()?,
             pays: self.next()?,
         })
+    }
+
+    /// What the next bidders are awarded and pay.
+    pub(crate) fn award_rows(
+        &mut self,
+        alloc: Global,
+        goods: u8,
+        bidders: u8,
+    ) -> Result<Option<Rows<AwardRow>>, NoMemory>
+        requires some { 1 ≤ goods }
+        requires few { goods ≤ 6 }
+        ensures fit { IfOk result (λ r. IfSome r (AreAwardsOf goods bidders)) }
+        ensures back { (rows : List AwardValue) (behind : List ℤ) → AreAwardsOf goods bidders rows → self.old.rest.now ≡ awards_numbers 1 rows ++ behind → IfOk result (λ r. (r ≡ Some rows) × (self.new.rest.now ≡ behind)) }
+    {
+        let mut rows = Vec::new(alloc);
+        for _place in 0..bidders {
+            match self.award_row(goods) {
+                Some(row) => push(&mut rows, row)?,
+                None => return Ok(None),
+            }
+        }
+        Ok(Some(Rows::from_vec(rows)))
+    }
+
+    /// What the next members of a clock choose, of whom there are so many.
+    fn choices(
+        &mut self,
+        alloc: Global,
+        goods: u8,
+        count: u8,
+    ) -> Result<Option<Choice>, NoMemory>
+        requires some { 1 ≤ goods }
+        requires few { goods ≤ 6 }
+        ensures fit { IfOk result (λ r. IfSome r (AreChoicesOf goods count)) }
+        ensures back { (clock : ℕ) (js : List ℕ) (choices : List (List ℕ)) (behind : List ℤ) → length js ≡ count → AreChoicesOf goods count choices →
+            self.old.rest.now ≡ choices_numbers clock js choices ++ behind → IfOk result (λ r. (r ≡ Some choices) × (self.new.rest.now ≡ behind)) }
+    {
+        let mut bundles = Vec::new(alloc);
+        for _place in 0..count {
+            match self.choice(goods) {
+                Some(bundle) => push(&mut bundles, bundle)?,
+                None => return Ok(None),
+            }
+        }
+        Ok(Some(Choice::from_vec(bundles)))
+    }
+
+    /// What the next member of a clock chooses, behind the numbers of the clock and of the member.
+    fn choice(&mut self, goods: u8) -> Option<Bundle>
+        requires some { 1 ≤ goods }
+        requires few { goods ≤ 6 }
+        ensures fit { IfSome result (IsBundleOf goods) }
+        ensures back { (clock bidder : ℕ) (bundle : List ℕ) (behind : List ℤ) → IsBundleOf goods bundle → self.old.rest.now ≡ choice_numbers clock bidder bundle ++ behind → (result ≡ Some bundle) × (self.new.rest.now ≡ behind) }
+    {
+        self.next()?;
+        self.next()?;
+        self.bundle(goods)
+    }
+}
+
+/// Appends an element.
+fn push<T: Drop>(items: &mut Vec<T>, item: T) -> Result<(), NoMemory>
+    ensures { OnOk result (items.new.items ≡ items.old.items ++ item ∷ []) }
+{
+    match items.push(item) {
+        Ok(()) => Ok(()),
+        Err(_) => Err(NoMemory),
     }
 }
