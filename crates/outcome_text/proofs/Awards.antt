@@ -37,11 +37,11 @@ one-more-award goods bidders i old rest new made after row h below fit next push
       counted = ap length pushed ∙ length-push made row i h.counted;
       each = let P : List AwardRow → Type 0 = AllByRecursion (IsAwardOf goods) in subst P (sym pushed) (all-push (IsAwardOf goods) made row h.each fit);
       back = λ rows behind are e.
-        let before = h.back rows behind are e in
-        let here : i < length rows = omega (arith, are.count) in
-        let taken = next (i + 1) (get_or rows i row) (awards_numbers (i + 1 + 1) (drop (i + 1) rows) ++ behind) (all-at (IsAwardOf goods) rows i row are.each here) (next-award i rest rows behind row here before.1) in
-        let same : row ≡ get_or rows i row = let s = taken.0 in cc in
-        (pushed ∙ (λ j. before.0 j ++ same j ∷ []) ∙ sym (take_more rows i row here), taken.1);
+          let before = h.back rows behind are e in
+          let here : i < length rows = omega (arith, are.count) in
+          let taken = next (i + 1) (get_or rows i row) (awards_numbers (i + 1 + 1) (drop (i + 1) rows) ++ behind) (all-at (IsAwardOf goods) rows i row are.each here) (next-award i rest rows behind row here before.1) in
+          let same : row ≡ get_or rows i row = let s = taken.0 in cc in
+          (pushed ∙ (λ j. before.0 j ++ same j ∷ []) ∙ sym (take_more rows i row here), taken.1);
     }
 
 -- where no row can be taken, there are no such rows
@@ -51,9 +51,9 @@ no-award goods bidders i old rest new made rows behind h below next are e = by r
     by : (rs : List AwardRow) → rows ≡ rs → ⊥
     by [] is = let none : length rows ≡ 0 = ap length is in omega (arith, are.count)
     by (d ∷ rs) is =
-      let here : i < length rows = omega (arith, are.count) in
-      let taken = next (i + 1) (get_or rows i d) (awards_numbers (i + 1 + 1) (drop (i + 1) rows) ++ behind) (all-at (IsAwardOf goods) rows i d are.each here) (next-award i rest rows behind d here (h.back rows behind are e).1) in
-      let s : None ≡ Some (get_or rows i d) = taken.0 in cc
+        let here : i < length rows = omega (arith, are.count) in
+        let taken = next (i + 1) (get_or rows i d) (awards_numbers (i + 1 + 1) (drop (i + 1) rows) ++ behind) (all-at (IsAwardOf goods) rows i d are.each here) (next-award i rest rows behind d here (h.back rows behind are e).1) in
+        let s : None ≡ Some (get_or rows i d) = taken.0 in cc
 
 pub all-awards : (goods bidders : ℕ) (old rest : List ℤ) (made rows : List AwardRow) (behind : List ℤ) → AreAwardsTaken goods bidders bidders old rest made → AreAwardsOf goods bidders rows → old ≡ awards_numbers 1 rows ++ behind → (made ≡ rows) × (rest ≡ behind)
 all-awards goods bidders old rest made rows behind h are e =
@@ -65,7 +65,7 @@ pub record AreChoicesTaken (goods count i : ℕ) (old rest : List ℤ) (made : L
   pub counted : length made ≡ i
   pub each : AllByRecursion (IsBundleOf goods) made
   pub back : (clock : ℕ) (js : List ℕ) (choices : List (List ℕ)) (behind : List ℤ) → length js ≡ count → AreChoicesOf goods count choices → old ≡ choices_numbers clock js choices ++ behind
-    → (made ≡ take i choices) × (rest ≡ choices_numbers clock (drop i js) (drop i choices) ++ behind)
+      → (made ≡ take i choices) × (rest ≡ choices_numbers clock (drop i js) (drop i choices) ++ behind)
 
 abbrev pub TakesChoice : ℕ → List ℤ → List ℤ → Option (List ℕ) → Type 0
 TakesChoice goods old new result = (clock bidder : ℕ) (bundle : List ℕ) (behind : List ℤ) → IsBundleOf goods bundle → old ≡ choice_numbers clock bidder bundle ++ behind → (result ≡ Some bundle) × (new ≡ behind)
@@ -83,12 +83,12 @@ one-more-choice goods count i old rest new made after bundle h below fit next pu
       counted = ap length pushed ∙ length-push made bundle i h.counted;
       each = let P : List (List ℕ) → Type 0 = AllByRecursion (IsBundleOf goods) in subst P (sym pushed) (all-push (IsBundleOf goods) made bundle h.each fit);
       back = λ clock js choices behind l are e.
-        let before = h.back clock js choices behind l are e in
-        let inside : i < length js = omega arith in
-        let here : i < length choices = omega (arith, are.counted) in
-        let taken = next clock (get_or js i 0) (get_or choices i []) (choices_numbers clock (drop (i + 1) js) (drop (i + 1) choices) ++ behind) (all-at (IsBundleOf goods) choices i [] are.each here) (next-choice clock i rest js choices behind inside here before.1) in
-        let same : bundle ≡ get_or choices i [] = let s = taken.0 in cc in
-        (pushed ∙ (λ j. before.0 j ++ same j ∷ []) ∙ sym (take_more choices i [] here), taken.1);
+          let before = h.back clock js choices behind l are e in
+          let inside : i < length js = omega arith in
+          let here : i < length choices = omega (arith, are.counted) in
+          let taken = next clock (get_or js i 0) (get_or choices i []) (choices_numbers clock (drop (i + 1) js) (drop (i + 1) choices) ++ behind) (all-at (IsBundleOf goods) choices i [] are.each here) (next-choice clock i rest js choices behind inside here before.1) in
+          let same : bundle ≡ get_or choices i [] = let s = taken.0 in cc in
+          (pushed ∙ (λ j. before.0 j ++ same j ∷ []) ∙ sym (take_more choices i [] here), taken.1);
     }
 
 pub no-choice : (goods count i : ℕ) (old rest new : List ℤ) (made : List (List ℕ)) (clock : ℕ) (js : List ℕ) (choices : List (List ℕ)) (behind : List ℤ) → AreChoicesTaken goods count i old rest made → i < count → TakesChoice goods rest new None
@@ -97,7 +97,7 @@ no-choice goods count i old rest new made clock js choices behind h below next l
     let inside : i < length js = omega arith in
     let here : i < length choices = omega (arith, are.counted) in
     let taken = next clock (get_or js i 0) (get_or choices i []) (choices_numbers clock (drop (i + 1) js) (drop (i + 1) choices) ++ behind) (all-at (IsBundleOf goods) choices i [] are.each here)
-      (next-choice clock i rest js choices behind inside here (h.back clock js choices behind l are e).1) in
+    (next-choice clock i rest js choices behind inside here (h.back clock js choices behind l are e).1) in
     let s : None ≡ Some (get_or choices i []) = taken.0 in cc
 
 pub all-choices : (goods count : ℕ) (old rest : List ℤ) (made : List (List ℕ)) (clock : ℕ) (js : List ℕ) (choices : List (List ℕ)) (behind : List ℤ) → AreChoicesTaken goods count count old rest made

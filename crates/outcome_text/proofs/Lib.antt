@@ -4,3 +4,4 @@ pub mod PlainLines
 pub mod NumberWords
 pub mod Cells
 pub mod Awards
+pub mod ClockRows

@@ -2,14 +2,16 @@
 ghost use Rattle.std.specs.Prelude.{◌≡◌, ◌<◌, ◌≤◌, ◌^◌, ◌++◌, ◌∷◌, [], ℕ, ℤ, pos, List, length, Some, IfSome, IfOk, OnOk};
 ghost use Rattle.std.specs.List.{AllByRecursion};
 ghost use Rattle.settlement.specs.Shapes.{IsOf};
+ghost use Rattle.clock.specs.Reports.{members};
 ghost use Rattle.settlement.specs.declared.outcome.AwardRow.{AwardRow as AwardValue};
+ghost use Rattle.settlement.specs.declared.outcome.ClockRow.{ClockRow as ClockValue};
 ghost use Rattle.outcome_text.specs.Reading.{IsAmount};
-ghost use Rattle.outcome_text.specs.Listed.{naturals, award_numbers, awards_numbers, choice_numbers, choices_numbers};
-ghost use Rattle.outcome_text.specs.Parts.{IsBundleOf, ArePricesOf, IsAwardOf, AreAwardsOf, AreChoicesOf};
+ghost use Rattle.outcome_text.specs.Listed.{naturals, award_numbers, awards_numbers, choice_numbers, choices_numbers, clock_numbers, clocks_numbers};
+ghost use Rattle.outcome_text.specs.Parts.{IsBundleOf, ArePricesOf, IsAwardOf, AreAwardsOf, AreChoicesOf, IsClockOf, AreClocksOf};
 
 use award_assembly::Choice;
 use lot_base::{Bundle, NoMemory, Prices};
-use settlement::{AwardRow, Rows};
+use settlement::{AwardRow, ClockRow, Rows};
 use std::alloc::Global;
 
 /// Numbers that are taken from the front.
@@ -110,12 +112,7 @@ impl Numbers<'_> {
     }
 
     /// What the next members of a clock choose, of whom there are so many.
-    fn choices(
-        &mut self,
-        alloc: Global,
-        goods: u8,
-        count: u8,
-    ) -> Result<Option<Choice>, NoMemory>
+    fn choices(&mut self, alloc: Global, goods: u8, count: u8) -> Result<Option<Choice>, NoMemory>
         requires some { 1 ≤ goods }
         requires few { goods ≤ 6 }
         ensures fit { IfOk result (λ r. IfSome r (AreChoicesOf goods count)) }
@@ -143,6 +140,81 @@ impl Numbers<'_> {
         self.next()?;
         self.bundle(goods)
     }
+
+    /// The steps and the prices of the next clock, behind its number.
+    fn clock_head(&mut self, goods: u8) -> Option<(u32, Prices)>
+        requires some { 1 ≤ goods }
+        requires few { goods ≤ 6 }
+        ensures fit { IfSome result (λ head. ArePricesOf goods head.1) }
+        ensures back { (clock steps : ℕ) (prices : List ℕ) (behind : List ℤ) → steps < 2 ^ 32 → ArePricesOf goods prices →
+            self.old.rest.now ≡ pos clock ∷ pos steps ∷ naturals prices ++ behind → (result ≡ Some (steps, prices)) × (self.new.rest.now ≡ behind) }
+    {
+        self.next()?;
+        let steps = self.next_price()?;
+        let prices = self.prices(goods)?;
+        Some((steps, prices))
+    }
+
+    /// The row of the next clock, which has this number.
+    fn clock_row(
+        &mut self,
+        alloc: Global,
+        goods: u8,
+        bidders: u8,
+        clock: u8,
+    ) -> Result<Option<ClockRow>, NoMemory>
+        requires some { 1 ≤ goods }
+        requires few { goods ≤ 6 }
+        requires within { clock ≤ bidders }
+        ensures fit { IfOk result (λ r. IfSome r (IsClockOf goods bidders clock)) }
+        ensures back { (row : ClockValue) (behind : List ℤ) → IsClockOf goods bidders clock row → self.old.rest.now ≡ clock_numbers bidders clock row ++ behind → IfOk result (λ r. (r ≡ Some row) × (self.new.rest.now ≡ behind)) }
+    {
+        let (steps, prices) = match self.clock_head(goods) {
+            Some(head) => head,
+            None => return Ok(None),
+        };
+        match self.choices(alloc, goods, member_count(bidders, clock)) {
+            Ok(Some(choices)) => Ok(Some(ClockRow {
+                steps,
+                prices,
+                choices,
+            })),
+            Ok(None) => Ok(None),
+            Err(NoMemory) => Err(NoMemory),
+        }
+    }
+
+    /// The rows of all clocks of so many bidders.
+    pub(crate) fn clock_rows(
+        &mut self,
+        alloc: Global,
+        goods: u8,
+        bidders: u8,
+    ) -> Result<Option<Rows<ClockRow>>, NoMemory>
+        requires some { 1 ≤ goods }
+        requires few { goods ≤ 6 }
+        requires bidders { bidders ≤ 12 }
+        ensures fit { IfOk result (λ r. IfSome r (AreClocksOf goods bidders)) }
+        ensures back { (rows : List ClockValue) (behind : List ℤ) → AreClocksOf goods bidders rows → self.old.rest.now ≡ clocks_numbers bidders 0 rows ++ behind → IfOk result (λ r. (r ≡ Some rows) × (self.new.rest.now ≡ behind)) }
+    {
+        let mut rows = Vec::new(alloc);
+        for clock in 0..bidders + 1 {
+            match self.clock_row(alloc, goods, bidders, clock) {
+                Ok(Some(row)) => push(&mut rows, row)?,
+                Ok(None) => return Ok(None),
+                Err(NoMemory) => return Err(NoMemory),
+            }
+        }
+        Ok(Some(Rows::from_vec(rows)))
+    }
+}
+
+/// How many members a clock has: all bidders but the one of its number.
+fn member_count(bidders: u8, clock: u8) -> u8
+    requires { clock ≤ bidders }
+    ensures { result ≡ length (members bidders clock) }
+{
+    if clock == 0 { bidders } else { bidders - 1 }
 }
 
 /// Appends an element.
