@@ -5,3 +5,5 @@ pub mod NumberWords
 pub mod Cells
 pub mod Awards
 pub mod ClockRows
+pub mod TextNumbers
+pub mod LineNumbers
