@@ -63,7 +63,7 @@ zip-at R a (suc n) i [] d all h = absurd all
 zip-at R a (suc n) zero (y ∷ ys) d all h = let e : a ≡ a + 0 = omega arith in subst (λ k. R k y) e all.0
 zip-at R a (suc n) (suc i) (y ∷ ys) d all h = let e : a + 1 + i ≡ a + suc i = omega arith in subst (λ k. R k (get_or ys i d)) e (zip-at R (a + 1) n i ys d all.1 (omega arith))
 
-zip-length : {B : Type 0} (R : ℕ → B → Type 0) (a n : ℕ) (ys : List B) → AllZip R (range_with_len a n) ys → length ys ≡ n
+pub zip-length : {B : Type 0} (R : ℕ → B → Type 0) (a n : ℕ) (ys : List B) → AllZip R (range_with_len a n) ys → length ys ≡ n
 zip-length R a zero [] all = refl
 zip-length R a zero (y ∷ ys) all = absurd all
 zip-length R a (suc n) [] all = absurd all

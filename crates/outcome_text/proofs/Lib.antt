@@ -7,3 +7,5 @@ pub mod Awards
 pub mod ClockRows
 pub mod TextNumbers
 pub mod LineNumbers
+pub mod Made
+pub mod OutcomeNumbers

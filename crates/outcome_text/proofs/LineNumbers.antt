@@ -15,7 +15,7 @@ use Rattle.outcome_text.specs.Listed.{naturals, award_numbers, awards_numbers, c
 use Rattle.outcome_text.proofs.NumberWords.{number_in-decimal, number_in-false}
 use Rattle.outcome_text.proofs.TextNumbers.{IsClean, AreClean, AreSmall, among, among_lines, among_lines-append, among-numerals, among-none, clean-from, decimal-clean, signed-clean, numerals-clean, number_in-natural}
 
-all-append : {A : Type 0} (P : A → Type 0) (xs ys : List A) → AllByRecursion P xs → AllByRecursion P ys → AllByRecursion P (xs ++ ys)
+pub all-append : {A : Type 0} (P : A → Type 0) (xs ys : List A) → AllByRecursion P xs → AllByRecursion P ys → AllByRecursion P (xs ++ ys)
 all-append P [] ys p q = q
 all-append P (x ∷ xs) ys p q = (p.0, all-append P xs ys p.1 q)
 

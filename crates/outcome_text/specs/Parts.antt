@@ -1,10 +1,11 @@
 -- The parts of an outcome of so many goods and bidders, with their numbers in range.
 use Rattle.std.specs.Prelude.{◌≡◌, ◌+◌, ℕ, List, length}
 use Rattle.std.specs.List.{AllByRecursion, AllZip, range_with_len}
-use Rattle.settlement.specs.Shapes.{IsOf, IsRowOfClock}
+use Rattle.settlement.specs.Shapes.{IsOf, IsRowOfClock, IsWholeOutcome}
 use Rattle.settlement.specs.declared.outcome.AwardRow.{AwardRow}
 use Rattle.settlement.specs.declared.outcome.ClockRow.{ClockRow}
-use Rattle.outcome_text.specs.Reading.{AreQuantities, ArePrices, IsAwardInRange, IsClockInRange}
+use Rattle.settlement.specs.declared.outcome.Outcome.{Outcome}
+use Rattle.outcome_text.specs.Reading.{AreQuantities, ArePrices, IsAwardInRange, IsClockInRange, IsInRange}
 
 pub record IsBundleOf (goods : ℕ) (bundle : List ℕ) : Type 0 where
   pub fit : IsOf goods bundle
@@ -32,3 +33,8 @@ pub record IsClockOf (goods bidders clock : ℕ) (row : ClockRow) : Type 0 where
 
 abbrev pub AreClocksOf : ℕ → ℕ → List ClockRow → Type 0
 AreClocksOf goods bidders rows = AllZip (IsClockOf goods bidders) (range_with_len 0 (bidders + 1)) rows
+
+-- an outcome that can be read
+pub record IsReadable (o : Outcome) : Type 0 where
+  pub whole : IsWholeOutcome o
+  pub in_range : IsInRange o

@@ -5,13 +5,15 @@ ghost use Rattle.settlement.specs.Shapes.{IsOf};
 ghost use Rattle.clock.specs.Reports.{members};
 ghost use Rattle.settlement.specs.declared.outcome.AwardRow.{AwardRow as AwardValue};
 ghost use Rattle.settlement.specs.declared.outcome.ClockRow.{ClockRow as ClockValue};
+ghost use Rattle.settlement.specs.declared.outcome.Outcome.{Outcome as OutcomeValue};
+ghost use Rattle.lot_base.specs.Goods.{IsRange};
 ghost use Rattle.outcome_text.specs.Reading.{IsAmount};
-ghost use Rattle.outcome_text.specs.Listed.{naturals, award_numbers, awards_numbers, choice_numbers, choices_numbers, clock_numbers, clocks_numbers};
-ghost use Rattle.outcome_text.specs.Parts.{IsBundleOf, ArePricesOf, IsAwardOf, AreAwardsOf, AreChoicesOf, IsClockOf, AreClocksOf};
+ghost use Rattle.outcome_text.specs.Listed.{naturals, award_numbers, awards_numbers, choice_numbers, choices_numbers, clock_numbers, clocks_numbers, outcome_numbers};
+ghost use Rattle.outcome_text.specs.Parts.{IsBundleOf, ArePricesOf, IsAwardOf, AreAwardsOf, AreChoicesOf, IsClockOf, AreClocksOf, IsReadable};
 
 use award_assembly::Choice;
 use lot_base::{Bundle, NoMemory, Prices};
-use settlement::{AwardRow, ClockRow, Rows};
+use settlement::{AwardRow, ClockRow, Outcome, Rows};
 use std::alloc::Global;
 
 /// Numbers that are taken from the front.
@@ -43,6 +45,31 @@ impl Numbers<'_> {
         ensures { (n : ℕ) (behind : List ℤ) → n < 2 ^ 32 → self.old.rest.now ≡ pos n ∷ behind → (result ≡ Some n) × (self.new.rest.now ≡ behind) }
     {
         u32::try_from(self.next()?).ok()
+    }
+
+    /// The next number, if it is one from 1 to the given one.
+    fn next_up_to(&mut self, most: u8) -> Option<u8>
+        ensures some { IfSome result (λ n. 1 ≤ n) }
+        ensures few { IfSome result (λ n. n ≤ most) }
+        ensures back { (n : ℕ) (behind : List ℤ) → 1 ≤ n → n ≤ most → self.old.rest.now ≡ pos n ∷ behind → (result ≡ Some n) × (self.new.rest.now ≡ behind) }
+    {
+        match u8::try_from(self.next()?) {
+            Ok(number) if 1 <= number && number <= most => Some(number),
+            _ => None,
+        }
+    }
+
+    /// The numbers of goods and of bidders, before the prices.
+    fn head(&mut self) -> Option<(u8, u8)>
+        ensures goods { IfSome result (λ head. IsRange 1 6 head.0) }
+        ensures bidders { IfSome result (λ head. IsRange 1 12 head.1) }
+        ensures back { (goods bidders : ℕ) (prices : List ℕ) (behind : List ℤ) → IsRange 1 6 goods → IsRange 1 12 bidders → ArePricesOf goods prices →
+            self.old.rest.now ≡ pos goods ∷ pos bidders ∷ naturals prices ++ behind → (result ≡ Some (goods, bidders)) × (self.new.rest.now ≡ behind) }
+    {
+        let goods = self.next_up_to(6)?;
+        let bidders = self.next_up_to(12)?;
+        self.prices(goods)?;
+        Some((goods, bidders))
     }
 
     /// The next bundle.
@@ -207,6 +234,34 @@ impl Numbers<'_> {
         }
         Ok(Some(Rows::from_vec(rows)))
     }
+}
+
+/// The outcome of which these are the numbers.
+pub(crate) fn outcome_of(alloc: Global, numbers: &[i64]) -> Result<Option<Outcome>, NoMemory>
+    ensures fit { IfOk result (λ r. IfSome r IsReadable) }
+    ensures back { (o : OutcomeValue) → IsReadable o → numbers.now ≡ outcome_numbers o → IfOk result (λ r. r ≡ Some o) }
+{
+    let mut numbers = Numbers { rest: numbers };
+    let (goods, bidders) = match numbers.head() {
+        Some(head) => head,
+        None => return Ok(None),
+    };
+    let rows = match numbers.award_rows(alloc, goods, bidders) {
+        Ok(Some(rows)) => rows,
+        Ok(None) => return Ok(None),
+        Err(NoMemory) => return Err(NoMemory),
+    };
+    let clocks = match numbers.clock_rows(alloc, goods, bidders) {
+        Ok(Some(clocks)) => clocks,
+        Ok(None) => return Ok(None),
+        Err(NoMemory) => return Err(NoMemory),
+    };
+    let prices = clocks.as_slice()[0].prices;
+    Ok(Some(Outcome {
+        prices,
+        rows,
+        clocks,
+    }))
 }
 
 /// How many members a clock has: all bidders but the one of its number.

@@ -4,8 +4,10 @@
 mod building;
 mod numerals;
 pub mod plain;
+pub mod reading;
 mod scanning;
 pub mod standing;
 
 pub use plain::write_plain;
+pub use reading::read_plain;
 pub use standing::write_standing;
