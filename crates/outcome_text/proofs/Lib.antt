@@ -9,3 +9,5 @@ pub mod TextNumbers
 pub mod LineNumbers
 pub mod Made
 pub mod OutcomeNumbers
+pub mod Items
+pub mod JsonText

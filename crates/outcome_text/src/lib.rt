@@ -2,12 +2,14 @@
 #![tactic(auto)]
 
 mod building;
+pub mod json;
 mod numerals;
 pub mod plain;
 pub mod reading;
 mod scanning;
 pub mod standing;
 
+pub use json::write_json;
 pub use plain::write_plain;
 pub use reading::read_plain;
 pub use standing::write_standing;
