@@ -1,5 +1,6 @@
 pub mod Clocks
 pub mod Settling
+pub mod Shapes
 pub mod Found
 pub mod Alike
 pub mod Efficient

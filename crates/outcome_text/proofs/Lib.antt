@@ -1,0 +1,13 @@
+pub mod Lining
+pub mod StandingLine
+pub mod PlainLines
+pub mod NumberWords
+pub mod Cells
+pub mod Awards
+pub mod ClockRows
+pub mod TextNumbers
+pub mod LineNumbers
+pub mod Made
+pub mod OutcomeNumbers
+pub mod Items
+pub mod JsonText

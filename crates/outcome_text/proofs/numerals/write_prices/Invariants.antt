@@ -1,0 +1,7 @@
+use Rattle.std.proofs.Common.{◌≡◌, ◌++◌, string_bytes, drop}
+use Rattle.outcome_text.specs.Lines.{numerals}
+use Rattle.outcome_text.specs.Spaced.{spaced}
+use Rattle.outcome_text.proofs.numerals.write_prices.Given as goal
+
+abbrev pub invariant-loop-good : goal.invariant-loop-good
+invariant-loop-good l = string_bytes l.text ++ spaced (numerals (drop l.good l.prices)) ≡ string_bytes l.initial.text ++ spaced (numerals l.prices)

@@ -1,0 +1,9 @@
+pub mod Lines
+pub mod Spaced
+pub mod Standing
+pub mod Numbers
+pub mod Plain
+pub mod Json
+pub mod Reading
+pub mod Listed
+pub mod Parts

@@ -1,0 +1,40 @@
+-- The parts of an outcome of so many goods and bidders, with their numbers in range.
+use Rattle.std.specs.Prelude.{◌≡◌, ◌+◌, ℕ, List, length}
+use Rattle.std.specs.List.{AllByRecursion, AllZip, range_with_len}
+use Rattle.settlement.specs.Shapes.{IsOf, IsRowOfClock, IsWholeOutcome}
+use Rattle.settlement.specs.declared.outcome.AwardRow.{AwardRow}
+use Rattle.settlement.specs.declared.outcome.ClockRow.{ClockRow}
+use Rattle.settlement.specs.declared.outcome.Outcome.{Outcome}
+use Rattle.outcome_text.specs.Reading.{AreQuantities, ArePrices, IsAwardInRange, IsClockInRange, IsInRange}
+
+pub record IsBundleOf (goods : ℕ) (bundle : List ℕ) : Type 0 where
+  pub fit : IsOf goods bundle
+  pub in_range : AreQuantities bundle
+
+pub record ArePricesOf (goods : ℕ) (prices : List ℕ) : Type 0 where
+  pub fit : IsOf goods prices
+  pub in_range : ArePrices prices
+
+pub record IsAwardOf (goods : ℕ) (row : AwardRow) : Type 0 where
+  pub fit : IsOf goods row.award
+  pub in_range : IsAwardInRange row
+
+pub record AreAwardsOf (goods bidders : ℕ) (rows : List AwardRow) : Type 0 where
+  pub count : length rows ≡ bidders
+  pub each : AllByRecursion (IsAwardOf goods) rows
+
+pub record AreChoicesOf (goods count : ℕ) (choices : List (List ℕ)) : Type 0 where
+  pub counted : length choices ≡ count
+  pub each : AllByRecursion (IsBundleOf goods) choices
+
+pub record IsClockOf (goods bidders clock : ℕ) (row : ClockRow) : Type 0 where
+  pub fit : IsRowOfClock goods bidders clock row
+  pub in_range : IsClockInRange row
+
+abbrev pub AreClocksOf : ℕ → ℕ → List ClockRow → Type 0
+AreClocksOf goods bidders rows = AllZip (IsClockOf goods bidders) (range_with_len 0 (bidders + 1)) rows
+
+-- an outcome that can be read
+pub record IsReadable (o : Outcome) : Type 0 where
+  pub whole : IsWholeOutcome o
+  pub in_range : IsInRange o

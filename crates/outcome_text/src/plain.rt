@@ -1,0 +1,113 @@
+//! The plain text of an outcome.
+ghost use Rattle.std.specs.Prelude.{◌≡◌, ◌++◌, IfOk, OnOk, string_bytes};
+ghost use Rattle.clock.specs.Reports.{members};
+ghost use Rattle.outcome_text.specs.Lines.{line, text_of};
+ghost use Rattle.outcome_text.specs.Plain.{plain_text, bidder_words, bidder_lines, choice_words, choice_lines, clock_words, clock_lines};
+
+use crate::numerals::{write_amount, write_bundle, write_prices};
+use award_assembly::Choice;
+use lot_base::{Bundle, NoMemory};
+use settlement::{AwardRow, ClockRow, Outcome};
+use std::alloc::{AllocError, Global};
+use std::fmt::Write;
+
+/// The plain text of an outcome.
+pub fn write_plain(alloc: Global, outcome: &Outcome) -> Result<Vec<u8>, NoMemory>
+    ensures { IfOk result (λ v. v.items ≡ plain_text outcome.now) }
+{
+    match outcome_text(alloc, outcome) {
+        Ok(text) => Ok(text.into_bytes()),
+        Err(_) => Err(NoMemory),
+    }
+}
+
+fn outcome_text(alloc: Global, outcome: &Outcome) -> Result<String, AllocError>
+    ensures { IfOk result (λ t. string_bytes t ≡ plain_text outcome.now) }
+{
+    let goods = outcome.prices.count();
+    let rows = outcome.rows.as_slice();
+    let bidders = rows.len();
+    let mut text = format!(in alloc; "settled goods {goods} bidders {bidders}\nprices")?;
+    write_prices(&mut text, &outcome.prices)?;
+    writeln!(text)?;
+    write_rows(&mut text, rows)?;
+    write_clocks(&mut text, bidders, outcome.clocks.as_slice())?;
+    Ok(text)
+}
+
+/// Writes the lines of all bidders.
+fn write_rows(text: &mut String, rows: &[AwardRow]) -> Result<(), AllocError>
+    ensures { OnOk result (string_bytes text.new ≡ string_bytes text.old ++ text_of (bidder_lines 1 rows.now)) }
+{
+    for (place, row) in rows.iter().enumerate() {
+        write_row(text, place + 1, row)?;
+    }
+    Ok(())
+}
+
+/// Writes the line of a bidder.
+fn write_row(text: &mut String, bidder: usize, row: &AwardRow) -> Result<(), AllocError>
+    ensures { OnOk result (string_bytes text.new ≡ string_bytes text.old ++ line (bidder_words bidder row.now)) }
+{
+    write!(text, "bidder {bidder} award")?;
+    write_bundle(text, &row.award)?;
+    write_amount(text, "debit", row.debit)?;
+    write_amount(text, "credit", row.credit)?;
+    write_amount(text, "pays", row.pays)?;
+    writeln!(text)
+}
+
+/// Writes the lines of all clocks.
+fn write_clocks(text: &mut String, bidders: usize, clocks: &[ClockRow]) -> Result<(), AllocError>
+    ensures { OnOk result (string_bytes text.new ≡ string_bytes text.old ++ text_of (clock_lines bidders 0 clocks.now)) }
+{
+    for (clock, row) in clocks.iter().enumerate() {
+        write_clock(text, clock, row)?;
+        write_choices(text, bidders, clock, &row.choices)?;
+    }
+    Ok(())
+}
+
+/// Writes the line of a clock.
+fn write_clock(text: &mut String, clock: usize, row: &ClockRow) -> Result<(), AllocError>
+    ensures { OnOk result (string_bytes text.new ≡ string_bytes text.old ++ line (clock_words clock row.now)) }
+{
+    let steps = row.steps;
+    write!(text, "clock {clock} steps {steps} prices")?;
+    write_prices(text, &row.prices)?;
+    writeln!(text)
+}
+
+/// Writes the lines of what the members of a clock choose.
+fn write_choices(
+    text: &mut String,
+    bidders: usize,
+    clock: usize,
+    choices: &Choice,
+) -> Result<(), AllocError>
+    ensures { OnOk result (string_bytes text.new ≡ string_bytes text.old ++ text_of (choice_lines clock (members bidders clock) choices.now)) }
+{
+    let mut place = 0;
+    for step in 0..bidders {
+        let bidder = step + 1;
+        if bidder != clock && place < choices.len() {
+            write_choice(text, clock, bidder, &choices.get(place))?;
+            place += 1;
+        }
+    }
+    Ok(())
+}
+
+/// Writes the line of what a member chooses.
+fn write_choice(
+    text: &mut String,
+    clock: usize,
+    bidder: usize,
+    bundle: &Bundle,
+) -> Result<(), AllocError>
+    ensures { OnOk result (string_bytes text.new ≡ string_bytes text.old ++ line (choice_words clock bidder bundle.now)) }
+{
+    write!(text, "choice {clock} {bidder}")?;
+    write_bundle(text, bundle)?;
+    writeln!(text)
+}
