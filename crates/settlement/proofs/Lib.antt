@@ -4,6 +4,7 @@ pub mod Members
 pub mod Bounds
 pub mod Awards
 pub mod Auction
+pub mod Shapes
 pub mod Alike
 pub mod Same
 pub mod One

@@ -3,7 +3,7 @@ ghost use Rattle.std.specs.Prelude.{◌≡◌, ◌≤◌, IfOk};
 ghost use Rattle.lot_base.specs.Demands.{IsDemand};
 ghost use Rattle.settlement.specs.Clocks.{AreClocksOf};
 
-use crate::{AwardRow, ClockRow, Settlement, settle};
+use crate::{AwardRow, ClockRow, Rows, Settlement, settle};
 use clock::{Clock, Judgement};
 use demand_set::{Demand, Report};
 use lot_base::{Bundle, Goods, Phase, Prices, RawDemand, Terms, compare, cost};
@@ -289,6 +289,14 @@ fn three_bidders_pay_the_price_of_uniform_units(rt: HostRuntime) -> Result<(), F
             (4, &[4], &[&[1], &[1]]),
         ],
     )
+}
+
+#[test]
+fn the_rows_are_given_back_as_they_came(rt: HostRuntime) -> Result<(), Fail> {
+    let steps = Rows::from_vec([6u32, 3, 4, 4].to_vec(rt.alloc())?);
+    assert_eq!(rt; steps.as_slice(), [6u32, 3, 4, 4].as_slice());
+    assert_eq!(rt; steps.into_vec().as_slice(), [6u32, 3, 4, 4].as_slice());
+    Ok(())
 }
 
 // Two units; the bidders value them at 10 and 9, 8 and 3. The first pays what the second loses, and not twice the price.
