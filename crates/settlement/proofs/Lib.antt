@@ -12,3 +12,4 @@ pub mod Explained
 pub mod Lower
 pub mod Never
 pub mod Efficient
+pub mod Example

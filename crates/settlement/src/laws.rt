@@ -4,7 +4,10 @@ ghost use Rattle.std.specs.List.{AllZip};
 ghost use Rattle.clock.specs.Reports.{ClockHistory};
 ghost use Rattle.settlement.specs.Settling.{IsOutcomeOf};
 ghost use Rattle.settlement.specs.Alike.{HoldSame, StandAlike};
+ghost use Rattle.settlement.specs.Example.{IsExample};
 ghost use Rattle.settlement.specs.declared.outcome.Settlement.{Settlement};
+
+use lot_base::{Goods, Terms};
 
 /// Clocks have one outcome.
 pub fn outcome_law()
@@ -18,3 +21,11 @@ pub fn order_law()
     ensures outcome { (clocks others : List ClockHistory) (s t : Settlement) → AllZip HoldSame clocks others →
         IsOutcomeOf clocks s → IsOutcomeOf others t → s ≡ t }
 {}
+
+/// The premises of the economic clauses can be met. On the terms that this returns, one good in two units, three bidders and a
+/// ceiling of 100, three valuations explain what four clocks are told, and the outcome is known to the last number.
+pub fn explained_example() -> Terms
+    ensures { IsExample result }
+{
+    Terms::new(Goods::new(&[2]).unwrap(), 3, 100).unwrap()
+}

@@ -3,6 +3,7 @@ ghost use Rattle.std.specs.Prelude.{◌≡◌, ◌≤◌, IfOk};
 ghost use Rattle.lot_base.specs.Demands.{IsDemand};
 ghost use Rattle.settlement.specs.Clocks.{AreClocksOf};
 
+use crate::laws::explained_example;
 use crate::{AwardRow, ClockRow, Rows, Settlement, settle};
 use clock::{Clock, Judgement};
 use demand_set::{Demand, Report};
@@ -272,11 +273,13 @@ fn assert_settled(
     Ok(())
 }
 
-// Two units; the bidders value them at 10 and 4, 8 and 3, 6 and 1.
+// Two units; the bidders value them at 10 and 4, 8 and 3, 6 and 1. The numbers are those of the law.
 #[test]
 fn three_bidders_pay_the_price_of_uniform_units(rt: HostRuntime) -> Result<(), Fail> {
     let values = [[0, 10, 14].as_slice(), &[0, 8, 11], &[0, 6, 7]];
-    let settlement = settled(&rt, rt.alloc(), &[2], 3, 100, Reports::True(&values))?;
+    let terms = explained_example();
+    let clocks = clocks_of(&rt, rt.alloc(), &terms, Reports::True(&values))?;
+    let settlement = settle(rt.alloc(), &terms, &clocks)?;
     assert_settled(
         &rt,
         &settlement,
