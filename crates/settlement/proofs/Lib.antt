@@ -12,4 +12,5 @@ pub mod Explained
 pub mod Lower
 pub mod Never
 pub mod Efficient
+pub mod Unique
 pub mod Example
