@@ -13,4 +13,5 @@ pub mod Lower
 pub mod Never
 pub mod Efficient
 pub mod Unique
-pub mod Example
+pub mod Computed
+pub mod Examples

@@ -5,7 +5,7 @@ ghost use Rattle.clock.specs.Reports.{ClockHistory};
 ghost use Rattle.settlement.specs.Settling.{IsOutcomeOf};
 ghost use Rattle.settlement.specs.Alike.{HoldSame, StandAlike};
 ghost use Rattle.settlement.specs.Efficient.{IsEfficient};
-ghost use Rattle.settlement.specs.Example.{IsExample};
+ghost use Rattle.settlement.specs.Examples.{IsFirstExample, IsSecondExample};
 ghost use Rattle.lot_base.specs.declared.auction_terms.Terms.{Terms as TermsValue};
 ghost use Rattle.settlement.specs.declared.outcome.Outcome.{Outcome};
 ghost use Rattle.settlement.specs.declared.outcome.Settlement.{Settlement};
@@ -36,7 +36,14 @@ pub fn efficient_law()
 /// The premises of the economic clauses can be met. On the terms that this returns, one good in two units, three bidders and a
 /// ceiling of 100, three valuations explain what four clocks are told, and the outcome is known to the last number.
 pub fn explained_example() -> Terms
-    ensures { IsExample result }
+    ensures { IsFirstExample result }
 {
     Terms::new(Goods::new(&[2]).unwrap(), 3, 100).unwrap()
+}
+
+/// The same with two bidders, where a bidder pays less than the price of its award, and no other payment is efficient.
+pub fn credit_example() -> Terms
+    ensures { IsSecondExample result }
+{
+    Terms::new(Goods::new(&[2]).unwrap(), 2, 100).unwrap()
 }

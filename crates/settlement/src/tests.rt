@@ -3,7 +3,7 @@ ghost use Rattle.std.specs.Prelude.{◌≡◌, ◌≤◌, IfOk};
 ghost use Rattle.lot_base.specs.Demands.{IsDemand};
 ghost use Rattle.settlement.specs.Clocks.{AreClocksOf};
 
-use crate::laws::explained_example;
+use crate::laws::{credit_example, explained_example};
 use crate::{AwardRow, ClockRow, Rows, Settlement, settle};
 use clock::{Clock, Judgement};
 use demand_set::{Demand, Report};
@@ -306,7 +306,9 @@ fn the_rows_are_given_back_as_they_came(rt: HostRuntime) -> Result<(), Fail> {
 #[test]
 fn a_credit_lowers_the_payment(rt: HostRuntime) -> Result<(), Fail> {
     let values = [[0, 10, 19].as_slice(), &[0, 8, 11]];
-    let settlement = settled(&rt, rt.alloc(), &[2], 2, 100, Reports::True(&values))?;
+    let terms = credit_example();
+    let clocks = clocks_of(&rt, rt.alloc(), &terms, Reports::True(&values))?;
+    let settlement = settle(rt.alloc(), &terms, &clocks)?;
     assert_settled(
         &rt,
         &settlement,

@@ -3,7 +3,7 @@ use Rattle.std.specs.Prelude.{Result}
 use Rattle.lot_base.specs.Limits.{IsTermsOf}
 use Rattle.lot_base.specs.declared.auction_terms.Terms.{Terms}
 use Rattle.lot_base.specs.declared.auction_terms.TermsFault.{TermsFault}
-use Rattle.settlement.proofs.Example.{example}
+use Rattle.settlement.proofs.Examples.{first-example}
 use Rattle.settlement.proofs.laws.explained_example.Goals as goal
 
 pub returns : goal.returns
@@ -12,4 +12,4 @@ returns c =
     let h = subst T c.unwrap-2.ensures c.new-2.ensures in
     let e = sym c.unwrap.ensures ∙ c.new.ensures in
     let goods : c.unwrap.result ≡ 2 ∷ [] = cc in
-    example c.unwrap-2.result (h.0 ∙ goods) h.1 h.2
+    first-example c.unwrap-2.result (h.0 ∙ goods) h.1 h.2

@@ -1,9 +1,9 @@
--- A worked auction, whole: one good in two units, a ceiling of 100, and three bidders, to whom no, one and two units are worth
--- 0, 10 and 14, then 0, 8 and 11, then 0, 6 and 7. Written out are the reports of its four clocks, each the demand set at the
--- price of its round, and what they settle.
-use Rattle.std.specs.Prelude.{◌≡◌, ℕ, ◌+◌, List, [], ◌∷◌, ◌++◌, ℤ, pos, negsuc}
+-- Two worked auctions, whole, of one good in two units with a ceiling of 100. Written out are the reports of all clocks, each the
+-- demand set at the price of its round, and what they settle.
+use Rattle.std.specs.Prelude.{◌≡◌, ℕ, ◌+◌, ◌==◌, if◌then◌else◌, List, [], ◌∷◌, ◌++◌, ℤ, pos, negsuc}
 use Rattle.std.specs.List.{AllByRecursion}
 use Rattle.lot_base.specs.Economy.{AllBelowCeiling}
+use Rattle.lot_base.specs.RowsTables.{marginals}
 use Rattle.lot_base.specs.declared.auction_terms.Terms.{Terms}
 use Rattle.demand_set.specs.declared.reports.Report.{Report}
 use Rattle.lyapunov.specs.RowsPaths.{three_bidders}
@@ -45,7 +45,8 @@ abbrev from_round : ℕ → List ℕ → List (List (List (List ℕ))) → List 
 from_round round js [] = []
 from_round round js (demands ∷ rest) = in_round round js demands ++ from_round (round + 1) js rest
 
--- The reports of each clock, a line a round: at price 0, then 1, and so on.
+-- The first auction has three bidders, to whom no, one and two units are worth 0, 10 and 14, then 0, 8 and 11, then 0, 6 and 7. These are
+-- the reports of each of its four clocks, round by round: at price 0, then 1, and so on.
 abbrev pub reports_of_all : List Report
 reports_of_all = from_round 1 (1 ∷ 2 ∷ 3 ∷ [])
     ((two ∷ two ∷ two ∷ [])
@@ -69,12 +70,13 @@ abbrev pub reports_without_3 : List Report
 reports_without_3 = from_round 1 (1 ∷ 2 ∷ [])
     ((two ∷ two ∷ []) ∷ (two ∷ two ∷ []) ∷ (two ∷ two ∷ []) ∷ (two ∷ one_or_two ∷ []) ∷ (one_or_two ∷ one ∷ []) ∷ [])
 
--- the four clocks, on these terms
+-- a clock on these terms
 abbrev pub clock_with : Terms → ℕ → List Report → ClockHistory
 clock_with terms number reports = record { terms = terms; number = number; reports = reports }
 
-abbrev pub example_clocks : Terms → List ClockHistory
-example_clocks terms =
+-- the four clocks
+abbrev pub first_clocks : Terms → List ClockHistory
+first_clocks terms =
     clock_with terms 0 reports_of_all ∷ clock_with terms 1 reports_without_1 ∷ clock_with terms 2 reports_without_2 ∷ clock_with terms 3 reports_without_3 ∷ []
 
 -- What they settle: a price of 6; the first two bidders get a unit each and pay 6, the third gets nothing.
@@ -84,8 +86,8 @@ award_row n debit credit pays = record { award = units n; debit = debit; credit 
 abbrev clock_row : ℕ → ℕ → List (List ℕ) → ClockRow
 clock_row steps price choices = record { steps = steps; prices = price ∷ []; choices = choices }
 
-abbrev pub example_outcome : Outcome
-example_outcome = record {
+abbrev pub first_outcome : Outcome
+first_outcome = record {
   prices = 6 ∷ [];
   rows = award_row 1 (negsuc 3) (negsuc 3) (pos 6) ∷ award_row 1 (negsuc 4) (negsuc 4) (pos 6) ∷ award_row 0 (negsuc 6) (negsuc 6) (pos 0) ∷ [];
   clocks =
@@ -96,16 +98,52 @@ example_outcome = record {
       ∷ [];
 }
 
--- On terms of these numbers the four clocks are legal and the valuations explain them, with a ceiling above all values. They
+-- The clocks are an auction on these terms, of legal histories, which the valuations explain, with a ceiling above all values. They
 -- settle this outcome and no other, and it is efficient.
-pub record IsExample (terms : Terms) : Type 0 where
+pub record IsWorked (u : ℕ → List ℕ → ℤ) (terms : Terms) (clocks : List ClockHistory) (o : Outcome) : Type 0 where
+  pub clocks_are : AreClocksOf terms clocks
+  pub legal : AllByRecursion IsLegal clocks
+  pub explained : ExplainsAll u clocks
+  pub below : AllBelowCeiling terms.goods u terms.ceiling (all_bidders terms.bidders)
+  pub outcome : IsOutcomeOf clocks (Settled o)
+  pub only : (s : Settlement) → IsOutcomeOf clocks s → s ≡ Settled o
+  pub efficient : IsEfficient u terms o
+
+-- the terms of the first auction, and its clocks and outcome
+pub record IsFirstExample (terms : Terms) : Type 0 where
   pub goods : terms.goods ≡ 2 ∷ []
   pub bidders : terms.bidders ≡ 3
   pub ceiling : terms.ceiling ≡ 100
-  pub clocks : AreClocksOf terms (example_clocks terms)
-  pub legal : AllByRecursion IsLegal (example_clocks terms)
-  pub explained : ExplainsAll three_bidders (example_clocks terms)
-  pub below : AllBelowCeiling terms.goods three_bidders terms.ceiling (all_bidders terms.bidders)
-  pub outcome : IsOutcomeOf (example_clocks terms) (Settled example_outcome)
-  pub only : (s : Settlement) → IsOutcomeOf (example_clocks terms) s → s ≡ Settled example_outcome
-  pub efficient : IsEfficient three_bidders terms example_outcome
+  pub worked : IsWorked three_bidders terms (first_clocks terms) first_outcome
+
+-- A second auction, of two bidders, to whom no, one and two units are worth 0, 10 and 19, then 0, 8 and 11. At a price of 8 the first one
+-- gets both units. It is credited 5, and pays 11.
+abbrev pub two_rivals : ℕ → List ℕ → ℤ
+two_rivals j = if j == 1 then marginals 10 9 else marginals 8 3
+
+abbrev pub reports_of_both : List Report
+reports_of_both = from_round 1 (1 ∷ 2 ∷ [])
+    ((two ∷ two ∷ []) ∷ (two ∷ two ∷ []) ∷ (two ∷ two ∷ []) ∷ (two ∷ one_or_two ∷ [])
+    ∷ (two ∷ one ∷ []) ∷ (two ∷ one ∷ []) ∷ (two ∷ one ∷ []) ∷ (two ∷ one ∷ []) ∷ (two ∷ none_or_one ∷ []) ∷ [])
+
+abbrev pub reports_of_one : ℕ → List Report
+reports_of_one j = from_round 1 (j ∷ []) ((two ∷ []) ∷ [])
+
+abbrev pub second_clocks : Terms → List ClockHistory
+second_clocks terms = clock_with terms 0 reports_of_both ∷ clock_with terms 1 (reports_of_one 2) ∷ clock_with terms 2 (reports_of_one 1) ∷ []
+
+-- the outcome where the first bidder pays so much
+abbrev pub second_outcome_at : ℤ → Outcome
+second_outcome_at pays = record {
+  prices = 8 ∷ [];
+  rows = award_row 2 (pos 0) (pos 5) pays ∷ award_row 0 (pos 0) (pos 0) (pos 0) ∷ [];
+  clocks = clock_row 8 8 (units 2 ∷ units 0 ∷ []) ∷ clock_row 0 0 (units 2 ∷ []) ∷ clock_row 0 0 (units 2 ∷ []) ∷ [];
+}
+
+-- the terms of the second auction; with any other payment, as with the price of the two units, the outcome is not efficient
+pub record IsSecondExample (terms : Terms) : Type 0 where
+  pub goods : terms.goods ≡ 2 ∷ []
+  pub bidders : terms.bidders ≡ 2
+  pub ceiling : terms.ceiling ≡ 100
+  pub worked : IsWorked two_rivals terms (second_clocks terms) (second_outcome_at (pos 11))
+  pub only_payment : (pays : ℤ) → IsEfficient two_rivals terms (second_outcome_at pays) → pays ≡ pos 11
