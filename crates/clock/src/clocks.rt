@@ -206,9 +206,9 @@ impl Clock {
 
         // Where valuations explain the reports, a clock that has ended is at the least prices that minimise the Lyapunov function
         // of its members; at every moment that is so among the prices so many steps from the opening.
-        ensures least { (u : ℕ → List ℕ → ℤ) → Explains u self.now → phase_of self.now ≡ Ended → IsLeastMinimiser (opening_of self.now.terms) (lyapunov self.now.terms.goods u (members_of self.now)) (prices_of self.now) }
-        ensures near { (u : ℕ → List ℕ → ℤ) → Explains u self.now → IsLeastNear (opening_of self.now.terms) (steps_of self.now) (lyapunov self.now.terms.goods u (members_of self.now)) (prices_of self.now) }
-        ensures unhalted { (u : ℕ → List ℕ → ℤ) (good : ℕ) → Explains u self.now → AllBelowCeiling self.now.terms.goods u self.now.terms.ceiling (members_of self.now) → phase_of self.now ≡ Halted good → ⊥ }
+        ensures least { (u : ℕ → List ℕ → ℤ) → Explains u self.now → result.phase ≡ Ended → IsLeastMinimiser (opening_of self.now.terms) (lyapunov self.now.terms.goods u (members_of self.now)) result.prices }
+        ensures near { (u : ℕ → List ℕ → ℤ) → Explains u self.now → IsLeastNear (opening_of self.now.terms) (result.round - 1) (lyapunov self.now.terms.goods u (members_of self.now)) result.prices }
+        ensures unhalted { (u : ℕ → List ℕ → ℤ) (good : ℕ) → Explains u self.now → AllBelowCeiling self.now.terms.goods u self.now.terms.ceiling (members_of self.now) → result.phase ≡ Halted good → ⊥ }
     {
         Look {
             round: self.steps + 1,

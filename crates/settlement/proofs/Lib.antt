@@ -4,6 +4,7 @@ pub mod Members
 pub mod Bounds
 pub mod Awards
 pub mod Auction
+pub mod Shapes
 pub mod Alike
 pub mod Same
 pub mod One
@@ -11,3 +12,6 @@ pub mod Explained
 pub mod Lower
 pub mod Never
 pub mod Efficient
+pub mod Unique
+pub mod Computed
+pub mod Examples

@@ -1,16 +1,15 @@
 -- Where valuations explain two clocks, that of all bidders and that without one of them, the second has no higher prices at its
 -- end and no more steps.
-use Rattle.std.proofs.Common.{◌≡◌, ◌≤◌, ℕ, List, [], ◌∷◌, length, map, sym, ◌∙◌, ap, arith, subst}
+use Rattle.std.proofs.Common.{◌≡◌, ◌≤◌, ℕ, List, [], ◌∷◌, map, sym, ◌∙◌, ap, arith, subst}
 use Rattle.std.specs.Prelude.{ℤ}
 use Rattle.std.specs.List.{AllByRecursion, AllZip}
 use Rattle.lot_base.specs.Goods.{AtMost}
-use Rattle.lot_base.specs.Economy.{without}
 use Rattle.lot_base.specs.declared.auction_terms.Terms.{Terms}
 use Rattle.lot_base.specs.declared.phases.Phase.TheVariants.{Ended}
 use Rattle.lyapunov.specs.Bidders.{IsOneOf}
 use Rattle.lyapunov.specs.Paths.{IsPath, HasEnded, prices_along, highest}
 use Rattle.lyapunov.proofs.Without.{lower_at_end, fewer_without}
-use Rattle.clock.specs.Reports.{ClockHistory, opening_of, all_bidders, members, members_of}
+use Rattle.clock.specs.Reports.{ClockHistory, opening_of, all_bidders, members}
 use Rattle.clock.specs.Standing.{phase_of, prices_of, steps_of}
 use Rattle.clock.specs.Explained.{Explains}
 use Rattle.clock.proofs.Truthful.{sets_of, length-sets_of, prices-along, path, has-ended, steps-are-highest}

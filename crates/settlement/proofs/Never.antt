@@ -1,5 +1,5 @@
 -- Where valuations explain all clocks, no clock lacks a choice, and none halts whose ceiling is above all values.
-use Rattle.std.proofs.Common.{◌≡◌, ℕ, Bool, true, false, List, [], ◌∷◌, map, Option, Some, None, is_none, refl, sym, ◌∙◌, subst}
+use Rattle.std.proofs.Common.{◌≡◌, ℕ, true, false, List, [], ◌∷◌, map, Option, Some, None, is_none, refl, sym, ◌∙◌, subst}
 use Rattle.std.specs.Prelude.{ℤ, find, MatchOption}
 use Rattle.std.specs.List.{AllByRecursion}
 use Rattle.lot_base.specs.Economy.{demand, AllBelowCeiling}

@@ -26,6 +26,10 @@ take-next xs i x below e = let n : i + 1 ≡ suc i = omega arith in ap (λ k. ta
     by (y ∷ ys) zero below e = ap (λ z. z ∷ []) (sym e)
     by (y ∷ ys) (suc i) below e = let b : i < length ys = omega arith in ap (λ zs. y ∷ zs) (by ys i b e)
 
+-- what the first so many are, and the next one, are those up to it
+pub all-next : {A : Type 0} (P : A → Type 0) (xs : List A) (i : ℕ) (x : A) → i < length xs → x ≡ get_or xs i x → AllByRecursion P (take i xs) → P x → AllByRecursion P (take (i + 1) xs)
+all-next P xs i x below e all p = subst (AllByRecursion P) (sym (take-next xs i x below e)) (all-push P (take i xs) x all p)
+
 pub around : {A : Type 0} (xs : List A) (i : ℕ) (x : A) → i < length xs → x ≡ get_or xs i x → xs ≡ take i xs ++ (x ∷ drop (i + 1) xs)
 around xs i x below e = let n : suc i ≡ i + 1 = omega arith in by xs i below e ∙ ap (λ k. take i xs ++ (x ∷ drop k xs)) n
   where

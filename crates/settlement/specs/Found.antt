@@ -1,7 +1,8 @@
 -- What the steps of settling find.
 use Rattle.std.specs.Prelude.{◌≡◌, List, Option, Some, None}
-use Rattle.std.specs.List.{AllZip}
+use Rattle.std.specs.List.{AllZip, AllByRecursion}
 use Rattle.clock.specs.Reports.{ClockHistory}
+use Rattle.clock.specs.Judging.{IsLegal}
 use Rattle.settlement.specs.Clocks.{choice_of, has_no_choice}
 use Rattle.settlement.specs.Settling.{OfFirst, IsClockRow}
 use Rattle.settlement.specs.declared.outcome.ClockRow.{ClockRow}
@@ -13,7 +14,7 @@ abbrev pub IsRowOf : ClockHistory → Option ClockRow → Type 0
 IsRowOf c None = choice_of c ≡ None
 IsRowOf c (Some row) = IsClockRow c row
 
--- the rows of all clocks, or the number of the first of which no choice clears
+-- the rows of all clocks, whose histories are legal, or the number of the first of which no choice clears
 abbrev pub AreChoicesOf : List ClockHistory → Choices → Type 0
-AreChoicesOf clocks (All rows) = AllZip IsClockRow clocks rows
+AreChoicesOf clocks (All rows) = AllZip IsClockRow clocks rows × AllByRecursion IsLegal clocks
 AreChoicesOf clocks (NoneOf clock) = OfFirst has_no_choice clocks (λ c. clock ≡ c.number)

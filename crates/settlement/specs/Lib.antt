@@ -4,3 +4,4 @@ pub mod Shapes
 pub mod Found
 pub mod Alike
 pub mod Efficient
+pub mod Examples

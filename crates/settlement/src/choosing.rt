@@ -34,9 +34,10 @@ pub(crate) fn clock_rows(
 {
     let mut rows = Vec::new(alloc);
     for clock in clocks {
+        let number = clock.number();
         match clock_row(alloc, terms, clock) {
             Ok(Some(row)) => push(&mut rows, row)?,
-            Ok(None) => return Ok(Choices::NoneOf(clock.number())),
+            Ok(None) => return Ok(Choices::NoneOf(number)),
             Err(NoMemory) => return Err(NoMemory),
         }
     }

@@ -6,6 +6,7 @@ ghost use Rattle.std.specs.List.{AllZip};
 ghost use Rattle.settlement.specs.Clocks.{AreClocksOf};
 ghost use Rattle.settlement.specs.Settling.{IsClockRow, IsSettled, IsOutcomeOf};
 ghost use Rattle.settlement.specs.Efficient.{ExplainsAll, IsEfficientSettlement};
+ghost use Rattle.settlement.specs.Shapes.{IsWholeSettlement};
 
 mod awarding;
 mod choosing;
@@ -26,6 +27,9 @@ pub fn settle(alloc: Global, terms: &Terms, clocks: &[Clock]) -> Result<Settleme
     requires { AreClocksOf terms.now clocks.now }
     ensures outcome { IfOk result (IsOutcomeOf clocks.now) }
 
+    // An outcome has an entry for each good, a row for each bidder and each clock, and a bundle for each member of a clock.
+    ensures whole { IfOk result IsWholeSettlement }
+
     // Where one valuation for each bidder explains all reports, an outcome is an equilibrium at the least such prices, each
     // bidder pays what Vickrey, Clarke and Groves ask, and the choices show the greatest worth without each bidder. No clock
     // is then without a choice, and none halts whose ceiling is above all values.
@@ -37,7 +41,8 @@ pub fn settle(alloc: Global, terms: &Terms, clocks: &[Clock]) -> Result<Settleme
 /// The same without the economy.
 fn settle_exactly(alloc: Global, terms: &Terms, clocks: &[Clock]) -> Result<Settlement, NoMemory>
     requires { AreClocksOf terms.now clocks.now }
-    ensures { IfOk result (IsOutcomeOf clocks.now) }
+    ensures outcome { IfOk result (IsOutcomeOf clocks.now) }
+    ensures whole { IfOk result IsWholeSettlement }
 {
     if let Some(settlement) = standing::open(clocks) {
         return Ok(settlement);

@@ -1,7 +1,8 @@
 //! Clocks that have not ended.
-ghost use Rattle.std.specs.Prelude.{◌≡◌, find, option_copied, MatchOption};
+ghost use Rattle.std.specs.Prelude.{◌≡◌, find, option_copied, MatchOption, IfSome};
 ghost use Rattle.settlement.specs.Clocks.{is_running, is_halted};
 ghost use Rattle.settlement.specs.Settling.{NoneIs, IsOutcomeOf};
+ghost use Rattle.settlement.specs.Shapes.{IsWholeSettlement};
 
 use crate::outcome::Settlement;
 use clock::Clock;
@@ -9,7 +10,8 @@ use lot_base::Phase;
 
 /// What the clocks settle where one is running.
 pub(crate) fn open(clocks: &[Clock]) -> Option<Settlement>
-    ensures { MatchOption result (NoneIs is_running clocks.now) (IsOutcomeOf clocks.now) }
+    ensures outcome { MatchOption result (NoneIs is_running clocks.now) (IsOutcomeOf clocks.now) }
+    ensures whole { IfSome result IsWholeSettlement }
 {
     let clock = first_running(clocks)?;
     Some(Settlement::Open {
@@ -22,7 +24,8 @@ pub(crate) fn open(clocks: &[Clock]) -> Option<Settlement>
 /// What the clocks settle where none is running and one has halted.
 pub(crate) fn halted(clocks: &[Clock]) -> Option<Settlement>
     requires { NoneIs is_running clocks.now }
-    ensures { MatchOption result (NoneIs is_halted clocks.now) (IsOutcomeOf clocks.now) }
+    ensures outcome { MatchOption result (NoneIs is_halted clocks.now) (IsOutcomeOf clocks.now) }
+    ensures whole { IfSome result IsWholeSettlement }
 {
     let clock = first_halted(clocks)?;
     match clock.look().phase {

@@ -3,7 +3,8 @@ ghost use Rattle.std.specs.Prelude.{◌≡◌, ◌≤◌, IfOk};
 ghost use Rattle.lot_base.specs.Demands.{IsDemand};
 ghost use Rattle.settlement.specs.Clocks.{AreClocksOf};
 
-use crate::{AwardRow, ClockRow, Settlement, settle};
+use crate::laws::{credit_example, explained_example};
+use crate::{AwardRow, ClockRow, Rows, Settlement, settle};
 use clock::{Clock, Judgement};
 use demand_set::{Demand, Report};
 use lot_base::{Bundle, Goods, Phase, Prices, RawDemand, Terms, compare, cost};
@@ -272,11 +273,13 @@ fn assert_settled(
     Ok(())
 }
 
-// Two units; the bidders value them at 10 and 4, 8 and 3, 6 and 1.
+// Two units; the bidders value them at 10 and 4, 8 and 3, 6 and 1. The numbers are those of the law.
 #[test]
 fn three_bidders_pay_the_price_of_uniform_units(rt: HostRuntime) -> Result<(), Fail> {
     let values = [[0, 10, 14].as_slice(), &[0, 8, 11], &[0, 6, 7]];
-    let settlement = settled(&rt, rt.alloc(), &[2], 3, 100, Reports::True(&values))?;
+    let terms = explained_example();
+    let clocks = clocks_of(&rt, rt.alloc(), &terms, Reports::True(&values))?;
+    let settlement = settle(rt.alloc(), &terms, &clocks)?;
     assert_settled(
         &rt,
         &settlement,
@@ -291,11 +294,21 @@ fn three_bidders_pay_the_price_of_uniform_units(rt: HostRuntime) -> Result<(), F
     )
 }
 
+#[test]
+fn the_rows_are_given_back_as_they_came(rt: HostRuntime) -> Result<(), Fail> {
+    let steps = Rows::from_vec([6u32, 3, 4, 4].to_vec(rt.alloc())?);
+    assert_eq!(rt; steps.as_slice(), [6u32, 3, 4, 4].as_slice());
+    assert_eq!(rt; steps.into_vec().as_slice(), [6u32, 3, 4, 4].as_slice());
+    Ok(())
+}
+
 // Two units; the bidders value them at 10 and 9, 8 and 3. The first pays what the second loses, and not twice the price.
 #[test]
 fn a_credit_lowers_the_payment(rt: HostRuntime) -> Result<(), Fail> {
     let values = [[0, 10, 19].as_slice(), &[0, 8, 11]];
-    let settlement = settled(&rt, rt.alloc(), &[2], 2, 100, Reports::True(&values))?;
+    let terms = credit_example();
+    let clocks = clocks_of(&rt, rt.alloc(), &terms, Reports::True(&values))?;
+    let settlement = settle(rt.alloc(), &terms, &clocks)?;
     assert_settled(
         &rt,
         &settlement,

@@ -14,4 +14,4 @@ efficient-answer terms clocks (Ok s) h is = λ u explains. efficient-if u terms 
 efficient-answer terms clocks (Err e) h is = tt
 
 pub returns-clause-efficient : goal.returns-clause-efficient
-returns-clause-efficient c = efficient-answer c.args.terms.now c.args.clocks.now c.settle_exactly.result c.requires c.settle_exactly.ensures
+returns-clause-efficient c = efficient-answer c.args.terms.now c.args.clocks.now c.settle_exactly.result c.requires c.settle_exactly.ensures.outcome

@@ -1,8 +1,9 @@
 use Rattle.std.proofs.Common.{◌≡◌, ◌+◌, take, drop, ◌∙◌, ap}
 use Rattle.std.specs.Prelude.{find}
+use Rattle.clock.specs.Judging.{IsLegal}
 use Rattle.settlement.specs.Clocks.{has_no_choice}
 use Rattle.settlement.proofs.Firsts.{of_first, first-without, rows-more}
-use Rattle.settlement.proofs.Zips.{around}
+use Rattle.settlement.proofs.Zips.{around, all-next}
 use Rattle.settlement.proofs.choosing.clock_rows.Goals as goal
 
 pub returns-in-Ok-None : goal.returns-in-Ok-None
@@ -11,8 +12,11 @@ returns-in-Ok-None c =
     let clock = c.clock-item.result in
     let i = c.loop-clock.clock-index in
     let first = ap (find has_no_choice) (around clocks i clock c.loop-clock-test.true c.clock-item.is)
-    ∙ first-without (take i clocks) (drop (i + 1) clocks) clock c.loop-clock.rows.items c.loop-clock.invariant (rw c.in-Ok-None.field-0-is at c.in-Ok-None.ensures) in
-    of_first has_no_choice clocks (λ k. c.number.result ≡ k.number) clock first c.number.ensures.value
+    ∙ first-without (take i clocks) (drop (i + 1) clocks) clock c.loop-clock.rows.items c.loop-clock.invariant.0 (rw c.in-Ok-None.field-0-is at c.in-Ok-None.ensures) in
+    of_first has_no_choice clocks (λ k. c.number-number.result ≡ k.number) clock first c.number-number.ensures.value
 
 pub loop-clock-preserved : goal.loop-clock-preserved
-loop-clock-preserved c = rows-more c.args.clocks.now c.clock-item.result c.loop-clock.rows.items c.push.new.items.items c.in-Ok-Some.row c.loop-clock.clock-index c.loop-clock-test.true c.clock-item.is (rw c.in-Ok-Some.field-0-is at c.in-Ok-Some.ensures) c.in_ok-push-in-Ok-Some.ensures c.loop-clock.invariant
+loop-clock-preserved c = (
+  rows-more c.args.clocks.now c.clock-item.result c.loop-clock.rows.items c.push.new.items.items c.in-Ok-Some.row c.loop-clock.clock-index c.loop-clock-test.true c.clock-item.is (rw c.in-Ok-Some.field-0-is at c.in-Ok-Some.ensures) c.in_ok-push-in-Ok-Some.ensures c.loop-clock.invariant.0,
+  all-next IsLegal c.args.clocks.now c.loop-clock.clock-index c.clock-item.result c.loop-clock-test.true c.clock-item.is c.loop-clock.invariant.1 c.number-number.ensures.legal,
+)

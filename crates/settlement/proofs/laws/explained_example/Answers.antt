@@ -1,0 +1,15 @@
+use Rattle.std.proofs.Common.{◌≡◌, [], ◌∷◌, sym, ◌∙◌, subst}
+use Rattle.std.specs.Prelude.{Result}
+use Rattle.lot_base.specs.Limits.{IsTermsOf}
+use Rattle.lot_base.specs.declared.auction_terms.Terms.{Terms}
+use Rattle.lot_base.specs.declared.auction_terms.TermsFault.{TermsFault}
+use Rattle.settlement.proofs.Examples.{first-example}
+use Rattle.settlement.proofs.laws.explained_example.Goals as goal
+
+pub returns : goal.returns
+returns c =
+    let T : Result Terms TermsFault → Type 0 = λ answer. IsTermsOf c.unwrap.result 3 100 answer in
+    let h = subst T c.unwrap-2.ensures c.new-2.ensures in
+    let e = sym c.unwrap.ensures ∙ c.new.ensures in
+    let goods : c.unwrap.result ≡ 2 ∷ [] = cc in
+    first-example c.unwrap-2.result (h.0 ∙ goods) h.1 h.2
