@@ -1,7 +1,7 @@
 -- A clock whose reports are explained by valuations goes along the path of its members' true step sets, so what is known of
 -- such paths holds of the clock at every moment.
-use Rattle.std.proofs.Common.{◌≡◌, ◌≢◌, ◌≤◌, ℕ, zero, suc, ◌+◌, ◌-◌, ◌/◌, ◌%◌, Bool, true, false, not, ◌&&◌, nat_eq, cond, List, [], ◌∷◌, ◌++◌, length, Option, Some, None, is_some, is_none, refl, sym, ◌∙◌, ap, arith, subst}
-use Rattle.std.specs.Prelude.{find, option_map, unwrap_or, ℤ, pos, ◌-ℤ◌, ◌≤ℤ◌}
+use Rattle.std.proofs.Common.{◌≡◌, ◌≢◌, ◌<◌, ◌≤◌, ℕ, zero, suc, ◌+◌, ◌-◌, ◌/◌, ◌%◌, Bool, true, false, not, ◌&&◌, nat_eq, cond, List, [], ◌∷◌, ◌++◌, length, Option, Some, None, is_some, is_none, refl, sym, ◌∙◌, ap, arith, subst}
+use Rattle.std.specs.Prelude.{find, option_map, unwrap_or, ℤ, pos, ◌+ℤ◌, ◌-ℤ◌, ◌≤ℤ◌}
 use Rattle.std.specs.List.{AllByRecursion}
 use Rattle.std.proofs.lemmas.Int.{ints}
 use Rattle.std.proofs.lemmas.List.{length-replicate}
@@ -14,7 +14,7 @@ use Rattle.demand_set.specs.declared.reports.Report.{Report}
 use Rattle.lyapunov.specs.Paths.{true_step, prices_along, AllSteps, IsPath, account_along, highest, IsLeastNear}
 use Rattle.lyapunov.proofs.Growing.{prices_along-append, AllSteps-append, account_along-append, step_set-true, excess-same}
 use Rattle.lyapunov.proofs.Bidders.{all-without, strong-without}
-use Rattle.lyapunov.proofs.Digits.{length-prices}
+use Rattle.lyapunov.proofs.Digits.{length-prices, true_step-lowers}
 use Rattle.lyapunov.proofs.Moments.{as_many, highest-zeros, few_steps, least_near_opening, ended-least, account-rises}
 use Rattle.lyapunov.proofs.Ceiling.{below_ceiling}
 use Rattle.clock.specs.Reports.{ClockHistory, opening_of, members_of, is_named, demand_in, demands_in, is_full}
@@ -91,6 +91,19 @@ opening-goods c = length-replicate _ _
 
 pub path : (u : ℕ → List ℕ → ℤ) (c : ClockHistory) → Explains u c → IsPath c.terms.goods u (members_of c) (opening_of c.terms) (sets_of c (steps_of c))
 path u c explains = record { substitutes = explains.substitutes; goods = opening-goods c; steps = all-steps u c explains (steps_of c) (omega arith) }
+
+-- each step lowers the Lyapunov function
+pub step-lowers : (u : ℕ → List ℕ → ℤ) (c : ClockHistory) (n : ℕ) → Explains u c → n < steps_of c
+    → (lyapunov c.terms.goods u (members_of c) (prices_after c (n + 1)) +ℤ pos 1) ≤ℤ lyapunov c.terms.goods u (members_of c) (prices_after c n)
+unfolding prices_after
+step-lowers u c n explains below =
+    let on = (has_steps c).before n below in
+    let is = true-step u c n explains (omega arith) (full-round c n on) in
+    let goods = ap length (prices-along c n) ∙ length-prices (opening_of c.terms) (sets_of c n) ∙ opening-goods c in
+    let low = true_step-lowers c.terms.goods u (members_of c) explains.substitutes (prices_after c n) goods (λ none. some-step c n on (is ∙ none)) in
+    let one : suc n ≡ n + 1 = omega arith in
+    let P : List ℕ → Type 0 = λ q. (lyapunov c.terms.goods u (members_of c) q +ℤ pos 1) ≤ℤ lyapunov c.terms.goods u (members_of c) (prices_after c n) in
+    subst P (ap (raised (prices_after c n)) (sym is) ∙ ap (prices_after c) one) low
 
 -- what is known of paths, on the clock
 pub few-steps-of : (u : ℕ → List ℕ → ℤ) (c : ClockHistory) → Explains u c → pos (steps_of c) ≤ℤ lyapunov c.terms.goods u (members_of c) (opening_of c.terms)

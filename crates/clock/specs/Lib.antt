@@ -7,3 +7,4 @@ pub mod Kept
 pub mod Tables
 pub mod Next
 pub mod Replays
+pub mod RowsClocks

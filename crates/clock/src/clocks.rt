@@ -51,17 +51,19 @@ pub struct NotApplied {
 
 impl Clock {
     ghost use Rattle.lot_base.specs.Demands.{IsDemand};
-    ghost use Rattle.std.specs.Prelude.{ℤ, pos, ◌≤ℤ◌, ◌-ℤ◌};
+    ghost use Rattle.std.specs.Prelude.{ℤ, pos, ◌≤ℤ◌, ◌+ℤ◌, ◌-ℤ◌};
     ghost use Rattle.lot_base.specs.Economy.{lyapunov, without, AllBelowCeiling, IsLeastMinimiser};
     ghost use Rattle.lot_base.specs.declared.phases.Phase.TheVariants.{Ended, Halted};
     ghost use Rattle.lyapunov.specs.Paths.{highest, IsLeastNear};
     ghost use Rattle.clock.specs.Reports.{demand_in, with_report, members_of, opening_of};
     ghost use Rattle.clock.specs.Explained.{Explains};
-    ghost use Rattle.clock.specs.Standing.{HasSteps, steps_of, last_round, phase_of, prices_of, missing_of};
+    ghost use Rattle.clock.specs.Standing.{HasSteps, steps_of, last_round, phase_of, prices_after, prices_of, missing_of};
     ghost use Rattle.clock.specs.Judging.{judgement_of, IsJudgement, IsLegal};
     ghost use Rattle.clock.specs.Accounts.{account_without};
     ghost use Rattle.credit_book.specs.Account.{sum_without};
     ghost use Rattle.clock.specs.declared.judging.Judgement.TheVariants.{Take};
+    ghost use Rattle.std.specs.List.{AllByRecursion};
+    ghost use Rattle.demand_set.specs.declared.reports.Report.{Report as ReportValue};
 
     /// A clock of these terms without reports.
     pub fn new(alloc: Global, terms: &Terms, number: u8) -> Result<Clock, NoMemory>
@@ -119,9 +121,10 @@ impl Clock {
         }
     }
 
-    /// The reports of the last or current round, and no report before it.
+    /// The reports of the last or current round.
     fn current_round(&self) -> &[Report]
-        ensures { (j : ℕ) → demand_in result.now (last_round self.now) j ≡ demand_in self.now.reports (last_round self.now) j }
+        ensures found { (j : ℕ) → demand_in result.now (last_round self.now) j ≡ demand_in self.now.reports (last_round self.now) j }
+        ensures only { AllByRecursion (λ (r : ReportValue). r.round ≡ last_round self.now) result.now }
     {
         self.reports.split_at(self.current).1
     }
@@ -180,6 +183,8 @@ impl Clock {
         ensures few { result ≤ 60000 }
 
         // Where valuations explain the reports: each step lowers the Lyapunov function, and some price rose in every step.
+        ensures lowers { (u : ℕ → List ℕ → ℤ) (n : ℕ) → Explains u self.now → n < result →
+            (lyapunov self.now.terms.goods u (members_of self.now) (prices_after self.now (n + 1)) +ℤ pos 1) ≤ℤ lyapunov self.now.terms.goods u (members_of self.now) (prices_after self.now n) }
         ensures bound { (u : ℕ → List ℕ → ℤ) → Explains u self.now → pos result ≤ℤ lyapunov self.now.terms.goods u (members_of self.now) (opening_of self.now.terms) }
         ensures highest { (u : ℕ → List ℕ → ℤ) → Explains u self.now → result ≡ highest (prices_of self.now) }
     {

@@ -84,6 +84,7 @@ module _ {B E O : Type 0} (history : B → List E) (origin : B → O) (first : B
         goes_on = subst (λ (z : List E). StartsWith z (history first)) log_is k.goes_on;
         origin_is = ap origin (sym free.1) ∙ has.1;
         seen = λ j v at. subst (λ (z : List E). StartsWith z v.seen) log_is (k.each j v at).seen;
+        also = λ j v at. subst (λ (z : List E). StartsWithAll z v.also) log_is (k.each j v at).also;
         own = λ j v at. subst (λ (z : List E). StandIn z v.own) log_is (k.each j v at).own;
         places = λ n. k.places n ∙ ap (λ (z : List E). between (length (history first)) (length z) n) log_is;
         numbers = λ i j v w at_i at_j some_v some_w same. dite (ℕ_discrete i j) (λ is. is) (λ ne. absurd (
@@ -109,6 +110,7 @@ module _ {B E O : Type 0} (history : B → List E) (origin : B → O) (first : B
         count = ap (λ (ws : List ℕ). slice_index ws 2) k.words_are ∙ ap (λ (z : List E). length z % 2 ^ 64) log_is;
         goes_on = subst (λ (z : List E). StartsWith z (history first)) log_is k.goes_on;
         seen = λ j v here. subst (λ (z : List E). StartsWith z v.seen) log_is (k.each j v here).seen;
+        also = λ j v here. subst (λ (z : List E). StartsWithAll z v.also) log_is (k.each j v here).also;
         own = λ j v here. subst (λ (z : List E). StandIn z v.own) log_is (k.each j v here).own;
         places = λ n. k.places n ∙ ap (λ (z : List E). between (length (history first)) (length z) n) log_is;
         queue = let a = ap (λ (ws : List ℕ). slice_index ws 0) k.words_are in let b = ap (λ (ws : List ℕ). slice_index ws 1) k.words_are in let c = k.queue.length_is in omega arith;

@@ -74,8 +74,10 @@ module _ {B E O : Type 0} (history : B → List E) (origin : B → O) (first : B
     pub count : slice_index s.words 2 ≡ length (history book) % 2 ^ 64
     pub goes_on : StartsWith (history book) (history first)
     pub origin_is : origin book ≡ origin first
-    -- the history begins with what each view has seen, and has each view's own entries at their places
+    -- the history begins with what each view has seen, or took over from views that it joined, and has each view's own entries at
+    -- their places
     pub seen : (j : ℕ) (v : View E O) → get_elem? s.views j ≡ some v → StartsWith (history book) v.seen
+    pub also : (j : ℕ) (v : View E O) → get_elem? s.views j ≡ some v → StartsWithAll (history book) v.also
     pub own : (j : ℕ) (v : View E O) → get_elem? s.views j ≡ some v → StandIn (history book) v.own
     -- each place beyond the first book's history is the own place of exactly one view, and no other place is
     pub places : (k : ℕ) → total (λ (v : View E O). times_at k v.own) s.views ≡ between (length (history first)) (length (history book)) k
@@ -97,6 +99,7 @@ module _ {B E O : Type 0} (history : B → List E) (origin : B → O) (first : B
     pub count : slice_index s.words 2 ≡ length (reached w.stage) % 2 ^ 64
     pub goes_on : StartsWith (reached w.stage) (history first)
     pub seen : (j : ℕ) (v : View E O) → get_elem? s.views j ≡ some v → StartsWith (reached w.stage) v.seen
+    pub also : (j : ℕ) (v : View E O) → get_elem? s.views j ≡ some v → StartsWithAll (reached w.stage) v.also
     pub own : (j : ℕ) (v : View E O) → get_elem? s.views j ≡ some v → StandIn (reached w.stage) v.own
     pub places : (k : ℕ) → total (λ (v : View E O). times_at k v.own) s.views ≡ between (length (history first)) (length (reached w.stage)) k
     -- the next ticket is the one that is served and the number of views that wait or have the turn

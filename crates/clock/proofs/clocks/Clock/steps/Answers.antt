@@ -1,14 +1,19 @@
-use Rattle.std.proofs.Common.{ℕ, ap, sym, subst, ◌∙◌}
+use Rattle.std.proofs.Common.{◌<◌, ℕ, ap, sym, subst, ◌∙◌}
 use Rattle.clock.specs.Standing.{HasSteps, steps_of}
 use Rattle.std.specs.Prelude.{pos, ◌≤ℤ◌}
 use Rattle.lot_base.specs.Economy.{lyapunov}
 use Rattle.clock.specs.Reports.{members_of, opening_of}
 use Rattle.clock.proofs.Path.{has_steps}
-use Rattle.clock.proofs.Truthful.{few-steps-of, steps-are-highest}
+use Rattle.clock.proofs.Truthful.{few-steps-of, step-lowers, steps-are-highest}
 use Rattle.clock.proofs.clocks.Clock.steps.Goals as goal
 
 pub returns-clause-made : goal.returns-clause-made
 returns-clause-made c = subst (HasSteps c.args.self.now) (sym (c.self.invariant.steps_are ∙ ap steps_of c.self.view_is)) (has_steps c.args.self.now)
+
+pub returns-clause-lowers : goal.returns-clause-lowers
+returns-clause-lowers c = λ u n explains below.
+    let P : ℕ → Type 0 = λ steps. n < steps in
+    step-lowers u c.args.self.now n explains (subst P (c.self.invariant.steps_are ∙ ap steps_of c.self.view_is) below)
 
 pub returns-clause-bound : goal.returns-clause-bound
 returns-clause-bound c = λ u explains.
