@@ -1,6 +1,6 @@
 -- The shape of an outcome: each bundle and each list of prices has as many entries as there are goods, there is a row for each
 -- bidder, a row for each clock, one more than there are bidders, and in it a bundle for each member of the clock.
-use Rattle.std.specs.Prelude.{◌≡◌, ◌≤◌, ◌+◌, ℕ, List, [], ◌∷◌, length, ⊤}
+use Rattle.std.specs.Prelude.{◌≡◌, ◌≤◌, ◌+◌, ℕ, ⊤, List, [], ◌∷◌, length}
 use Rattle.std.specs.List.{AllByRecursion, AllZip, range_with_len}
 use Rattle.clock.specs.Reports.{members}
 use Rattle.settlement.specs.declared.outcome.AwardRow.{AwardRow}
