@@ -1,8 +1,7 @@
 -- Award rows and choices that are taken one after another.
 use Rattle.std.proofs.Common.{◌≡◌, ◌<◌, ◌+◌, ◌++◌, ℕ, suc, ℤ, List, [], ◌∷◌, length, get_or, take, drop, Option, Some, None, sym, ap, ◌∙◌, subst, refl, arith, append_assoc}
 use Rattle.std.specs.List.{AllByRecursion}
-use Rattle.std.proofs.Math.ListN.{drop_of_length-le}
-use Rattle.std.proofs.lemmas.List.{length-append, drop_more, take_more, take_all}
+use Rattle.std.proofs.lemmas.List.{length-append, drop_more, take_more}
 use Rattle.settlement.specs.declared.outcome.AwardRow.{AwardRow}
 use Rattle.outcome_text.specs.Listed.{award_numbers, awards_numbers, choice_numbers, choices_numbers}
 use Rattle.outcome_text.specs.Parts.{IsBundleOf, IsAwardOf, AreAwardsOf, AreChoicesOf}
@@ -55,11 +54,6 @@ no-award goods bidders i old rest new made rows behind h below next are e = by r
         let taken = next (i + 1) (get_or rows i d) (awards_numbers (i + 1 + 1) (drop (i + 1) rows) ++ behind) (all-at (IsAwardOf goods) rows i d are.each here) (next-award i rest rows behind d here (h.back rows behind are e).1) in
         let s : None ≡ Some (get_or rows i d) = taken.0 in cc
 
-pub all-awards : (goods bidders : ℕ) (old rest : List ℤ) (made rows : List AwardRow) (behind : List ℤ) → AreAwardsTaken goods bidders bidders old rest made → AreAwardsOf goods bidders rows → old ≡ awards_numbers 1 rows ++ behind → (made ≡ rows) × (rest ≡ behind)
-all-awards goods bidders old rest made rows behind h are e =
-    let done = h.back rows behind are e in
-    (done.0 ∙ take_all bidders rows (omega (arith, are.count)), done.1 ∙ ap (λ rs. awards_numbers (bidders + 1) rs ++ behind) (drop_of_length-le rows (omega (arith, are.count))))
-
 -- The same of choices.
 pub record AreChoicesTaken (goods count i : ℕ) (old rest : List ℤ) (made : List (List ℕ)) : Type 0 where
   pub counted : length made ≡ i
@@ -99,10 +93,3 @@ no-choice goods count i old rest new made clock js choices behind h below next l
     let taken = next clock (get_or js i 0) (get_or choices i []) (choices_numbers clock (drop (i + 1) js) (drop (i + 1) choices) ++ behind) (all-at (IsBundleOf goods) choices i [] are.each here)
     (next-choice clock i rest js choices behind inside here (h.back clock js choices behind l are e).1) in
     let s : None ≡ Some (get_or choices i []) = taken.0 in cc
-
-pub all-choices : (goods count : ℕ) (old rest : List ℤ) (made : List (List ℕ)) (clock : ℕ) (js : List ℕ) (choices : List (List ℕ)) (behind : List ℤ) → AreChoicesTaken goods count count old rest made
-    → length js ≡ count → AreChoicesOf goods count choices → old ≡ choices_numbers clock js choices ++ behind → (made ≡ choices) × (rest ≡ behind)
-all-choices goods count old rest made clock js choices behind h l are e =
-    let done = h.back clock js choices behind l are e in
-    let no-js : drop count js ≡ [] = drop_of_length-le js (omega arith) in
-    (done.0 ∙ take_all count choices (omega (arith, are.counted)), done.1 ∙ ap (λ ks. choices_numbers clock ks (drop count choices) ++ behind) no-js)

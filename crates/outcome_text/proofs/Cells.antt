@@ -1,8 +1,7 @@
 -- Numbers below a limit that are taken one after another into cells.
 use Rattle.std.proofs.Common.{◌≡◌, ◌<◌, ◌≤◌, ◌+◌, ◌++◌, ℕ, zero, suc, ℤ, pos, List, [], ◌∷◌, length, get_or, take, drop, set, Option, Some, None, sym, ap, ◌∙◌, subst, arith}
 use Rattle.std.specs.List.{AllByRecursion}
-use Rattle.std.proofs.Math.ListN.{drop_of_length-le}
-use Rattle.std.proofs.lemmas.List.{length-set, drop_more, take_more, take_more_set, take_all}
+use Rattle.std.proofs.lemmas.List.{length-set, drop_more, take_more, take_more_set}
 use Rattle.outcome_text.specs.Listed.{naturals}
 
 pub all-push : {A : Type 0} (P : A → Type 0) (xs : List A) (x : A) → AllByRecursion P xs → P x → AllByRecursion P (xs ++ x ∷ [])
@@ -54,8 +53,3 @@ not-taken limit count i old rest new cells ns behind h below next l a e =
     let after = next (get_or ns i 0) (naturals (drop (i + 1) ns) ++ behind) (all-at (λ n. n < limit) ns i 0 a here) (next-of i rest ns behind here (h.back ns behind l a e).1) in
     let s = after.0 in
     let t : None ≡ Some (get_or ns i 0) = s in cc
-
-pub all-taken : (limit count : ℕ) (old rest : List ℤ) (cells ns : List ℕ) (behind : List ℤ) → AreTaken limit count count old rest cells → length ns ≡ count → AllBelow limit ns → old ≡ naturals ns ++ behind → (take count cells ≡ ns) × (rest ≡ behind)
-all-taken limit count old rest cells ns behind h l a e =
-    let done = h.back ns behind l a e in
-    (done.0 ∙ take_all count ns (omega arith), done.1 ∙ ap (λ d. naturals d ++ behind) (drop_of_length-le ns (omega arith)))

@@ -1,7 +1,5 @@
 //! The parts of an outcome from the numbers of its plain text.
 ghost use Rattle.std.specs.Prelude.{◌≡◌, ◌<◌, ◌≤◌, ◌^◌, ◌++◌, ◌∷◌, [], ℕ, ℤ, pos, List, length, Some, IfSome, IfOk, OnOk};
-ghost use Rattle.std.specs.List.{AllByRecursion};
-ghost use Rattle.settlement.specs.Shapes.{IsOf};
 ghost use Rattle.clock.specs.Reports.{members};
 ghost use Rattle.settlement.specs.declared.outcome.AwardRow.{AwardRow as AwardValue};
 ghost use Rattle.settlement.specs.declared.outcome.ClockRow.{ClockRow as ClockValue};
@@ -18,13 +16,13 @@ use std::alloc::Global;
 
 /// Numbers that are taken from the front.
 #[derive(Clone, Copy)]
-pub(crate) struct Numbers<'a> {
-    pub rest: &'a [i64],
+struct Numbers<'a> {
+    rest: &'a [i64],
 }
 
 impl Numbers<'_> {
     /// The next number.
-    pub(crate) fn next(&mut self) -> Option<i64>
+    fn next(&mut self) -> Option<i64>
         ensures amount { IfSome result IsAmount }
         ensures back { (z : ℤ) (behind : List ℤ) → self.old.rest.now ≡ z ∷ behind → (result ≡ Some z) × (self.new.rest.now ≡ behind) }
     {
@@ -41,7 +39,7 @@ impl Numbers<'_> {
     }
 
     /// The next number, if it is a price or a number of steps.
-    pub(crate) fn next_price(&mut self) -> Option<u32>
+    fn next_price(&mut self) -> Option<u32>
         ensures { (n : ℕ) (behind : List ℤ) → n < 2 ^ 32 → self.old.rest.now ≡ pos n ∷ behind → (result ≡ Some n) × (self.new.rest.now ≡ behind) }
     {
         u32::try_from(self.next()?).ok()
@@ -49,9 +47,8 @@ impl Numbers<'_> {
 
     /// The next number, if it is one from 1 to the given one.
     fn next_up_to(&mut self, most: u8) -> Option<u8>
-        ensures some { IfSome result (λ n. 1 ≤ n) }
-        ensures few { IfSome result (λ n. n ≤ most) }
-        ensures back { (n : ℕ) (behind : List ℤ) → 1 ≤ n → n ≤ most → self.old.rest.now ≡ pos n ∷ behind → (result ≡ Some n) × (self.new.rest.now ≡ behind) }
+        ensures within { IfSome result (IsRange 1 most) }
+        ensures back { (n : ℕ) (behind : List ℤ) → IsRange 1 most n → self.old.rest.now ≡ pos n ∷ behind → (result ≡ Some n) × (self.new.rest.now ≡ behind) }
     {
         match u8::try_from(self.next()?) {
             Ok(number) if 1 <= number && number <= most => Some(number),
@@ -73,9 +70,8 @@ impl Numbers<'_> {
     }
 
     /// The next bundle.
-    pub(crate) fn bundle(&mut self, goods: u8) -> Option<Bundle>
-        requires some { 1 ≤ goods }
-        requires few { goods ≤ 6 }
+    fn bundle(&mut self, goods: u8) -> Option<Bundle>
+        requires { IsRange 1 6 goods }
         ensures fit { IfSome result (IsBundleOf goods) }
         ensures back { (bundle : List ℕ) (behind : List ℤ) → IsBundleOf goods bundle → self.old.rest.now ≡ naturals bundle ++ behind → (result ≡ Some bundle) × (self.new.rest.now ≡ behind) }
     {
@@ -87,9 +83,8 @@ impl Numbers<'_> {
     }
 
     /// The next prices.
-    pub(crate) fn prices(&mut self, goods: u8) -> Option<Prices>
-        requires some { 1 ≤ goods }
-        requires few { goods ≤ 6 }
+    fn prices(&mut self, goods: u8) -> Option<Prices>
+        requires { IsRange 1 6 goods }
         ensures fit { IfSome result (ArePricesOf goods) }
         ensures back { (prices : List ℕ) (behind : List ℤ) → ArePricesOf goods prices → self.old.rest.now ≡ naturals prices ++ behind → (result ≡ Some prices) × (self.new.rest.now ≡ behind) }
     {
@@ -101,9 +96,8 @@ impl Numbers<'_> {
     }
 
     /// What the next bidder is awarded and pays.
-    pub(crate) fn award_row(&mut self, goods: u8) -> Option<AwardRow>
-        requires some { 1 ≤ goods }
-        requires few { goods ≤ 6 }
+    fn award_row(&mut self, goods: u8) -> Option<AwardRow>
+        requires { IsRange 1 6 goods }
         ensures fit { IfSome result (IsAwardOf goods) }
         ensures back { (bidder : ℕ) (row : AwardValue) (behind : List ℤ) → IsAwardOf goods row → self.old.rest.now ≡ award_numbers bidder row ++ behind → (result ≡ Some row) × (self.new.rest.now ≡ behind) }
     {
@@ -117,14 +111,13 @@ impl Numbers<'_> {
     }
 
     /// What the next bidders are awarded and pay.
-    pub(crate) fn award_rows(
+    fn award_rows(
         &mut self,
         alloc: Global,
         goods: u8,
         bidders: u8,
     ) -> Result<Option<Rows<AwardRow>>, NoMemory>
-        requires some { 1 ≤ goods }
-        requires few { goods ≤ 6 }
+        requires { IsRange 1 6 goods }
         ensures fit { IfOk result (λ r. IfSome r (AreAwardsOf goods bidders)) }
         ensures back { (rows : List AwardValue) (behind : List ℤ) → AreAwardsOf goods bidders rows → self.old.rest.now ≡ awards_numbers 1 rows ++ behind → IfOk result (λ r. (r ≡ Some rows) × (self.new.rest.now ≡ behind)) }
     {
@@ -140,8 +133,7 @@ impl Numbers<'_> {
 
     /// What the next members of a clock choose, of whom there are so many.
     fn choices(&mut self, alloc: Global, goods: u8, count: u8) -> Result<Option<Choice>, NoMemory>
-        requires some { 1 ≤ goods }
-        requires few { goods ≤ 6 }
+        requires { IsRange 1 6 goods }
         ensures fit { IfOk result (λ r. IfSome r (AreChoicesOf goods count)) }
         ensures back { (clock : ℕ) (js : List ℕ) (choices : List (List ℕ)) (behind : List ℤ) → length js ≡ count → AreChoicesOf goods count choices →
             self.old.rest.now ≡ choices_numbers clock js choices ++ behind → IfOk result (λ r. (r ≡ Some choices) × (self.new.rest.now ≡ behind)) }
@@ -158,8 +150,7 @@ impl Numbers<'_> {
 
     /// What the next member of a clock chooses, behind the numbers of the clock and of the member.
     fn choice(&mut self, goods: u8) -> Option<Bundle>
-        requires some { 1 ≤ goods }
-        requires few { goods ≤ 6 }
+        requires { IsRange 1 6 goods }
         ensures fit { IfSome result (IsBundleOf goods) }
         ensures back { (clock bidder : ℕ) (bundle : List ℕ) (behind : List ℤ) → IsBundleOf goods bundle → self.old.rest.now ≡ choice_numbers clock bidder bundle ++ behind → (result ≡ Some bundle) × (self.new.rest.now ≡ behind) }
     {
@@ -170,8 +161,7 @@ impl Numbers<'_> {
 
     /// The steps and the prices of the next clock, behind its number.
     fn clock_head(&mut self, goods: u8) -> Option<(u32, Prices)>
-        requires some { 1 ≤ goods }
-        requires few { goods ≤ 6 }
+        requires { IsRange 1 6 goods }
         ensures fit { IfSome result (λ head. ArePricesOf goods head.1) }
         ensures back { (clock steps : ℕ) (prices : List ℕ) (behind : List ℤ) → steps < 2 ^ 32 → ArePricesOf goods prices →
             self.old.rest.now ≡ pos clock ∷ pos steps ∷ naturals prices ++ behind → (result ≡ Some (steps, prices)) × (self.new.rest.now ≡ behind) }
@@ -190,8 +180,7 @@ impl Numbers<'_> {
         bidders: u8,
         clock: u8,
     ) -> Result<Option<ClockRow>, NoMemory>
-        requires some { 1 ≤ goods }
-        requires few { goods ≤ 6 }
+        requires goods { IsRange 1 6 goods }
         requires within { clock ≤ bidders }
         ensures fit { IfOk result (λ r. IfSome r (IsClockOf goods bidders clock)) }
         ensures back { (row : ClockValue) (behind : List ℤ) → IsClockOf goods bidders clock row → self.old.rest.now ≡ clock_numbers bidders clock row ++ behind → IfOk result (λ r. (r ≡ Some row) × (self.new.rest.now ≡ behind)) }
@@ -212,14 +201,13 @@ impl Numbers<'_> {
     }
 
     /// The rows of all clocks of so many bidders.
-    pub(crate) fn clock_rows(
+    fn clock_rows(
         &mut self,
         alloc: Global,
         goods: u8,
         bidders: u8,
     ) -> Result<Option<Rows<ClockRow>>, NoMemory>
-        requires some { 1 ≤ goods }
-        requires few { goods ≤ 6 }
+        requires goods { IsRange 1 6 goods }
         requires bidders { bidders ≤ 12 }
         ensures fit { IfOk result (λ r. IfSome r (AreClocksOf goods bidders)) }
         ensures back { (rows : List ClockValue) (behind : List ℤ) → AreClocksOf goods bidders rows → self.old.rest.now ≡ clocks_numbers bidders 0 rows ++ behind → IfOk result (λ r. (r ≡ Some rows) × (self.new.rest.now ≡ behind)) }

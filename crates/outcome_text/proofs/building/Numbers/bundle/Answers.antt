@@ -9,4 +9,4 @@ returns-in_err-quantities-clause-back c = λ ns behind is e.
 pub loop-good-preserved : goal.loop-good-preserved
 loop-good-preserved c =
     let small : c.in_ok-quantities.field-0 < (2 ^ 16) = search rules in
-    one-more-taken (2 ^ 16) c.args.goods c.loop-good.good c.args.self.now.rest.now c.loop-good.self.rest.now c.next_quantity.new.self.rest.now c.loop-good.quantities c.in_ok-quantities.field-0 c.loop-good.invariant c.loop-good-test.true c.requires.few small c.in_ok-quantities.ensures
+    one-more-taken (2 ^ 16) c.args.goods c.loop-good.good c.args.self.now.rest.now c.loop-good.self.rest.now c.next_quantity.new.self.rest.now c.loop-good.quantities c.in_ok-quantities.field-0 c.loop-good.invariant c.loop-good-test.true c.requires.at_most small c.in_ok-quantities.ensures
