@@ -1,5 +1,5 @@
--- Where nothing outside failed and the log is good, only two answers are left.
-use Rattle.std.proofs.Common.{◌≡◌, ◌≤◌, ◌<◌, inl, inr, ℕ, ◌-◌, ◌^◌, List, [], ◌∷◌, length, Option, Some, Ok, Err, refl, sym, ◌∙◌, subst, arith, decimal}
+-- Where nothing outside failed and the files are good, only two answers are left.
+use Rattle.std.proofs.Common.{◌≡◌, ◌≤◌, ◌<◌, inl, inr, ℕ, ◌-◌, ◌^◌, List, [], ◌∷◌, length, Option, Some, Ok, Err, refl, sym, ◌∙◌, subst, ap, arith, decimal}
 use Rattle.std.specs.Prelude.{codes}
 use Rattle.std.proofs.lemmas.Fmt.{decimal_injective}
 use Rattle.std.proofs.Props.{props}
@@ -7,9 +7,10 @@ use Rattle.house_io.specs.Faults.{Rose}
 use Rattle.house_io.specs.Shelves.{NamedFile, IfTells}
 use Rattle.lot_base.specs.Goods.{IsSupply, IsRange}
 use Rattle.lot_base.specs.declared.auction_terms.Terms.{Terms}
-use Rattle.house_run.specs.Words.{Command, Fold, Spells, IsFold, comma_list}
+use Rattle.auction_file.specs.AuctionFile.{auction_of}
+use Rattle.house_run.specs.Words.{Check, Command, Fold, Spells, IsFold, comma_list}
 use Rattle.house_run.specs.Entries.{log_of}
-use Rattle.house_run.specs.Ends.{ShelfSeen, SinkSeen, FoldJob, Wrote, CommandEnds, RunEnds, NothingFailed, IsGoodLog, IsDoneOrNoMemory, content, log_limit}
+use Rattle.house_run.specs.Ends.{ShelfSeen, SinkSeen, CheckJob, FoldJob, Job, Wrote, CommandEnds, RunEnds, NothingFailed, HasGoodFiles, IsGoodAuction, IsGoodLog, IsDoneOrNoMemory, auction_limit, content, log_limit}
 use Rattle.house_run.specs.declared.ends.Ended.{Ended}
 use Rattle.house_run.specs.declared.ends.Ended.TheVariants as how
 use Rattle.house_run.specs.declared.ends.File.TheVariants as which
@@ -44,9 +45,8 @@ pub record SameWords (t u : Terms) (log name : List ℕ) : Type 0 where
   pub same_terms : t ≡ u
   pub same_log : log ≡ name
 
--- the words of one command are those of no other
-pub words-once : (t u : Terms) (log name : List ℕ) (words : List (List ℕ)) → IsFold t log words → IsFold u name words → SameWords t u log name
-words-once t u log name words is it =
+fold-once : (t u : Terms) (log name : List ℕ) (words : List (List ℕ)) → IsFold t log words → IsFold u name words → SameWords t u log name
+fold-once t u log name words is it =
     let e : codes "fold" ∷ comma_list t.goods ∷ decimal t.bidders ∷ decimal t.ceiling ∷ log ∷ [] ≡ codes "fold" ∷ comma_list u.goods ∷ decimal u.bidders ∷ decimal u.ceiling ∷ name ∷ [] = sym is.words_are ∙ it.words_are in
     let g : comma_list t.goods ≡ comma_list u.goods = cc in
     let b : decimal t.bidders ≡ decimal u.bidders = cc in
@@ -59,39 +59,72 @@ words-once t u log name words is it =
       same_log = l;
     }
 
+-- the words of one command are those of no other
+spelled-once : (one other : Command) (words : List (List ℕ)) → Spells one words → Spells other words → one ≡ other
+spelled-once (Fold t log) (Fold u name) words is it = let same = fold-once t u log name words is it in λ i. Fold (same.same_terms i) (same.same_log i)
+spelled-once (Fold t log) (Check auction) words is it = absurd (let e : codes "fold" ∷ comma_list t.goods ∷ decimal t.bidders ∷ decimal t.ceiling ∷ log ∷ [] ≡ codes "check" ∷ auction ∷ [] = sym is.words_are ∙ it.words_are in cc)
+spelled-once (Check auction) (Fold t log) words is it = absurd (let e : codes "fold" ∷ comma_list t.goods ∷ decimal t.bidders ∷ decimal t.ceiling ∷ log ∷ [] ≡ codes "check" ∷ auction ∷ [] = sym it.words_are ∙ is.words_are in cc)
+spelled-once (Check auction) (Check name) words is it =
+    let e : codes "check" ∷ auction ∷ [] ≡ codes "check" ∷ name ∷ [] = sym is.words_are ∙ it.words_are in
+    let same : auction ≡ name = cc in
+    ap Check same
+
 still : (before now : ℕ) → now ≡ before → before < 2 ^ 64 - 1 → Rose before now → ⊥
 still before now e room rose = omega arith
 
-ended : (terms : Terms) (log text : List ℕ) (shelf : ShelfSeen) (sink : SinkSeen) (files : List NamedFile) (end : Ended) → FoldJob terms log shelf end text → shelf.files ≡ Some files → IsGoodLog terms (content files log)
-    → NothingFailed shelf sink → IsDoneOrNoMemory end
-ended terms log text shelf sink files how.Done job told good quiet = inl refl
-ended terms log text shelf sink files how.NoMemory job told good quiet = inr refl
-ended terms log text shelf sink files how.Usage job told good quiet = absurd job
-ended terms log text shelf sink files how.ReadFault job told good quiet = absurd (still (shelf.faults_before log) (shelf.faults log) (quiet.shelf_same log) (quiet.shelf_room log) job.0)
-ended terms log text shelf sink files how.WriteFault job told good quiet = absurd job
-ended terms log text shelf sink files (how.TooLong which.Log) job told good quiet =
+fold-ended : (terms : Terms) (log text : List ℕ) (shelf : ShelfSeen) (sink : SinkSeen) (files : List NamedFile) (end : Ended) → FoldJob terms log shelf end text → shelf.files ≡ Some files
+    → IsGoodLog terms (content files log) → NothingFailed shelf sink → IsDoneOrNoMemory end
+fold-ended terms log text shelf sink files how.Done job told good quiet = inl refl
+fold-ended terms log text shelf sink files how.NoMemory job told good quiet = inr refl
+fold-ended terms log text shelf sink files how.Usage job told good quiet = absurd job
+fold-ended terms log text shelf sink files (how.BadAuction fault) job told good quiet = absurd job
+fold-ended terms log text shelf sink files how.ReadFault job told good quiet =
+    absurd (still (shelf.faults_before log) (shelf.faults log) (quiet.shelf_same log) (quiet.shelf_room log) job.0)
+fold-ended terms log text shelf sink files how.WriteFault job told good quiet = absurd job
+fold-ended terms log text shelf sink files (how.TooLong which.Auction) job told good quiet = absurd job
+fold-ended terms log text shelf sink files (how.TooLong which.Log) job told good quiet =
     let P : Option (List NamedFile) → Type 0 = λ o. IfTells o (λ fs. log_limit < length (content fs log)) in
     absurd (let long : log_limit < length (content files log) = subst P told job.0 in let short = good.short in omega arith)
-ended terms log text shelf sink files (how.BadLog place) job told good quiet =
+fold-ended terms log text shelf sink files (how.BadLog place) job told good quiet =
     let P : Option (List NamedFile) → Type 0 = λ o. IfTells o (λ fs. (length (content fs log) ≤ log_limit) × (log_of terms (content fs log) ≡ Err place)) in
     absurd (let bad : (length (content files log) ≤ log_limit) × (log_of terms (content files log) ≡ Err place) = subst P told job.0 in let e : Ok good.history ≡ Err place = sym good.whole ∙ bad.1 in cc)
 
-command-done : (terms : Terms) (log : List ℕ) (shelf : ShelfSeen) (sink : SinkSeen) (files : List NamedFile) (answer : Ended) → CommandEnds (Fold terms log) shelf sink answer → shelf.files ≡ Some files → IsGoodLog terms (content files log)
-    → NothingFailed shelf sink → IsDoneOrNoMemory answer
-command-done terms log shelf sink files answer ends told good quiet = by ends.wrote
-  where
-    by : Wrote sink ends.end ends.text answer → IsDoneOrNoMemory answer
-    by (inl whole) = subst IsDoneOrNoMemory (sym whole.answer_is) (ended terms log ends.text shelf sink files ends.end ends.job told good quiet)
-    by (inr front) = absurd (still sink.faults_before sink.faults quiet.sink_same quiet.sink_room front.cause)
+check-ended : (auction text : List ℕ) (shelf : ShelfSeen) (sink : SinkSeen) (files : List NamedFile) (end : Ended) → CheckJob auction shelf end text → shelf.files ≡ Some files
+    → IsGoodAuction (content files auction) → NothingFailed shelf sink → IsDoneOrNoMemory end
+check-ended auction text shelf sink files how.Done job told good quiet = inl refl
+check-ended auction text shelf sink files how.NoMemory job told good quiet = inr refl
+check-ended auction text shelf sink files how.Usage job told good quiet = absurd job
+check-ended auction text shelf sink files (how.BadLog place) job told good quiet = absurd job
+check-ended auction text shelf sink files how.ReadFault job told good quiet =
+    absurd (still (shelf.faults_before auction) (shelf.faults auction) (quiet.shelf_same auction) (quiet.shelf_room auction) job.0)
+check-ended auction text shelf sink files how.WriteFault job told good quiet = absurd job
+check-ended auction text shelf sink files (how.TooLong which.Log) job told good quiet = absurd job
+check-ended auction text shelf sink files (how.TooLong which.Auction) job told good quiet =
+    let P : Option (List NamedFile) → Type 0 = λ o. IfTells o (λ fs. auction_limit < length (content fs auction)) in
+    absurd (let long : auction_limit < length (content files auction) = subst P told job.0 in let short = good.short in omega arith)
+check-ended auction text shelf sink files (how.BadAuction fault) job told good quiet =
+    let P : Option (List NamedFile) → Type 0 = λ o. IfTells o (λ fs. (length (content fs auction) ≤ auction_limit) × (auction_of (content fs auction) ≡ Err fault)) in
+    absurd (let bad : (length (content files auction) ≤ auction_limit) × (auction_of (content files auction) ≡ Err fault) = subst P told job.0 in let e : Ok good.listing ≡ Err fault = sym good.read ∙ bad.1 in cc)
 
-pub completes : (words : List (List ℕ)) (shelf : ShelfSeen) (sink : SinkSeen) (answer : Ended) → RunEnds words shelf sink answer → (terms : Terms) (log : List ℕ) (files : List NamedFile) → IsFold terms log words → shelf.files ≡ Some files
-    → IsGoodLog terms (content files log) → NothingFailed shelf sink → IsDoneOrNoMemory answer
-completes words shelf sink answer (inl usage) terms log files is told good quiet = absurd (usage.none (Fold terms log) is)
-completes words shelf sink answer (inr some) terms log files is told good quiet = by some.command some.spelled some.ends
-  where
-    by : (command : Command) → Spells command words → CommandEnds command shelf sink answer → IsDoneOrNoMemory answer
-    by (Fold u name) it ends =
-        let same = words-once u terms name log words it is in
-        let P : Terms → Type 0 = λ t. CommandEnds (Fold t log) shelf sink answer in
-        let Q : List ℕ → Type 0 = λ n. CommandEnds (Fold u n) shelf sink answer in
-        command-done terms log shelf sink files answer (subst P same.same_terms (subst Q same.same_log ends)) told good quiet
+job-ended : (command : Command) (text : List ℕ) (shelf : ShelfSeen) (sink : SinkSeen) (files : List NamedFile) (end : Ended) → Job command shelf end text → shelf.files ≡ Some files
+    → HasGoodFiles command files → NothingFailed shelf sink → IsDoneOrNoMemory end
+job-ended (Fold terms log) text shelf sink files end job told good quiet = fold-ended terms log text shelf sink files end job told good quiet
+job-ended (Check auction) text shelf sink files end job told good quiet = check-ended auction text shelf sink files end job told good quiet
+
+-- what was written whole answers as it should, and nothing else was written where the sink did not fail
+delivered : (sink : SinkSeen) (end answer : Ended) (text : List ℕ) → Wrote sink end text answer → IsDoneOrNoMemory end → sink.faults ≡ sink.faults_before → sink.faults_before < 2 ^ 64 - 1 → IsDoneOrNoMemory answer
+delivered sink end answer text (inl whole) good same room = subst IsDoneOrNoMemory (sym whole.answer_is) good
+delivered sink end answer text (inr front) good same room = absurd (still sink.faults_before sink.faults same room front.cause)
+
+command-done : (command : Command) (shelf : ShelfSeen) (sink : SinkSeen) (files : List NamedFile) (answer : Ended) → CommandEnds command shelf sink answer → shelf.files ≡ Some files
+    → HasGoodFiles command files → NothingFailed shelf sink → IsDoneOrNoMemory answer
+command-done command shelf sink files answer ends told good quiet =
+    delivered sink ends.end answer ends.text ends.wrote (job-ended command ends.text shelf sink files ends.end ends.job told good quiet) quiet.sink_same quiet.sink_room
+
+pub completes : (words : List (List ℕ)) (shelf : ShelfSeen) (sink : SinkSeen) (answer : Ended) → RunEnds words shelf sink answer → (command : Command) (files : List NamedFile) → Spells command words → shelf.files ≡ Some files
+    → HasGoodFiles command files → NothingFailed shelf sink → IsDoneOrNoMemory answer
+completes words shelf sink answer (inl usage) command files is told good quiet = absurd (usage.none command is)
+completes words shelf sink answer (inr (inl some)) command files is told good quiet =
+    let P : Command → Type 0 = λ c. CommandEnds c shelf sink answer in
+    command-done command shelf sink files answer (subst P (spelled-once some.command command words some.spelled is) some.ends) told good quiet
+completes words shelf sink answer (inr (inr none)) command files is told good quiet = delivered sink how.NoMemory answer [] none.wrote (inr refl) quiet.sink_same quiet.sink_room

@@ -1,7 +1,13 @@
 pub mod Decimals
 pub mod Commas
-pub mod FiveWords
 pub mod Numbers
 pub mod FirstEntry
+pub mod Slots
+pub mod Commands
+pub mod Walking
+pub mod Taking
+pub mod PlainWords
+pub mod NamedWords
+pub mod Lining
 pub mod Telling
 pub mod Complete

@@ -1,6 +1,8 @@
 -- The command that the words which were read stand for.
-use Rattle.house_run.specs.Words.{Command, Fold}
-use Rattle.house_run.specs.declared.words.FoldWords.{FoldWords}
+use Rattle.house_run.specs.Words.{Command, Fold, Check}
+use Rattle.house_run.specs.declared.words.CommandWords.{CommandWords}
+use Rattle.house_run.specs.declared.words.CommandWords.TheVariants as read
 
-abbrev pub command_as : FoldWords → Command
-command_as words = Fold words.terms words.log.now
+abbrev pub command_as : CommandWords → Command
+command_as (read.Fold terms log) = Fold terms log.now
+command_as (read.Check auction) = Check auction.now

@@ -1,15 +1,19 @@
 -- How a command ends: what it answers, what it wrote, and why. A job, the command's own work, has an end and a text; then
 -- the text is written, and only that may still fail.
-use Rattle.std.specs.Prelude.{◌≡◌, ◌<◌, ◌≤◌, ◌-◌, ◌^◌, ◌⊎◌, ℕ, List, [], ◌++◌, length, take, Option, Result, Ok, Err, unwrap_or, codes, decimal, String, string_bytes}
+use Rattle.std.specs.Prelude.{◌≡◌, ◌≢◌, ◌<◌, ◌≤◌, ◌-◌, ◌^◌, ◌⊎◌, ℕ, List, [], ◌∷◌, ◌++◌, length, take, Option, Result, Ok, Err, unwrap_or, codes, decimal, Vec}
 use Rattle.std.specs.declared.alloc.Global.{Global}
 use Rattle.house_io.specs.Faults.{Rose}
 use Rattle.house_io.specs.Told.{IfTold}
 use Rattle.house_io.specs.Shelves.{NamedFile, IfTells, bytes_of}
 use Rattle.lot_base.specs.declared.auction_terms.Terms.{Terms}
 use Rattle.clock.specs.Reports.{ClockHistory}
-use Rattle.house_run.specs.Words.{Command, Fold, Spells, IsNoCommand}
+use Rattle.outcome_text.specs.Lines.{line}
+use Rattle.auction_file.specs.AuctionFile.{Listing, auction_of}
+use Rattle.auction_file.specs.declared.faults.AuctionFault.TheVariants as refused
+use Rattle.house_run.specs.Words.{Command, Fold, Check, Spells, IsNoCommand}
 use Rattle.house_run.specs.Entries.{log_of}
-use Rattle.house_run.specs.Texts.{standing_of}
+use Rattle.house_run.specs.Texts.{standing_of, check_text}
+use Rattle.house_run.specs.Status.{number_of}
 use Rattle.house_run.specs.declared.ends.Ended.{Ended}
 use Rattle.house_run.specs.declared.ends.Ended.TheVariants as how
 use Rattle.house_run.specs.declared.ends.File.TheVariants as which
@@ -31,9 +35,12 @@ pub record SinkSeen : Type 0 where
 abbrev pub content : List NamedFile → List ℕ → List ℕ
 content files name = unwrap_or (bytes_of files name) []
 
--- the greatest number of bytes of a log
+-- the greatest number of bytes of a log, and of an auction file
 abbrev pub log_limit : ℕ
 log_limit = 67108864
+
+abbrev pub auction_limit : ℕ
+auction_limit = 65536
 
 -- the line of each end but those of a job that was done
 abbrev pub line_of : Ended → List ℕ
@@ -43,7 +50,9 @@ line_of how.WriteFault = []
 line_of how.Usage = codes "usage\n"
 line_of how.ReadFault = codes "read fault\n"
 line_of (how.TooLong which.Log) = codes "too long log\n"
-line_of (how.BadLog place) = (codes "bad log at " ++ decimal place) ++ codes "\n"
+line_of (how.TooLong which.Auction) = codes "too long auction\n"
+line_of (how.BadLog place) = line (codes "bad" ∷ codes "log" ∷ codes "at" ∷ decimal place ∷ [])
+line_of (how.BadAuction fault) = line (codes "bad" ∷ codes "auction" ∷ decimal (number_of fault) ∷ [])
 
 -- The job of `fold`. It is done where the log has no faulty entry, and its text is the standing line of the log's clock. Each
 -- other end has its cause and its line; the want of memory has none, and writes nothing.
@@ -58,15 +67,33 @@ FoldJob terms log shelf (how.BadLog place) text =
     IfTells shelf.files (λ files. (length (content files log) ≤ log_limit) × (log_of terms (content files log) ≡ Err place)) × (text ≡ line_of (how.BadLog place))
 FoldJob terms log shelf how.Usage text = ⊥
 FoldJob terms log shelf how.WriteFault text = ⊥
+FoldJob terms log shelf (how.TooLong which.Auction) text = ⊥
+FoldJob terms log shelf (how.BadAuction fault) text = ⊥
 
--- the text of the job where it is done, and else the line of its end
-abbrev pub FoldAnswer : Terms → List ℕ → ShelfSeen → Result (String Global) Ended → Type 0
-FoldAnswer terms log shelf (Ok text) = FoldJob terms log shelf how.Done (string_bytes text)
-FoldAnswer terms log shelf (Err end) = FoldJob terms log shelf end (line_of end)
+-- The job of `check`. It is done where the file is one of an auction, and its text tells that auction.
+abbrev pub CheckJob : List ℕ → ShelfSeen → Ended → List ℕ → Type 0
+CheckJob auction shelf how.Done text =
+    IfTells shelf.files (λ files. (length (content files auction) ≤ auction_limit) × ((listing : Listing) × (auction_of (content files auction) ≡ Ok listing) × (text ≡ check_text listing)))
+CheckJob auction shelf how.NoMemory text = text ≡ []
+CheckJob auction shelf how.ReadFault text = Rose (shelf.faults_before auction) (shelf.faults auction) × (text ≡ line_of how.ReadFault)
+CheckJob auction shelf (how.TooLong which.Auction) text =
+    IfTells shelf.files (λ files. auction_limit < length (content files auction)) × (text ≡ line_of (how.TooLong which.Auction))
+CheckJob auction shelf (how.BadAuction fault) text =
+    IfTells shelf.files (λ files. (length (content files auction) ≤ auction_limit) × (auction_of (content files auction) ≡ Err fault)) × (fault ≢ refused.NoMemory) × (text ≡ line_of (how.BadAuction fault))
+CheckJob auction shelf how.Usage text = ⊥
+CheckJob auction shelf how.WriteFault text = ⊥
+CheckJob auction shelf (how.TooLong which.Log) text = ⊥
+CheckJob auction shelf (how.BadLog place) text = ⊥
 
 -- the job of each command
 abbrev pub Job : Command → ShelfSeen → Ended → List ℕ → Type 0
 Job (Fold terms log) shelf end text = FoldJob terms log shelf end text
+Job (Check auction) shelf end text = CheckJob auction shelf end text
+
+-- the text of the job where it is done, and else the line of its end
+abbrev pub JobAnswer : Command → ShelfSeen → Result (Vec ℕ Global) Ended → Type 0
+JobAnswer command shelf (Ok text) = Job command shelf how.Done text.items
+JobAnswer command shelf (Err end) = Job command shelf end (line_of end)
 
 -- The text was appended, and the answer is the job's end; or the sink's count rose, a front of the text was appended, and the
 -- answer says so.
@@ -93,7 +120,8 @@ pub record CommandEnds (command : Command) (shelf : ShelfSeen) (sink : SinkSeen)
   pub job : Job command shelf end text
   pub wrote : Wrote sink end text answer
 
--- How a run ends: the words are no command, and it says so; or they are a command, and that ends.
+-- How a run ends: the words are no command, and it says so; or they are a command, and that ends; or memory ran out before
+-- they were read, and nothing was written.
 pub record UsageEnds (words : List (List ℕ)) (sink : SinkSeen) (answer : Ended) : Type 0 where
   pub none : IsNoCommand words
   pub wrote : Wrote sink how.Usage (line_of how.Usage) answer
@@ -103,8 +131,11 @@ pub record SomeCommandEnds (words : List (List ℕ)) (shelf : ShelfSeen) (sink :
   pub spelled : Spells command words
   pub ends : CommandEnds command shelf sink answer
 
+pub record NoMemoryEnds (sink : SinkSeen) (answer : Ended) : Type 0 where
+  pub wrote : Wrote sink how.NoMemory [] answer
+
 abbrev pub RunEnds : List (List ℕ) → ShelfSeen → SinkSeen → Ended → Type 0
-RunEnds words shelf sink answer = UsageEnds words sink answer ⊎ SomeCommandEnds words shelf sink answer
+RunEnds words shelf sink answer = UsageEnds words sink answer ⊎ (SomeCommandEnds words shelf sink answer ⊎ NoMemoryEnds sink answer)
 
 -- no call outside failed, and no count stands at its last value
 pub record NothingFailed (shelf : ShelfSeen) (sink : SinkSeen) : Type 0 where
@@ -118,6 +149,17 @@ pub record IsGoodLog (terms : Terms) (bytes : List ℕ) : Type 0 where
   pub short : length bytes ≤ log_limit
   pub history : ClockHistory
   pub whole : log_of terms bytes ≡ Ok history
+
+-- the auction file is not too long, and is one of an auction
+pub record IsGoodAuction (bytes : List ℕ) : Type 0 where
+  pub short : length bytes ≤ auction_limit
+  pub listing : Listing
+  pub read : auction_of bytes ≡ Ok listing
+
+-- the files that the command reads are good
+abbrev pub HasGoodFiles : Command → List NamedFile → Type 0
+HasGoodFiles (Fold terms log) files = IsGoodLog terms (content files log)
+HasGoodFiles (Check auction) files = IsGoodAuction (content files auction)
 
 -- the answer is Done, or memory ran out
 abbrev pub IsDoneOrNoMemory : Ended → Type 0

@@ -1,5 +1,6 @@
 pub mod Numerals
 pub mod Words
+pub mod Positionals
 pub mod CommandView
 pub mod Entries
 pub mod Texts

@@ -1,13 +1,16 @@
 -- What the code's values stand for where words and entries are read.
-use Rattle.std.specs.Prelude.{◌≡◌, ℕ, List, Option, Some, None, Result, Ok, Err, String, string_bytes}
+use Rattle.std.specs.Prelude.{◌≡◌, ◌≢◌, ℕ, List, Option, Some, None, Result, Ok, Err, Vec}
 use Rattle.std.specs.declared.alloc.Global.{Global}
 use Rattle.lot_base.specs.declared.raw.RawReport.{RawReport}
 use Rattle.demand_set.specs.declared.reports.Report.{Report}
 use Rattle.clock.specs.Reports.{ClockHistory}
+use Rattle.auction_file.specs.AuctionFile.{Listing, auction_of}
+use Rattle.auction_file.specs.declared.faults.AuctionFault.{AuctionFault}
+use Rattle.auction_file.specs.declared.faults.AuctionFault.TheVariants as refused
 use Rattle.house_run.specs.declared.entries.LogFault.{LogFault}
 use Rattle.house_run.specs.declared.entries.LogFault.TheVariants as fault
 use Rattle.house_run.specs.Entries.{SpelledReport, report_in}
-use Rattle.house_run.specs.Texts.{standing_of}
+use Rattle.house_run.specs.Texts.{standing_of, check_text}
 
 abbrev pub spelled : RawReport → SpelledReport
 spelled r = record { bidder = r.bidder; round = r.round; goods = r.demand.goods; quantities = r.demand.quantities.items }
@@ -29,7 +32,12 @@ IsLogOrNoMemory (Err (fault.Faulty place)) log = log ≡ Err place
 IsLogOrNoMemory (Err fault.NoMemory) log = Unit {0}
 
 -- it is the standing line of the log's clock, unless memory runs out
-abbrev pub IsLineOf : Result (String Global) LogFault → Result ClockHistory ℕ → Type 0
-IsLineOf (Ok text) log = (c : ClockHistory) × (log ≡ Ok c) × (string_bytes text ≡ standing_of c)
+abbrev pub IsLineOf : Result (Vec ℕ Global) LogFault → Result ClockHistory ℕ → Type 0
+IsLineOf (Ok text) log = (c : ClockHistory) × (log ≡ Ok c) × (text.items ≡ standing_of c)
 IsLineOf (Err (fault.Faulty place)) log = log ≡ Err place
 IsLineOf (Err fault.NoMemory) log = Unit {0}
+
+-- it is the text of the auction that the bytes say, or their fault, unless memory runs out
+abbrev pub IsTextOf : Result (Vec ℕ Global) AuctionFault → List ℕ → Type 0
+IsTextOf (Ok text) bytes = (listing : Listing) × (auction_of bytes ≡ Ok listing) × (text.items ≡ check_text listing)
+IsTextOf (Err refusal) bytes = refusal ≢ refused.NoMemory → auction_of bytes ≡ Err refusal

@@ -22,6 +22,7 @@ comma_list ns = join_with_byte 44 (map decimal ns)
 -- the commands
 pub data Command : Type 0 where
   Fold : Terms → List ℕ → Command
+  Check : List ℕ → Command
 
 -- the words of the terms: the supply of each good joined by commas, the number of bidders, the ceiling
 pub record AreTermWords (terms : Terms) (supply bidders ceiling : List ℕ) : Type 0 where
@@ -34,8 +35,14 @@ pub record IsFold (terms : Terms) (log : List ℕ) (words : List (List ℕ)) : T
   pub words_are : words ≡ codes "fold" ∷ comma_list terms.goods ∷ decimal terms.bidders ∷ decimal terms.ceiling ∷ log ∷ []
   pub log_is : IsPlainWord log
 
+-- The words are `check AUCTION`: the name of an auction file.
+pub record IsCheck (auction : List ℕ) (words : List (List ℕ)) : Type 0 where
+  pub words_are : words ≡ codes "check" ∷ auction ∷ []
+  pub auction_is : IsPlainWord auction
+
 abbrev pub Spells : Command → List (List ℕ) → Type 0
 Spells (Fold terms log) words = IsFold terms log words
+Spells (Check auction) words = IsCheck auction words
 
 -- the words are no command
 abbrev pub IsNoCommand : List (List ℕ) → Type 0

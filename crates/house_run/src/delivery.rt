@@ -1,11 +1,12 @@
 //! Writing the one text of a run.
-ghost use Rattle.std.specs.Prelude.{◌≡◌, ◌≢◌};
-ghost use Rattle.house_run.specs.Ends.{Wrote, WroteLine};
+ghost use Rattle.std.specs.Prelude.{◌≡◌, ◌≢◌, string_bytes};
+ghost use Rattle.std.specs.Result.{ForOk};
+ghost use Rattle.house_run.specs.Ends.{Wrote, WroteLine, line_of};
 ghost use Rattle.house_run.specs.declared.ends.Ended.TheVariants as how;
 
-use crate::ends::{Ended, File};
+use crate::ends::{Ended, File, fault_number};
 use house_io::{Sink, write_whole};
-use std::alloc::Global;
+use std::alloc::{AllocError, Global};
 
 /// Writes the text of a job that ended so.
 pub(crate) fn deliver<S: Sink>(out: &mut S, text: &[u8], ended: Ended) -> Ended
@@ -32,13 +33,35 @@ pub(crate) fn deliver_line<S: Sink>(alloc: Global, out: &mut S, ended: Ended) ->
     }) ended result }
 {
     match ended {
-        Ended::Usage => deliver(out, b"usage\n", ended),
-        Ended::ReadFault => deliver(out, b"read fault\n", ended),
+        Ended::Usage => deliver(out, b"usage\n", Ended::Usage),
+        Ended::ReadFault => deliver(out, b"read fault\n", Ended::ReadFault),
+        Ended::TooLong(File::Auction) => deliver(out, b"too long auction\n", ended),
         Ended::TooLong(File::Log) => deliver(out, b"too long log\n", ended),
-        Ended::BadLog(place) => match format!(in alloc; "bad log at {place}\n") {
-            Ok(line) => deliver(out, line.as_bytes(), ended),
-            Err(_) => deliver(out, b"", Ended::NoMemory),
-        },
+        Ended::BadAuction(fault) => {
+            let number = fault_number(&fault);
+            let line = format!(in alloc; "bad auction {number}\n");
+            deliver_made(out, line, Ended::BadAuction(fault))
+        }
+        Ended::BadLog(place) => {
+            let line = format!(in alloc; "bad log at {place}\n");
+            deliver_made(out, line, Ended::BadLog(place))
+        }
         Ended::Done | Ended::NoMemory | Ended::WriteFault => deliver(out, b"", ended),
+    }
+}
+
+/// Writes the line of a job that was not done, if memory sufficed to make it.
+fn deliver_made<S: Sink>(out: &mut S, line: Result<String, AllocError>, ended: Ended) -> Ended
+    requires { ForOk line (λ text. string_bytes text ≡ line_of ended) }
+    ensures { WroteLine (record {
+      written_before = S.written out.old;
+      written = S.written out.new;
+      faults_before = S.faults out.old;
+      faults = S.faults out.new;
+    }) ended result }
+{
+    match line {
+        Ok(line) => deliver(out, line.as_bytes(), ended),
+        Err(_) => deliver(out, b"", Ended::NoMemory),
     }
 }

@@ -1,16 +1,16 @@
 //! The command `fold`: one clock over a log.
-ghost use Rattle.std.specs.Prelude.{◌≡◌, ◌≤◌, ◌<◌, ◌^◌, ℕ, List, length, IfOk, Err, string_bytes};
-ghost use Rattle.house_io.specs.Faults.{Rose};
-ghost use Rattle.house_io.specs.Shelves.{IfTells};
+ghost use Rattle.std.specs.Prelude.{◌≡◌};
 ghost use Rattle.house_run.specs.Entries.{log_of};
-ghost use Rattle.house_run.specs.Ends.{content, FoldAnswer};
+ghost use Rattle.house_run.specs.Ends.{JobAnswer};
 ghost use Rattle.house_run.specs.Reading.{IsLineOf};
+ghost use Rattle.house_run.specs.Words.{Fold};
 
 use crate::ends::{Ended, File};
 use crate::entries::{LogFault, replay_log};
-use crate::texts::standing_line;
-use house_io::{ReadWhole, Refusal, Shelf, read_whole};
-use lot_base::Terms;
+use crate::files::read_file;
+use house_io::{ReadWhole, Shelf};
+use lot_base::{NoMemory, Terms};
+use outcome_text::write_standing;
 use std::alloc::Global;
 
 /// The greatest length of a log.
@@ -22,8 +22,8 @@ pub(crate) fn fold<H: Shelf>(
     terms: &Terms,
     log: &str,
     shelf: &mut H,
-) -> Result<String, Ended>
-    ensures { FoldAnswer terms.now log.now (record {
+) -> Result<Vec<u8>, Ended>
+    ensures { JobAnswer (Fold terms.now log.now) (record {
       files = H.files shelf.new;
       faults_before = H.faults shelf.old;
       faults = H.faults shelf.new;
@@ -42,38 +42,16 @@ pub(crate) fn fold<H: Shelf>(
     }
 }
 
-/// Reads a named file, and takes its source back.
-fn read_file<H: Shelf>(
-    alloc: Global,
-    shelf: &mut H,
-    name: &str,
-    limit: u64,
-) -> Result<Vec<u8>, ReadWhole>
-    ensures bytes { IfOk result (λ v. IfTells (H.files shelf.new) (λ files. v.items ≡ content files name.now)) }
-    ensures short { IfOk result (λ v. length v.items ≤ limit) }
-    ensures failed { result ≡ Err ReadWhole.Failed → Rose (H.faults shelf.old name.now) (H.faults shelf.new name.now) }
-    ensures long { result ≡ Err ReadWhole.TooLong → IfTells (H.files shelf.new) (λ files. limit < length (content files name.now)) }
-{
-    let mut source = match shelf.source(alloc, name) {
-        Ok(source) => source,
-        Err(Refusal::Failed) => return Err(ReadWhole::Failed),
-        Err(Refusal::NoMemory) => return Err(ReadWhole::NoMemory),
-    };
-    let answer = read_whole(alloc, &mut source, limit);
-    shelf.close_source(name, source);
-    answer
-}
-
 /// The standing line of the clock of all bidders after the entries of a log.
-fn log_line(alloc: Global, terms: &Terms, bytes: &[u8]) -> Result<String, LogFault>
+fn log_line(alloc: Global, terms: &Terms, bytes: &[u8]) -> Result<Vec<u8>, LogFault>
     ensures { IsLineOf result (log_of terms.now bytes.now) }
 {
     let clock = match replay_log(alloc, terms, bytes) {
         Ok(clock) => clock,
         Err(fault) => return Err(fault),
     };
-    match standing_line(alloc, clock.number(), &clock.look(), clock.missing()) {
+    match write_standing(alloc, clock.number(), &clock.look(), clock.missing()) {
         Ok(line) => Ok(line),
-        Err(_) => Err(LogFault::NoMemory),
+        Err(NoMemory) => Err(LogFault::NoMemory),
     }
 }

@@ -1,10 +1,13 @@
 //! The top call: from the words of the command line to the text that is written.
 #![tactic(auto)]
 
+mod check;
 mod delivery;
 pub mod ends;
 mod entries;
+mod files;
 mod fold;
+mod positionals;
 mod runs;
 mod supplies;
 #[cfg(test)]

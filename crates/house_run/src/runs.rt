@@ -1,16 +1,17 @@
 //! The top call.
-ghost use Rattle.std.specs.Prelude.{◌≡◌, ℕ, List, Some, map, string_bytes};
+ghost use Rattle.std.specs.Prelude.{◌≡◌, List, Some};
 ghost use Rattle.house_io.specs.Shelves.{NamedFile};
-ghost use Rattle.house_run.specs.Words.{IsFold, words_of};
+ghost use Rattle.house_run.specs.Words.{Command, Spells, words_of};
 ghost use Rattle.house_run.specs.CommandView.{command_as};
-ghost use Rattle.house_run.specs.Ends.{RunEnds, CommandEnds, ShelfSeen, SinkSeen, NothingFailed, IsGoodLog, IsDoneOrNoMemory, content};
-ghost use Rattle.lot_base.specs.declared.auction_terms.Terms.{Terms as TermsValue};
+ghost use Rattle.house_run.specs.Ends.{RunEnds, CommandEnds, JobAnswer, ShelfSeen, SinkSeen, NothingFailed, HasGoodFiles, IsDoneOrNoMemory};
 
+use crate::check::check;
 use crate::delivery::{deliver, deliver_line};
 use crate::ends::Ended;
 use crate::fold::fold;
-use crate::words::{FoldWords, read_words};
+use crate::words::{CommandWords, read_words};
 use house_io::{Shelf, Sink};
+use lot_base::NoMemory;
 use std::alloc::Global;
 
 /// Does what the words say, and writes one text: the job's where it was done, else a line that says how it ended, and nothing
@@ -33,7 +34,7 @@ pub fn run<T, H: Shelf, S: Sink>(
       faults_before = S.faults out.old;
       faults = S.faults out.new;
     }) result }
-    ensures complete { (terms : TermsValue) (log : List ℕ) (files : List NamedFile) → IsFold terms log (words_of words.now) → H.files shelf.new ≡ Some files → IsGoodLog terms (content files log) → NothingFailed (record {
+    ensures complete { (command : Command) (files : List NamedFile) → Spells command (words_of words.now) → H.files shelf.new ≡ Some files → HasGoodFiles command files → NothingFailed (record {
       files = H.files shelf.new;
       faults_before = H.faults shelf.old;
       faults = H.faults shelf.new;
@@ -65,20 +66,21 @@ fn run_words<H: Shelf, S: Sink>(
       faults = S.faults out.new;
     }) result }
 {
-    match read_words(words) {
-        None => deliver(out, b"usage\n", Ended::Usage),
-        Some(words) => run_fold(alloc, &words, shelf, out),
+    match read_words(alloc, words) {
+        Ok(Some(command)) => run_command(alloc, &command, shelf, out),
+        Ok(None) => deliver(out, b"usage\n", Ended::Usage),
+        Err(NoMemory) => deliver(out, b"", Ended::NoMemory),
     }
 }
 
-/// Does the job of `fold`, and writes its text or the line of its end.
-fn run_fold<H: Shelf, S: Sink>(
+/// Does the job of a command, and writes its text or the line of its end.
+fn run_command<H: Shelf, S: Sink>(
     alloc: Global,
-    words: &FoldWords,
+    command: &CommandWords,
     shelf: &mut H,
     out: &mut S,
 ) -> Ended
-    ensures { CommandEnds (command_as words.now) (record {
+    ensures { CommandEnds (command_as command.now) (record {
       files = H.files shelf.new;
       faults_before = H.faults shelf.old;
       faults = H.faults shelf.new;
@@ -89,8 +91,26 @@ fn run_fold<H: Shelf, S: Sink>(
       faults = S.faults out.new;
     }) result }
 {
-    match fold(alloc, &words.terms, words.log, shelf) {
-        Ok(text) => deliver(out, text.as_bytes(), Ended::Done),
+    match job_text(alloc, command, shelf) {
+        Ok(text) => deliver(out, &text, Ended::Done),
         Err(ended) => deliver_line(alloc, out, ended),
+    }
+}
+
+/// The text of a command's job, or how the job ended without one.
+fn job_text<H: Shelf>(
+    alloc: Global,
+    command: &CommandWords,
+    shelf: &mut H,
+) -> Result<Vec<u8>, Ended>
+    ensures { JobAnswer (command_as command.now) (record {
+      files = H.files shelf.new;
+      faults_before = H.faults shelf.old;
+      faults = H.faults shelf.new;
+    }) result }
+{
+    match command {
+        CommandWords::Fold { terms, log } => fold(alloc, terms, log, shelf),
+        CommandWords::Check { auction } => check(alloc, auction, shelf),
     }
 }

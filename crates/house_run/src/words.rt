@@ -1,51 +1,92 @@
 //! Reading the words of the command line.
-ghost use Rattle.std.specs.Prelude.{◌≡◌, ◌<◌, ◌≤◌, ◌∷◌, ◌++◌, ◌⊎◌, ◌==◌, false, [], ℕ, List, codes, decimal, map, length, IfSome, IfNone, IsTrue, ◌↔◌};
+ghost use Rattle.std.specs.Prelude.{◌≡◌, ◌<◌, ◌≤◌, ◌∷◌, ◌++◌, ◌⊎◌, ◌==◌, false, [], ℕ, List, codes, decimal, map, length, IfOk, IfSome, IfNone, IsTrue, ◌↔◌, All, string_bytes};
 ghost use Rattle.std.specs.List.{list_all, slice_split, AllByRecursion};
-ghost use Rattle.house_run.specs.Words.{IsNoCommand, Spells, IsFold, IsPlainWord, AreTermWords, comma_list, words_of};
+ghost use Rattle.house_run.specs.Words.{IsNoCommand, Spells, IsPlainWord, AreTermWords, comma_list, words_of};
 ghost use Rattle.house_run.specs.CommandView.{command_as};
 ghost use Rattle.std.specs.Char.{is_ascii_digit};
 ghost use Rattle.house_run.specs.Numerals.{is_numeral};
 ghost use Rattle.lot_base.specs.Goods.{IsSupply};
 ghost use Rattle.lot_base.specs.declared.auction_terms.Terms.{Terms as TermsValue};
 
+use crate::positionals::{named_words, word_of};
 use crate::supplies::Supplies;
-use lot_base::{Goods, Terms};
+use lot_base::{Goods, NoMemory, Terms};
+use std::alloc::Global;
 
-/// The words of `fold`: one clock over a log.
+/// The words of a command.
 #[derive(Clone, Copy)]
-pub(crate) struct FoldWords<'a> {
-    pub terms: Terms,
-    pub log: &'a str,
+pub(crate) enum CommandWords<'a> {
+    /// One clock over a log.
+    Fold { terms: Terms, log: &'a str },
+    /// What an auction file says.
+    Check { auction: &'a str },
 }
 
 /// The command that the words are, if they are one.
-pub(crate) fn read_words(words: &[String]) -> Option<FoldWords<'_>>
-    ensures some { IfSome result (λ command. Spells (command_as command) (words_of words.now)) }
-    ensures none { IfNone result (IsNoCommand (words_of words.now)) }
+pub(crate) fn read_words(
+    alloc: Global,
+    words: &[String],
+) -> Result<Option<CommandWords<'_>>, NoMemory>
+    ensures some { IfOk result (λ o. IfSome o (λ command. Spells (command_as command) (words_of words.now))) }
+    ensures none { IfOk result (λ o. IfNone o (IsNoCommand (words_of words.now))) }
 {
-    match words {
-        [name, supply, bidders, ceiling, log] if name.as_str() == "fold" => read_fold(
-            supply.as_str(),
-            bidders.as_str(),
-            ceiling.as_str(),
-            log.as_str(),
-        ),
-        _ => None,
+    let [name, behind @ ..] = words else {
+        return Ok(None);
+    };
+    if !are_plain(behind) {
+        return Ok(None);
+    }
+    match name.as_str() {
+        "fold" => read_fold(alloc, behind),
+        "check" => read_check(alloc, behind),
+        _ => Ok(None),
     }
 }
 
-/// The words of `fold`, if they are in order.
-fn read_fold<'a>(supply: &str, bidders: &str, ceiling: &str, log: &'a str) -> Option<FoldWords<'a>>
-    ensures some { IfSome result (λ words. IsFold words.terms words.log.now (codes "fold" ∷ supply.now ∷ bidders.now ∷ ceiling.now ∷ log.now ∷ [])) }
-    ensures none { IfNone result (IsNoCommand (codes "fold" ∷ supply.now ∷ bidders.now ∷ ceiling.now ∷ log.now ∷ [])) }
+/// The command `fold` of the words behind its name.
+fn read_fold(alloc: Global, words: &[String]) -> Result<Option<CommandWords<'_>>, NoMemory>
+    requires { All (λ word. IsPlainWord (string_bytes word)) words.now }
+    ensures some { IfOk result (λ o. IfSome o (λ command. Spells (command_as command) (codes "fold" ∷ words_of words.now))) }
+    ensures none { IfOk result (λ o. IfNone o (IsNoCommand (codes "fold" ∷ words_of words.now))) }
 {
-    if !is_plain(log) {
-        return None;
-    }
+    let names = ["SUPPLY", "BIDDERS", "CEILING", "LOG"];
+    let matches = match named_words(alloc, "fold", &names, words) {
+        Ok(Some(matches)) => matches,
+        Ok(None) => return Ok(None),
+        Err(NoMemory) => return Err(NoMemory),
+    };
+    let supply = word_of(&matches, "SUPPLY");
+    let bidders = word_of(&matches, "BIDDERS");
+    let ceiling = word_of(&matches, "CEILING");
     match read_terms(supply, bidders, ceiling) {
-        None => None,
-        Some(terms) => Some(FoldWords { terms, log }),
+        Some(terms) => Ok(Some(CommandWords::Fold {
+            terms,
+            log: word_of(&matches, "LOG"),
+        })),
+        None => Ok(None),
     }
+}
+
+/// The command `check` of the words behind its name.
+fn read_check(alloc: Global, words: &[String]) -> Result<Option<CommandWords<'_>>, NoMemory>
+    requires { All (λ word. IsPlainWord (string_bytes word)) words.now }
+    ensures some { IfOk result (λ o. IfSome o (λ command. Spells (command_as command) (codes "check" ∷ words_of words.now))) }
+    ensures none { IfOk result (λ o. IfNone o (IsNoCommand (codes "check" ∷ words_of words.now))) }
+{
+    match named_words(alloc, "check", &["AUCTION"], words) {
+        Ok(Some(matches)) => Ok(Some(CommandWords::Check {
+            auction: word_of(&matches, "AUCTION"),
+        })),
+        Ok(None) => Ok(None),
+        Err(NoMemory) => Err(NoMemory),
+    }
+}
+
+/// Whether no word is empty and none begins as an option does.
+fn are_plain(words: &[String]) -> bool
+    ensures { IsTrue result ↔ All (λ word. IsPlainWord (string_bytes word)) words.now }
+{
+    words.iter().all(|word| is_plain(word.as_str()))
 }
 
 /// The terms that these words give.

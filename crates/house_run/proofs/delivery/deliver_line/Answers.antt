@@ -1,6 +1,8 @@
-use Rattle.std.proofs.Common.{◌∙◌}
-use Rattle.house_run.proofs.Telling.{line-written}
+use Rattle.house_run.proofs.Telling.{same-end}
 use Rattle.house_run.proofs.delivery.deliver_line.Goals as goal
 
-pub returns-in-Ok : goal.returns-in-Ok
-returns-in-Ok g c = line-written _ _ _ _ _ c.in-BadLog.is (c.as_bytes.ensures.value ∙ c.in-Ok.ensures.ok) c.deliver-in-Ok.ensures
+pub returns-in-BadAuction : goal.returns-in-BadAuction
+returns-in-BadAuction g c = same-end _ _ _ _ c.in-BadAuction.is c.deliver_made.ensures
+
+pub returns-in-BadLog : goal.returns-in-BadLog
+returns-in-BadLog g c = same-end _ _ _ _ c.in-BadLog.is c.deliver_made-in-BadLog.ensures

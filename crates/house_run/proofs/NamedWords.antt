@@ -1,0 +1,74 @@
+-- Words by the ids of one argument or four, and the commands that they spell.
+use Rattle.std.proofs.Common.{◌≡◌, ℕ, List, [], ◌∷◌, refl, sym, ap, ◌∙◌, subst}
+use Rattle.std.specs.Prelude.{codes, Some, IsSome, Option}
+use Rattle.std.specs.List.{AllByRecursion}
+use Rattle.clap.specs.Matches.{first_value}
+use Rattle.clap.specs.declared.parser.matches.Found.{Found}
+use Rattle.lot_base.specs.declared.auction_terms.Terms.{Terms}
+use Rattle.house_run.specs.Positionals.{AreNamed}
+use Rattle.house_run.specs.Words.{AreTermWords, IsCheck, IsFold, IsPlainWord}
+
+pub record IsOneWord (f : Found) (a : List ℕ) (words : List (List ℕ)) : Type 0 where
+  pub word : List ℕ
+  pub words_are : words ≡ word ∷ []
+  pub word_is : first_value f a ≡ Some word
+
+pub one-word : (f : Found) (a : List ℕ) (words : List (List ℕ)) → AreNamed f (a ∷ []) words → IsOneWord f a words
+one-word f a [] named = absurd named
+one-word f a (word ∷ []) named = record { word = word; words_are = refl; word_is = named.0 }
+one-word f a (word ∷ more ∷ words) named = absurd named.1
+
+pub record AreFourWords (f : Found) (a b c d : List ℕ) (words : List (List ℕ)) : Type 0 where
+  pub first : List ℕ
+  pub second : List ℕ
+  pub third : List ℕ
+  pub fourth : List ℕ
+  pub words_are : words ≡ first ∷ second ∷ third ∷ fourth ∷ []
+  pub first_is : first_value f a ≡ Some first
+  pub second_is : first_value f b ≡ Some second
+  pub third_is : first_value f c ≡ Some third
+  pub fourth_is : first_value f d ≡ Some fourth
+
+pub four-words : (f : Found) (a b c d : List ℕ) (words : List (List ℕ)) → AreNamed f (a ∷ b ∷ c ∷ d ∷ []) words → AreFourWords f a b c d words
+four-words f a b c d [] named = absurd named
+four-words f a b c d (v ∷ []) named = absurd named.1
+four-words f a b c d (v ∷ w ∷ []) named = absurd named.1.1
+four-words f a b c d (v ∷ w ∷ x ∷ []) named = absurd named.1.1.1
+four-words f a b c d (v ∷ w ∷ x ∷ y ∷ []) named = record {
+  first = v;
+  second = w;
+  third = x;
+  fourth = y;
+  words_are = refl;
+  first_is = named.0;
+  second_is = named.1.0;
+  third_is = named.1.1.0;
+  fourth_is = named.1.1.1.0;
+}
+four-words f a b c d (v ∷ w ∷ x ∷ y ∷ z ∷ words) named = absurd named.1.1.1.1
+
+pub there : (o : Option (List ℕ)) (word : List ℕ) → o ≡ Some word → IsSome o
+there o word e = let P : Option (List ℕ) → Type 0 = λ x. IsSome x in subst P (sym e) refl
+
+pub same-word : (o : Option (List ℕ)) (word other : List ℕ) → o ≡ Some word → o ≡ Some other → word ≡ other
+same-word o word other e g = let h : Some word ≡ Some other = sym e ∙ g in cc
+
+pub spells-check : (f : Found) (a auction : List ℕ) (words : List (List ℕ)) → AreNamed f (a ∷ []) words → first_value f a ≡ Some auction → AllByRecursion IsPlainWord words → IsCheck auction (codes "check" ∷ words)
+spells-check f a auction words named is plain =
+    let one = one-word f a words named in
+    let same : words ≡ auction ∷ [] = one.words_are ∙ ap (λ w. w ∷ []) (same-word (first_value f a) one.word auction one.word_is is) in
+    let P : List (List ℕ) → Type 0 = λ ws. AllByRecursion IsPlainWord ws in
+    record { words_are = ap (λ ws. codes "check" ∷ ws) same; auction_is = (subst P same plain).0 }
+
+pub spells-fold : (f : Found) (a b c d supply bidders ceiling log : List ℕ) (words : List (List ℕ)) (terms : Terms) → AreNamed f (a ∷ b ∷ c ∷ d ∷ []) words
+    → first_value f a ≡ Some supply → first_value f b ≡ Some bidders → first_value f c ≡ Some ceiling → first_value f d ≡ Some log
+    → AllByRecursion IsPlainWord words → AreTermWords terms supply bidders ceiling → IsFold terms log (codes "fold" ∷ words)
+spells-fold f a b c d supply bidders ceiling log words terms named supply_is bidders_is ceiling_is log_is plain read =
+    let four = four-words f a b c d words named in
+    let s = same-word (first_value f a) four.first supply four.first_is supply_is ∙ read.supply_is in
+    let n = same-word (first_value f b) four.second bidders four.second_is bidders_is ∙ read.bidders_are in
+    let m = same-word (first_value f c) four.third ceiling four.third_is ceiling_is ∙ read.ceiling_is in
+    let l = same-word (first_value f d) four.fourth log four.fourth_is log_is in
+    let same = four.words_are ∙ (λ i. s i ∷ n i ∷ m i ∷ l i ∷ []) in
+    let P : List (List ℕ) → Type 0 = λ ws. AllByRecursion IsPlainWord ws in
+    record { words_are = ap (λ ws. codes "fold" ∷ ws) same; log_is = (subst P same plain).1.1.1.0 }
