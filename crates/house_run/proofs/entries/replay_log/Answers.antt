@@ -6,6 +6,17 @@ use Rattle.house_run.specs.Entries.{log_from}
 use Rattle.house_run.proofs.FirstEntry.{log-end, log-fault, log-next}
 use Rattle.house_run.proofs.entries.replay_log.Goals as goal
 
+pub entries-init : goal.entries-init
+entries-init c =
+    let now = c.in-Ok.ensures in
+    let all = length c.args.bytes.now in
+    let none : all - all ≡ 0 = omega arith in
+    record {
+      terms = ap (λ (k : ClockHistory). k.terms) now;
+      within = omega arith;
+      log = (all, (omega arith), (λ j. log_from all (now j) (none j) c.args.bytes.now));
+    }
+
 pub returns-in-Ok-None : goal.returns-in-Ok-None
 returns-in-Ok-None c =
     let i = c.entries.invariant.log in
