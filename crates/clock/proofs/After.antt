@@ -16,7 +16,8 @@ use Rattle.lot_base.specs.Demands.{IsDemand}
 use Rattle.clock.specs.Judging.{is_member, judgement_of, IsLegal}
 use Rattle.clock.specs.Kept.{IsKept}
 use Rattle.clock.specs.Next.{IsNext}
-use Rattle.clock.proofs.Path.{both, has_steps, steps-only, one_more}
+use Rattle.lot_base.proofs.Within.{both}
+use Rattle.clock.proofs.Path.{has_steps, steps-only, one_more}
 use Rattle.step_choice.proofs.Order.{first_set-is}
 use Rattle.clock.proofs.Append.{legal-push, all-push, take-says, past-push, not_full-beyond, prices-stay, leads_on-stays}
 use Rattle.lot_base.specs.Economy.{without}

@@ -16,7 +16,7 @@ use Rattle.lot_base.specs.Steps.{first_set, step_set}
 use Rattle.clock.specs.Reports.{is_named, demand_in, demands_in, is_full, ClockHistory, members_of, with_report}
 use Rattle.clock.specs.Standing.{step_set_after, leads_on, is_full_after, good_at_ceiling, prices_after, good_from}
 use Rattle.clock.specs.Judging.{is_member, judged, late_by, repeat_of, judgement_of, TakesAll}
-use Rattle.clock.proofs.Path.{both}
+use Rattle.lot_base.proofs.Within.{both}
 
 find-some : {X : Type 0} (test : X → Bool) (xs : List X) (y : X) (v : X) → find test xs ≡ Some v → find test (xs ++ y ∷ []) ≡ Some v
 find-some test [] y v e = absurd (let f : None ≡ Some v = e in cc)
@@ -135,6 +135,6 @@ takes-more c (x ∷ rs) r all take =
 pub legal-push : (c : ClockHistory) (r : Report) → TakesAll (record c { reports = [] }) c.reports → judgement_of c r ≡ Take → TakesAll (record c { reports = [] }) (c.reports ++ r ∷ [])
 legal-push c r legal take = takes-more (record c { reports = [] }) c.reports r legal take
 
-pub all-push : (P : Report → Type 0) (reports : List Report) (r : Report) → AllByRecursion P reports → P r → AllByRecursion P (reports ++ r ∷ [])
-all-push P [] r all now = (now, tt)
-all-push P (x ∷ reports) r all now = (all.0, all-push P reports r all.1 now)
+pub all-push : {A : Type 0} (P : A → Type 0) (xs : List A) (x : A) → AllByRecursion P xs → P x → AllByRecursion P (xs ++ x ∷ [])
+all-push P [] x all now = (now, tt)
+all-push P (y ∷ xs) x all now = (all.0, all-push P xs x all.1 now)

@@ -1,5 +1,5 @@
 -- The excesses of a round as they are added up, bidder by bidder, and the step set of their table.
-use Rattle.std.proofs.Common.{◌≡◌, ◌≢◌, ◌<◌, ◌≤◌, ℕ, zero, suc, ◌+◌, ◌*◌, ◌/◌, ◌%◌, ◌-◌, ◌^◌, nat_eq, cond, Bool, true, false, not, Some, None, List, [], ◌∷◌, length, refl, sym, ◌∙◌, ap, arith, subst, ◌⊎◌, inl, inr}
+use Rattle.std.proofs.Common.{◌≡◌, ◌≢◌, ◌<◌, ◌≤◌, ℕ, zero, suc, ◌+◌, ◌*◌, ◌/◌, ◌%◌, ◌-◌, ◌^◌, nat_eq, cond, Bool, true, false, not, Some, None, List, [], ◌∷◌, length, sym, ◌∙◌, ap, arith, subst, ◌⊎◌, inl, inr}
 use Rattle.std.specs.Prelude.{filter, option_map, unwrap_or, find, replicate, ℤ, pos, negsuc, ◌+ℤ◌, ◌≤ℤ◌, fold, min, slice_index}
 use Rattle.std.proofs.lemmas.Int.{ints}
 use Rattle.std.proofs.Math.Nat.{mul-le-mul_left}
@@ -10,6 +10,7 @@ use Rattle.lot_base.specs.Economy.{total_units}
 use Rattle.lot_base.specs.Steps.{IsStepSet, excess, first_set, step_set}
 use Rattle.demand_set.specs.declared.reports.Report.{Report}
 use Rattle.lyapunov.specs.Excesses.{entry, IsSmall, HasRoom, IsAdded, IsExcessOf}
+use Rattle.credit_book.proofs.Totals.{zeros-at}
 use Rattle.step_choice.proofs.StepSet.{first_set-step_set, step_set-unique}
 use Rattle.clock.specs.Reports.{members, is_named, demand_in, demands_in}
 use Rattle.clock.proofs.Members.{members_from, least-keep, least-skip}
@@ -88,19 +89,14 @@ small-table supply bundles table is_supply is t = record { entries = λ set. by 
     by set (inr (inl above)) = let e = t.others set (omega arith) in omega arith
     by set (inr (inr same)) = let e = t.others set (omega arith) in omega arith
 
-get-replicate : (n set : ℕ) → slice_index (replicate n 0) set ≡ 0
-get-replicate zero set = refl
-get-replicate (suc n) zero = refl
-get-replicate (suc n) (suc set) = get-replicate n set
-
 -- who has not reported demands nothing
 pub blank-table : (goods : ℕ) (reports : List Report) (round j : ℕ) (table : List ℕ) → table ≡ replicate 64 0 → demand_in reports round j ≡ None → IsTable goods (least (demands_in reports round j)) table
 blank-table goods reports round j table e none =
-    let z = λ (set : ℕ). ap (λ t. slice_index t set) e ∙ get-replicate 64 set in
+    let z = λ (set : ℕ). ap (λ t. slice_index t set) e ∙ zeros-at 64 set in
     record { entries = λ set below. z set ∙ sym (ap (λ o. least (unwrap_or o []) set) none); others = λ set behind. z set }
 
 pub blank-small : (table : List ℕ) → table ≡ replicate 64 0 → IsSmall table
-blank-small table e = record { entries = λ set. let z = ap (λ t. slice_index t set) e ∙ get-replicate 64 set in omega arith }
+blank-small table e = record { entries = λ set. let z = ap (λ t. slice_index t set) e ∙ zeros-at 64 set in omega arith }
 
 -- What the table of excesses is while the bidders are added: what the bidders from the next one on demand is still to be added.
 pub record IsAddedUp (goods : List ℕ) (reports : List Report) (round bidders clock step : ℕ) (table : List ℤ) : Type 0 where

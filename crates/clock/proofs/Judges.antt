@@ -12,9 +12,9 @@ use Rattle.clock.specs.Reports.{ClockHistory, demand_in}
 use Rattle.clock.specs.Standing.{phase_of, last_round}
 use Rattle.clock.specs.Judging.{IsMember, IsInRound, IsBeyond, IsJudgement, is_member, judgement_of, repeat_of, repeated, late_by}
 use Rattle.demand_set.proofs.Same.{same_pair, same_lists, same_self}
-use Rattle.clock.proofs.Path.{both}
+use Rattle.lot_base.proofs.Within.{both}
 
-same-means : (xs ys : List (List ℕ)) → (same_demand xs ys ≡ true → xs ≡ ys) × (xs ≡ ys → same_demand xs ys ≡ true)
+pub same-means : (xs ys : List (List ℕ)) → (same_demand xs ys ≡ true → xs ≡ ys) × (xs ≡ ys → same_demand xs ys ≡ true)
 same-means xs ys = (to, from)
   where
     to : same_demand xs ys ≡ true → xs ≡ ys

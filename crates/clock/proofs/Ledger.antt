@@ -19,7 +19,8 @@ use Rattle.lot_base.specs.declared.phases.Phase.{Phase}
 use Rattle.clock.specs.Accounts.{account_after, account_without}
 use Rattle.clock.specs.Kept.{IsKept}
 use Rattle.clock.specs.Tables.{is_member_of, AreTablesOf}
-use Rattle.clock.proofs.Path.{both, compare-or}
+use Rattle.lot_base.proofs.Within.{both}
+use Rattle.clock.proofs.Path.{compare-or}
 use Rattle.clock.proofs.Append.{least-stays, step-stays}
 
 -- what is demanded of the members but one is that of the table places but one

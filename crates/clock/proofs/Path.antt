@@ -1,20 +1,17 @@
 -- The steps that a clock has made, of which there are at most as many as prices can rise.
-use Rattle.std.proofs.Common.{◌≡◌, ◌≢◌, ◌<◌, ◌≤◌, ℕ, zero, suc, ◌+◌, ◌*◌, ◌/◌, ◌^◌, Bool, true, false, not, ◌&&◌, nat_eq, cond, List, [], ◌∷◌, length, replicate, Option, Some, None, is_none, refl, sym, ◌∙◌, ap, arith, inl, inr, ◌⊎◌, unwrap_or}
+use Rattle.std.proofs.Common.{◌≡◌, ◌≢◌, ◌<◌, ◌≤◌, ℕ, zero, suc, ◌+◌, ◌*◌, ◌^◌, Bool, true, false, not, ◌&&◌, nat_eq, cond, List, [], ◌∷◌, length, replicate, Option, Some, None, is_none, refl, sym, ◌∙◌, ap, arith, inl, inr, ◌⊎◌, unwrap_or}
 use Rattle.std.specs.Prelude.{find}
 use Rattle.std.specs.List.{range_with_len}
 use Rattle.std.proofs.lemmas.Bool.Decides.{nat_tests}
 use Rattle.std.proofs.Math.Nat.{eq-or-lt_of_le}
 use Rattle.std.proofs.lemmas.Nat.{pow_pos}
 use Rattle.std.proofs.lemmas.List.{length-replicate}
-use Rattle.lot_base.specs.Goods.{raised}
 use Rattle.lot_base.specs.Steps.{step_set}
+use Rattle.lot_base.proofs.Within.{both}
+use Rattle.lot_base.proofs.Cells.{length-raised}
 use Rattle.clock.specs.Reports.{ClockHistory}
 use Rattle.clock.specs.Standing.{HasSteps, step_set_after, leads_on, is_full_after, good_at_ceiling, prices_after, steps_from, steps_of}
 use Rattle.clock.proofs.Ceiling.{total, AllUpTo, raises}
-
-pub both : (a b : Bool) → (a && b) ≡ true → (a ≡ true) × (b ≡ true)
-both true b e = (refl, e)
-both false b e = absurd (let f : false ≡ true = e in cc)
 
 pub none-from : (o : Option ℕ) → is_none o ≡ true → o ≡ None
 none-from None e = refl
@@ -31,10 +28,6 @@ zeros-up ceiling (suc n) = (omega arith, zeros-up ceiling n)
 total-up : (ceiling : ℕ) (ps : List ℕ) → AllUpTo ceiling ps → total ps ≤ length ps * ceiling
 total-up ceiling [] up = omega arith
 total-up ceiling (p ∷ ps) up = let e = total-up ceiling ps up.1 in omega (arith, up.0)
-
-length-raised : (ps : List ℕ) (set : ℕ) → length (raised ps set) ≡ length ps
-length-raised [] set = refl
-length-raised (p ∷ ps) set = ap (λ n. suc n) (length-raised ps (set / 2))
 
 -- a number that is found is one of those looked at
 found-by : (b : Bool) (a top : ℕ) (rest : Option ℕ) → a < top → unwrap_or rest 0 < top → unwrap_or (cond b (Some a) rest) 0 < top

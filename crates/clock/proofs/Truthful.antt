@@ -21,7 +21,8 @@ use Rattle.clock.specs.Reports.{ClockHistory, opening_of, members_of, is_named, 
 use Rattle.clock.specs.Standing.{prices_after, step_set_after, is_full_after, good_at_ceiling, good_from, leads_on, phase_by, phase_of, prices_of, steps_of}
 use Rattle.clock.specs.Explained.{Explains, IsTrueReport}
 use Rattle.clock.specs.Accounts.{account_after, account_without}
-use Rattle.clock.proofs.Path.{both, has_steps}
+use Rattle.lot_base.proofs.Within.{both}
+use Rattle.clock.proofs.Path.{has_steps}
 
 -- the step sets of the first so many rounds
 unfoldable pub sets_of : ClockHistory → ℕ → List ℕ
@@ -58,7 +59,7 @@ found-true u c n j up (r ∷ reports) all e = by (is_named (n + 1) j r) refl (λ
         all.0 n up round ∙ ap (λ k. demand c.terms.goods (u k) (prices_after c n)) bidder
     by false named rest f = rest f
 
-members-true : (u : ℕ → List ℕ → ℤ) (c : ClockHistory) (n : ℕ) → n ≤ steps_of c → AllByRecursion (IsTrueReport u c) c.reports → (ms : List ℕ) → is_full ms c.reports (n + 1) ≡ true
+pub members-true : (u : ℕ → List ℕ → ℤ) (c : ClockHistory) (n : ℕ) → n ≤ steps_of c → AllByRecursion (IsTrueReport u c) c.reports → (ms : List ℕ) → is_full ms c.reports (n + 1) ≡ true
     → AllByRecursion (λ j. demands_in c.reports (n + 1) j ≡ demand c.terms.goods (u j) (prices_after c n)) ms
 members-true u c n up all [] full = tt
 members-true u c n up all (j ∷ ms) full =

@@ -7,12 +7,14 @@ use Rattle.clock.specs.Reports.{ClockHistory, members, members_of}
 use Rattle.settlement.specs.Clocks.{AreClocksOf}
 use Rattle.settlement.specs.Settling.{IsClockRow}
 use Rattle.settlement.specs.declared.outcome.ClockRow.{ClockRow}
-use Rattle.settlement.proofs.Members.{count-members, count-map, count-range}
-use Rattle.settlement.proofs.Zips.{map-push, all-push}
+use Rattle.std.proofs.lemmas.List.{length-map, map-append}
+use Rattle.std.proofs.lemmas.List.FromFn.{length-range_with_len}
+use Rattle.clock.proofs.Append.{all-push}
+use Rattle.settlement.proofs.Members.{count-members}
 use Rattle.settlement.proofs.Bounds.{choice-count, choice-small}
 
 pub count-clocks : (terms : Terms) (clocks : List ClockHistory) → AreClocksOf terms clocks → length clocks ≡ terms.bidders + 1
-count-clocks terms clocks h = sym (count-map (λ (c : ClockHistory). c.number) clocks) ∙ ap length h.numbers ∙ count-range 0 (terms.bidders + 1)
+count-clocks terms clocks h = sym (length-map clocks (λ (c : ClockHistory). c.number)) ∙ ap length h.numbers ∙ length-range_with_len 0 (terms.bidders + 1)
 
 -- the first clock has all bidders as members, and as many clocks stand behind it
 pub count-others : (terms : Terms) (clocks : List ClockHistory) (all : ClockHistory) → AreClocksOf terms clocks → all ≡ get_or clocks 0 all → length (members_of all) ≡ length (drop 1 clocks)
@@ -60,6 +62,6 @@ first-more terms count clocks next c h same number pushed =
     let z : count ≡ 0 + count = omega arith in
     let T : List ClockHistory → Type 0 = AllByRecursion (λ (c : ClockHistory). c.terms ≡ terms) in
     record {
-      numbers = ap (map N) pushed ∙ map-push N clocks c ∙ ap (λ ks. ks ++ c.number ∷ []) h.numbers ∙ ap (λ k. range_with_len 0 count ++ k ∷ []) (number ∙ z) ∙ sym (range-push 0 count) ∙ ap (range_with_len 0) n;
+      numbers = ap (map N) pushed ∙ map-append N clocks (c ∷ []) ∙ ap (λ ks. ks ++ c.number ∷ []) h.numbers ∙ ap (λ k. range_with_len 0 count ++ k ∷ []) (number ∙ z) ∙ sym (range-push 0 count) ∙ ap (range_with_len 0) n;
       terms_are = subst T (sym pushed) (all-push (λ (c : ClockHistory). c.terms ≡ terms) clocks c h.terms_are same);
     }

@@ -9,9 +9,11 @@ use Rattle.clock.specs.Reports.{ClockHistory, opening_of, members_of}
 use Rattle.clock.specs.Standing.{prices_of, steps_of, last_demands}
 use Rattle.clock.proofs.Ceiling.{AllUpTo}
 use Rattle.clock.proofs.Path.{on_the_path, has_steps, OnThePath}
+use Rattle.lot_base.proofs.Order.{box_size-some}
 use Rattle.award_assembly.proofs.Places.{first_choice-clearing}
 use Rattle.settlement.specs.Clocks.{choice_of}
-use Rattle.settlement.proofs.Members.{count-choice, count-map}
+use Rattle.std.proofs.lemmas.List.{length-map}
+use Rattle.settlement.proofs.Members.{count-choice}
 
 pub path-of : (c : ClockHistory) → OnThePath c (steps_of c)
 path-of c = on_the_path c (steps_of c) (has_steps c).before
@@ -29,7 +31,7 @@ choice-from c terms prices demands answer same p d e =
 
 -- a choice has a bundle for each member
 pub choice-count : (c : ClockHistory) (xs : List (List ℕ)) → choice_of c ≡ Some xs → length xs ≡ length (members_of c)
-choice-count c xs e = count-choice _ xs (choice-clears c xs e).chosen ∙ count-map (last_demands c) (members_of c)
+choice-count c xs e = count-choice _ xs (choice-clears c xs e).chosen ∙ length-map (members_of c) (last_demands c)
 
 cost-left : (p x y : List ℕ) → cost p x ≤ cost p (plus x y)
 cost-left [] x y = omega arith
@@ -51,15 +53,11 @@ each-cost p s (x ∷ xs) limit h =
     let b = cost-right p x (sum_of s xs) in
     (omega arith, each-cost p s xs limit (omega arith))
 
-box-some : (s : List ℕ) → 1 ≤ box_size s
-box-some [] = omega arith
-box-some (s ∷ supply) = let r = box-some supply in let m : (s + 1) * 1 ≤ (s + 1) * box_size supply = mul-le-mul_left (s + 1) r in omega arith
-
 -- a total that clears has at most as much of each good as a box that small has
 sum-up : (o p t s : List ℕ) → Clears o p t s → box_size s ≤ 2048 → AllUpTo 2047 t
 sum-up [] [] [] [] h small = tt
 sum-up (o ∷ os) (p ∷ ps) (t ∷ ts) (s ∷ ss) h small =
-    let k = box-some ss in
+    let k = box_size-some ss in
     let m : (s + 1) * 1 ≤ (s + 1) * box_size ss = mul-le-mul_left (s + 1) k in
     let n : 1 * box_size ss ≤ (s + 1) * box_size ss = mul-le-mul_right (box_size ss) (omega arith) in
     let low = h.0 in

@@ -1,8 +1,7 @@
 -- Clocks whose numbers are all known: whether they are legal, and explained by valuations, computes.
-use Rattle.std.proofs.Common.{◌≡◌, ◌≤◌, inl, inr, ℕ, ◌-◌, Bool, true, false, ◌&&◌, nat_eq, List, [], ◌∷◌, length, refl, sym, ◌∙◌, ap, subst, arith}
-use Rattle.std.specs.Prelude.{nat_le, int_le, zip, ℤ, pos, ◌+ℤ◌, ◌≤ℤ◌}
+use Rattle.std.proofs.Common.{◌≡◌, ◌≤◌, inl, inr, ℕ, ◌-◌, Bool, true, false, ◌&&◌, List, [], ◌∷◌, refl, sym, ◌∙◌, ap, subst, arith}
+use Rattle.std.specs.Prelude.{nat_le, int_le, ℤ, pos, ◌+ℤ◌, ◌≤ℤ◌}
 use Rattle.std.specs.List.{AllByRecursion, list_all}
-use Rattle.std.proofs.lemmas.Bool.Decides.{nat_tests}
 use Rattle.std.proofs.lemmas.Int.{ints}
 use Rattle.lot_base.specs.Box.{box, IsIn}
 use Rattle.lot_base.specs.Demands.{IsDemand}
@@ -13,13 +12,13 @@ use Rattle.lot_base.proofs.Lists.{IsIn-box}
 use Rattle.lot_base.proofs.Within.{both}
 use Rattle.demand_set.specs.declared.reports.Report.{Report}
 use Rattle.demand_set.specs.Same.{same_demand}
-use Rattle.demand_set.proofs.Same.{same_pair, same_lists}
 use Rattle.clock.specs.Reports.{ClockHistory, with_report, members_of, all_bidders}
 use Rattle.clock.specs.Standing.{prices_after}
 use Rattle.clock.specs.Judging.{judgement_of, TakesAll, IsLegal}
 use Rattle.clock.specs.Explained.{Explains, IsTrueReport}
 use Rattle.clock.specs.declared.judging.Judgement.{Judgement}
 use Rattle.clock.specs.declared.judging.Judgement.TheVariants.{Take, Again, NotMember, Early, Conflict, Over, NoRound}
+use Rattle.clock.proofs.Judges.{same-means}
 use Rattle.settlement.specs.Clocks.{AreClocksOf}
 use Rattle.settlement.specs.Settling.{IsOutcomeOf}
 use Rattle.settlement.specs.Efficient.{ExplainsAll}
@@ -33,13 +32,10 @@ use Rattle.settlement.proofs.Efficient.{efficient-if}
 abbrev pub is_true : (ℕ → List ℕ → ℤ) → ClockHistory → Report → Bool
 is_true u c r = nat_le 1 r.round && same_demand r.demand (demand c.terms.goods (u r.bidder) (prices_after c (r.round - 1)))
 
-same-from : (xs ys : List (List ℕ)) → same_demand xs ys ≡ true → xs ≡ ys
-same-from xs ys e = let h = both (nat_eq (length xs) (length ys)) (list_all same_pair (zip xs ys)) e in same_lists xs ys (let t = h.0 in grind (arith, nat_tests)) h.1
-
 true-report : (u : ℕ → List ℕ → ℤ) (c : ClockHistory) (r : Report) → is_true u c r ≡ true → IsTrueReport u c r × IsDemand c.terms.goods r.demand
 true-report u c r e =
     let h = both (nat_le 1 r.round) (same_demand r.demand (demand c.terms.goods (u r.bidder) (prices_after c (r.round - 1)))) e in
-    let same = same-from r.demand (demand c.terms.goods (u r.bidder) (prices_after c (r.round - 1))) h.1 in (
+    let same = (same-means r.demand (demand c.terms.goods (u r.bidder) (prices_after c (r.round - 1)))).0 h.1 in (
       λ steps up round. let n : r.round - 1 ≡ steps = omega arith in same ∙ ap (λ k. demand c.terms.goods (u r.bidder) (prices_after c k)) n,
       subst (IsDemand c.terms.goods) (sym same) (IsDemand-demand c.terms.goods (u r.bidder) (prices_after c (r.round - 1))),
     )

@@ -1,49 +1,30 @@
 -- A clock that has ended, and whose reports valuations explain: its choice is an equilibrium of its members.
-use Rattle.std.proofs.Common.{◌≡◌, ℕ, ◌+◌, Bool, true, false, nat_eq, cond, List, [], ◌∷◌, map, Some, is_some, refl, sym, ◌∙◌, ap, arith, subst}
-use Rattle.std.specs.Prelude.{find, option_map, unwrap_or, ℤ}
+use Rattle.std.proofs.Common.{◌≡◌, ℕ, true, List, [], ◌∷◌, map, Some, refl, sym, arith, subst}
+use Rattle.std.specs.Prelude.{ℤ}
 use Rattle.std.specs.List.{AllByRecursion, range_with_len}
-use Rattle.std.proofs.lemmas.Bool.Decides.{nat_tests}
 use Rattle.lot_base.specs.Economy.{demand}
 use Rattle.lot_base.specs.Choices.{IsClearingChoice}
 use Rattle.lot_base.specs.Equilibrium.{IsWalrasian}
 use Rattle.lot_base.specs.declared.phases.Phase.TheVariants.{Ended}
-use Rattle.demand_set.specs.declared.reports.Report.{Report}
 use Rattle.lyapunov.specs.Bidders.{AllDifferent, bundle_of}
 use Rattle.lyapunov.proofs.Bidders.{AllDifferent-range, AllDifferent-without, map-bundle_of}
 use Rattle.lyapunov.proofs.Duality.{clearing-walrasian}
-use Rattle.clock.specs.Reports.{ClockHistory, opening_of, members, members_of, is_named, demand_in, demands_in, is_full}
+use Rattle.clock.specs.Reports.{ClockHistory, opening_of, members, members_of, is_full}
 use Rattle.clock.specs.Standing.{prices_of, phase_of, steps_of, last_demands, last_round}
 use Rattle.clock.specs.Explained.{Explains, IsTrueReport}
-use Rattle.clock.proofs.Path.{both}
-use Rattle.clock.proofs.Truthful.{least-near}
+use Rattle.clock.proofs.Truthful.{least-near, members-true}
 use Rattle.settlement.specs.Clocks.{choice_of}
 use Rattle.settlement.proofs.Members.{full-ended}
 use Rattle.settlement.proofs.Bounds.{choice-clears, choice-count}
 
--- a report of the last round is the true demand there
-found-true : (u : ℕ → List ℕ → ℤ) (c : ClockHistory) (j : ℕ) → (reports : List Report) → AllByRecursion (IsTrueReport u c) reports → is_some (demand_in reports (last_round c) j) ≡ true
-    → demands_in reports (last_round c) j ≡ demand c.terms.goods (u j) (prices_of c)
-found-true u c j [] all e = absurd (let f : false ≡ true = e in cc)
-found-true u c j (r ∷ reports) all e = by (is_named (last_round c) j r) refl (λ later. found-true u c j reports all.1 later) e
-  where
-    by : (b : Bool) → is_named (last_round c) j r ≡ b → (is_some (demand_in reports (last_round c) j) ≡ true → demands_in reports (last_round c) j ≡ demand c.terms.goods (u j) (prices_of c))
-        → is_some (option_map (λ (x : Report). x.demand) (cond b (Some r) (find (is_named (last_round c) j) reports))) ≡ true
-        → unwrap_or (option_map (λ (x : Report). x.demand) (cond b (Some r) (find (is_named (last_round c) j) reports))) [] ≡ demand c.terms.goods (u j) (prices_of c)
-    by true named rest f =
-        let h = both (nat_eq r.round (last_round c)) (nat_eq r.bidder j) named in
-        let round : r.round ≡ steps_of c + 1 = (let t = h.0 in grind (arith, nat_tests)) in
-        let bidder : r.bidder ≡ j = (let t = h.1 in grind (arith, nat_tests)) in
-        all.0 (steps_of c) (omega arith) round ∙ ap (λ k. demand c.terms.goods (u k) (prices_of c)) bidder
-    by false named rest f = rest f
+same-map : {A B : Type 0} (f g : A → B) (xs : List A) → AllByRecursion (λ x. f x ≡ g x) xs → map f xs ≡ map g xs
+same-map f g [] all = refl
+same-map f g (x ∷ xs) all = let e = all.0 in let r = same-map f g xs all.1 in λ i. e i ∷ r i
 
-pub demands-true : (u : ℕ → List ℕ → ℤ) (c : ClockHistory) → AllByRecursion (IsTrueReport u c) c.reports → (ms : List ℕ) → is_full ms c.reports (last_round c) ≡ true
-    → map (last_demands c) ms ≡ map (λ j. demand c.terms.goods (u j) (prices_of c)) ms
-demands-true u c all [] full = refl
-demands-true u c all (j ∷ ms) full =
-    let h = both (is_some (demand_in c.reports (last_round c) j)) (is_full ms c.reports (last_round c)) full in
-    let x = found-true u c j c.reports all h.0 in
-    let y = demands-true u c all ms h.1 in
-    λ i. x i ∷ y i
+-- what the members demand in a full last round is what they truly demand there
+pub demands-true : (u : ℕ → List ℕ → ℤ) (c : ClockHistory) → AllByRecursion (IsTrueReport u c) c.reports → (js : List ℕ) → is_full js c.reports (last_round c) ≡ true
+    → map (last_demands c) js ≡ map (λ j. demand c.terms.goods (u j) (prices_of c)) js
+demands-true u c all js full = same-map (last_demands c) (λ j. demand c.terms.goods (u j) (prices_of c)) js (members-true u c (steps_of c) (omega arith) all js full)
 
 pub different-members : (n clock : ℕ) → AllDifferent (members n clock)
 different-members n clock = AllDifferent-without clock (range_with_len 1 n) (AllDifferent-range 1 n)

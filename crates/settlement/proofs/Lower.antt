@@ -8,6 +8,7 @@ use Rattle.lot_base.specs.declared.auction_terms.Terms.{Terms}
 use Rattle.lot_base.specs.declared.phases.Phase.TheVariants.{Ended}
 use Rattle.lyapunov.specs.Bidders.{IsOneOf}
 use Rattle.lyapunov.specs.Paths.{IsPath, HasEnded, prices_along, highest}
+use Rattle.lyapunov.proofs.Lattice.{AtMost-self}
 use Rattle.lyapunov.proofs.Without.{lower_at_end, fewer_without}
 use Rattle.clock.specs.Reports.{ClockHistory, opening_of, all_bidders, members}
 use Rattle.clock.specs.Standing.{phase_of, prices_of, steps_of}
@@ -64,10 +65,6 @@ lower-all u terms outcome all prices_are all_same all_members explains ended (ow
       lower-all u terms outcome all prices_are all_same all_members explains ended others rows same.1 own_explain.1 one.1 zip.1,
     )
 
-at-most-same : (p : List ℕ) → AtMost p p
-at-most-same [] = tt
-at-most-same (x ∷ p) = (omega arith, at-most-same p)
-
 -- and so of all clocks
 pub lower : (u : ℕ → List ℕ → ℤ) (terms : Terms) (outcome : Outcome) (all : ClockHistory) → outcome.prices ≡ prices_of all → all.terms ≡ terms → members terms.bidders all.number ≡ all_bidders terms.bidders
     → Explains u all → phase_of all ≡ Ended → (others : List ClockHistory) (rows : List ClockRow) → AllByRecursion (λ (c : ClockHistory). c.terms ≡ terms) others → ExplainsAll u others
@@ -77,4 +74,4 @@ lower u terms outcome all prices_are all_same all_members explains ended others 
     let p : row.prices ≡ outcome.prices = zip.0.prices_are ∙ sym prices_are in
     let P : List ℕ → Type 0 = λ q. AtMost q outcome.prices in
     let n : row.steps ≡ highest outcome.prices = zip.0.steps_are ∙ steps-are-highest u all explains ∙ ap highest (sym prices_are) in
-    ((subst P (sym p) (at-most-same outcome.prices), omega arith), lower-all u terms outcome all prices_are all_same all_members explains ended others rows same own_explain one zip.1)
+    ((subst P (sym p) (AtMost-self outcome.prices), omega arith), lower-all u terms outcome all prices_are all_same all_members explains ended others rows same own_explain one zip.1)

@@ -1,17 +1,17 @@
 -- The members of a clock in its last round: each has reported, and what they demand is a list in their order.
-use Rattle.std.proofs.Common.{◌≡◌, ◌≢◌, ◌<◌, ◌≤◌, ℕ, zero, suc, ◌+◌, ◌-◌, Bool, true, false, not, nat_eq, cond, List, [], ◌∷◌, ◌++◌, length, map, Option, Some, None, is_some, refl, sym, ◌∙◌, ap, subst, arith}
+use Rattle.std.proofs.Common.{◌≡◌, ◌≢◌, ◌<◌, ◌≤◌, ℕ, zero, suc, ◌+◌, ◌-◌, Bool, true, false, not, nat_eq, cond, List, [], ◌∷◌, ◌++◌, length, map, Option, is_some, refl, sym, ◌∙◌, ap, subst, arith}
 use Rattle.std.proofs.lemmas.Bool.Decides.{nat_tests}
-use Rattle.std.specs.Prelude.{filter, find, option_map}
+use Rattle.std.proofs.lemmas.List.{append_assoc, append-nil}
+use Rattle.std.specs.Prelude.{filter}
 use Rattle.std.specs.List.{AllByRecursion, range_with_len}
 use Rattle.lot_base.specs.Demands.{IsDemand}
 use Rattle.lot_base.specs.Choices.{IsChoice}
 use Rattle.lot_base.specs.declared.phases.Phase.TheVariants.{Running, Ended}
-use Rattle.demand_set.specs.declared.reports.Report.{Report}
-use Rattle.clock.specs.Reports.{ClockHistory, members, members_of, demand_in, is_full, is_named}
+use Rattle.clock.specs.Reports.{ClockHistory, members, members_of, demand_in, is_full}
 use Rattle.clock.specs.Standing.{phase_of, phase_by, steps_of, is_full_after, last_round, last_demands}
 use Rattle.clock.proofs.Members.{members_from, members-keep, members-skip}
-use Rattle.clock.proofs.Path.{both}
-use Rattle.settlement.proofs.Firsts.{find-some}
+use Rattle.lot_base.proofs.Within.{both}
+use Rattle.clock.proofs.Append.{all-push}
 
 -- a clock that has ended has a full last round
 full-by : (full empty : Bool) (good : Option ℕ) → phase_by full empty good ≡ Ended → full ≡ true
@@ -26,18 +26,6 @@ pub record IsCopied (c : ClockHistory) (goods : List ℕ) (step bidders : ℕ) (
   pub whole : demands ++ map (last_demands c) (members_from step bidders c.number) ≡ map (last_demands c) (members_of c)
   pub reported : is_full (members_from step bidders c.number) c.reports (last_round c) ≡ true
   pub fit : AllByRecursion (λ d. IsDemand goods d) demands
-
-append-one : {A : Type 0} (xs : List A) (y : A) (ys : List A) → (xs ++ y ∷ []) ++ ys ≡ xs ++ (y ∷ ys)
-append-one [] y ys = refl
-append-one (x ∷ xs) y ys = ap (λ zs. x ∷ zs) (append-one xs y ys)
-
-append-none : {A : Type 0} (xs : List A) → xs ++ [] ≡ xs
-append-none [] = refl
-append-none (x ∷ xs) = ap (λ zs. x ∷ zs) (append-none xs)
-
-all-push : {A : Type 0} (P : A → Type 0) (xs : List A) (x : A) → AllByRecursion P xs → P x → AllByRecursion P (xs ++ x ∷ [])
-all-push P [] x all p = (p, tt)
-all-push P (y ∷ ys) x all p = (all.0, all-push P ys x all.1 p)
 
 none-from : (n clock : ℕ) → members_from n n clock ≡ []
 none-from n clock = let e : n - n ≡ 0 = omega arith in ap (λ k. filter (λ j. not (nat_eq j clock)) (range_with_len (1 + n) k)) e
@@ -61,7 +49,7 @@ pub copied-keep : (c : ClockHistory) (goods : List ℕ) (step bidders : ℕ) (de
 copied-keep c goods step bidders demands next d h below other e fits pushed =
     let rest = map (last_demands c) (members_from (step + 1) bidders c.number) in
     record {
-      whole = ap (λ ds. ds ++ rest) pushed ∙ append-one demands d rest ∙ ap (λ x. demands ++ (x ∷ rest)) e ∙ ap (λ js. demands ++ map (last_demands c) js) (sym (members-keep step bidders c.number below other)) ∙ h.whole;
+      whole = ap (λ ds. ds ++ rest) pushed ∙ append_assoc demands (d ∷ []) rest ∙ ap (λ x. demands ++ (x ∷ rest)) e ∙ ap (λ js. demands ++ map (last_demands c) js) (sym (members-keep step bidders c.number below other)) ∙ h.whole;
       reported = (copied-reported c goods step bidders demands h below other).1;
       fit = let P : List (List (List ℕ)) → Type 0 = AllByRecursion (λ d. IsDemand goods d) in subst P (sym pushed) (all-push (λ d. IsDemand goods d) demands d h.fit fits);
     }
@@ -77,15 +65,7 @@ copied-skip c goods step bidders demands h below same =
 
 pub copied-end : (c : ClockHistory) (goods : List ℕ) (bidders : ℕ) (demands : List (List (List ℕ))) → IsCopied c goods bidders bidders demands → demands ≡ map (last_demands c) (members_of c)
 copied-end c goods bidders demands h =
-    sym (append-none demands) ∙ ap (λ js. demands ++ map (last_demands c) js) (sym (none-from bidders c.number)) ∙ h.whole
-
--- each report of a legal history demands what the supply has
-pub demand-fits : (goods : List ℕ) (reports : List Report) (round bidder : ℕ) (d : List (List ℕ)) → AllByRecursion (λ (r : Report). IsDemand goods r.demand) reports → demand_in reports round bidder ≡ Some d → IsDemand goods d
-demand-fits goods reports round bidder d all e = by (find (is_named round bidder) reports) refl e
-  where
-    by : (o : Option Report) → find (is_named round bidder) reports ≡ o → option_map (λ (r : Report). r.demand) o ≡ Some d → IsDemand goods d
-    by None f g = absurd (let k : None ≡ Some d = g in cc)
-    by (Some r) f g = let k : r.demand ≡ d = cc in subst (IsDemand goods) k (find-some (λ (r : Report). IsDemand goods r.demand) (is_named round bidder) reports r all f).1
+    sym (append-nil demands) ∙ ap (λ js. demands ++ map (last_demands c) js) (sym (none-from bidders c.number)) ∙ h.whole
 
 -- all bidders are members of the clock of all
 pub count-members : (n : ℕ) → length (members n 0) ≡ n
@@ -103,11 +83,3 @@ count-choice [] [] h = refl
 count-choice [] (x ∷ xs) h = absurd h
 count-choice (d ∷ ds) [] h = absurd h
 count-choice (d ∷ ds) (x ∷ xs) h = ap suc (count-choice ds xs h.1)
-
-pub count-map : {A B : Type 0} (f : A → B) (xs : List A) → length (map f xs) ≡ length xs
-count-map f [] = refl
-count-map f (x ∷ xs) = ap suc (count-map f xs)
-
-pub count-range : (a n : ℕ) → length (range_with_len a n) ≡ n
-count-range a zero = refl
-count-range a (suc n) = ap suc (count-range (a + 1) n)

@@ -2,6 +2,7 @@
 -- under each round and bidder, and stand alike.
 use Rattle.std.proofs.Common.{◌≡◌, ◌⊎◌, inl, inr, ◌<◌, ℕ, zero, suc, Bool, true, false, ◌&&◌, nat_eq, cond, List, [], ◌∷◌, ◌++◌, length, Option, Some, None, refl, sym, ◌∙◌, ap, subst, arith}
 use Rattle.std.proofs.lemmas.Bool.Decides.{nat_tests}
+use Rattle.std.proofs.lemmas.List.{append_assoc}
 use Rattle.std.specs.Prelude.{find, option_map, slice_index_or}
 use Rattle.std.specs.List.{Contains}
 use Rattle.demand_set.specs.declared.reports.Report.{Report}
@@ -9,7 +10,7 @@ use Rattle.clock.specs.Reports.{ClockHistory, with_report, demand_in, is_named}
 use Rattle.clock.specs.Judging.{IsJudgement, TakesAll, IsLegal}
 use Rattle.clock.specs.declared.judging.Judgement.{Judgement}
 use Rattle.clock.proofs.Judges.{judgement-is}
-use Rattle.clock.proofs.Path.{both}
+use Rattle.lot_base.proofs.Within.{both}
 use Rattle.settlement.specs.Alike.{HoldSame, StandAlike}
 use Rattle.settlement.proofs.Alike.{stand-alike}
 
@@ -26,10 +27,6 @@ contains-from : (xs : List Report) (r : Report) → In r xs → Contains xs r
 contains-from [] r h = absurd h
 contains-from (x ∷ xs) r (inl e) = (0, omega arith, e)
 contains-from (x ∷ xs) r (inr h) = let t = contains-from xs r h in let b = t.1 in (suc t.0, omega arith, t.2)
-
-append-one : (xs : List Report) (y : Report) (ys : List Report) → (xs ++ y ∷ []) ++ ys ≡ xs ++ (y ∷ ys)
-append-one [] y ys = refl
-append-one (x ∷ xs) y ys = ap (λ zs. x ∷ zs) (append-one xs y ys)
 
 -- behind reports of other names the report of a name is found
 find-behind : (test : Report → Bool) (xs ys : List Report) → find test xs ≡ None → find test (xs ++ ys) ≡ find test ys
@@ -57,7 +54,7 @@ taken-found c (x ∷ rest) r takes (inl e) =
     let P : Report → Type 0 = λ y. demand_in (c.reports ++ (x ∷ rest)) y.round y.bidder ≡ Some y.demand in
     subst P e (ap (option_map (λ (r : Report). r.demand)) here)
 taken-found c (x ∷ rest) r takes (inr h) =
-    ap (λ reports. demand_in reports r.round r.bidder) (sym (append-one c.reports x rest)) ∙ taken-found (with_report c x) rest r takes.1 h
+    ap (λ reports. demand_in reports r.round r.bidder) (sym (append_assoc c.reports (x ∷ []) rest)) ∙ taken-found (with_report c x) rest r takes.1 h
 
 legal-found : (c : ClockHistory) (r : Report) → IsLegal c → In r c.reports → demand_in c.reports r.round r.bidder ≡ Some r.demand
 legal-found c r legal h = taken-found (record c { reports = [] }) c.reports r legal.takes h

@@ -18,7 +18,7 @@ use Rattle.settlement.specs.Shapes.{IsOf, IsRowOfClock, ArePricesOfFirst, HasSha
 use Rattle.settlement.specs.declared.outcome.AwardRow.{AwardRow}
 use Rattle.settlement.specs.declared.outcome.ClockRow.{ClockRow}
 use Rattle.settlement.specs.declared.outcome.Outcome.{Outcome}
-use Rattle.settlement.proofs.Members.{demand-fits}
+use Rattle.clock.proofs.Excesses.{found-fits}
 use Rattle.settlement.proofs.Zips.{zip-length}
 use Rattle.settlement.proofs.Auction.{count-clocks}
 use Rattle.settlement.proofs.Bounds.{path-of, choice-clears, choice-count}
@@ -33,7 +33,7 @@ bundle-fits goods reports round bidder x all chosen = by (demand_in reports roun
   where
     by : (o : Option (List (List ℕ))) → demand_in reports round bidder ≡ o → IsIn x (unwrap_or o []) → IsOf (length goods) x
     by None e h = absurd h
-    by (Some d) e h = length-below x goods (in-all (λ y. AtMost y goods) d x (demand-fits goods reports round bidder d all e).in_box h)
+    by (Some d) e h = length-below x goods (in-all (λ y. AtMost y goods) d x (found-fits goods reports round bidder d all e).in_box h)
 
 choices-fit : (c : ClockHistory) (js : List ℕ) (xs : List (List ℕ)) → IsLegal c → IsChoice (map (last_demands c) js) xs → AllByRecursion (IsOf (length c.terms.goods)) xs
 choices-fit c [] [] legal h = tt

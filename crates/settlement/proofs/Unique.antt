@@ -3,24 +3,18 @@ use Rattle.std.proofs.Common.{◌≡◌, ℕ, List, [], ◌∷◌, map, refl, sy
 use Rattle.std.specs.Prelude.{ℤ, ◌-ℤ◌}
 use Rattle.std.specs.List.{AllZip}
 use Rattle.std.proofs.lemmas.Int.{ints}
-use Rattle.lot_base.specs.Goods.{AtMost}
 use Rattle.lot_base.specs.Equilibrium.{IsWelfare, IsVcgPayment, total_value, unsold_value}
 use Rattle.lot_base.specs.Economy.{without}
 use Rattle.lot_base.specs.declared.auction_terms.Terms.{Terms}
 use Rattle.lyapunov.specs.Bidders.{bundle_of}
+use Rattle.lyapunov.proofs.Lattice.{AtMost-same}
 use Rattle.clock.specs.Reports.{all_bidders, opening_of}
 use Rattle.settlement.specs.Efficient.{IsEfficient, PaysVcg, award_of}
 use Rattle.settlement.specs.declared.outcome.AwardRow.{AwardRow}
 use Rattle.settlement.specs.declared.outcome.Outcome.{Outcome}
 
-both-ways : (p q : List ℕ) → AtMost p q → AtMost q p → p ≡ q
-both-ways [] [] h k = refl
-both-ways [] (y ∷ q) h k = absurd h
-both-ways (x ∷ p) [] h k = absurd h
-both-ways (x ∷ p) (y ∷ q) h k = let a = h.0 in let b = k.0 in let e : x ≡ y = omega arith in let f = both-ways p q h.1 k.1 in λ i. e i ∷ f i
-
 pub one-price : (u : ℕ → List ℕ → ℤ) (terms : Terms) (o p : Outcome) → IsEfficient u terms o → IsEfficient u terms p → o.prices ≡ p.prices
-one-price u terms o p h k = both-ways o.prices p.prices (h.least.1 p.prices k.least.0) (k.least.1 o.prices h.least.0)
+one-price u terms o p h k = AtMost-same o.prices p.prices (h.least.1 p.prices k.least.0) (k.least.1 o.prices h.least.0)
 
 one-welfare : (s o : List ℕ) (u : ℕ → List ℕ → ℤ) (js : List ℕ) (a b : ℤ) → IsWelfare s o u js a → IsWelfare s o u js b → a ≡ b
 one-welfare s o u js a b h k =
