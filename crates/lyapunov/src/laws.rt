@@ -7,12 +7,13 @@ ghost use Rattle.lot_base.specs.Equilibrium.{IsAllocation, IsWelfare, IsWalrasia
 ghost use Rattle.lot_base.specs.Choices.{IsClearingChoice};
 ghost use Rattle.lot_base.specs.Steps.{excess};
 ghost use Rattle.lot_base.specs.RowsTables.{one, two};
-ghost use Rattle.lyapunov.specs.RowsPaths.{three_bidders, two_bidders};
+ghost use Rattle.lyapunov.specs.RowsPaths.{three_bidders, two_bidders, unequal_bidders};
 ghost use Rattle.lyapunov.specs.Bidders.{IsOneOf, AllDifferent, bundle_of};
 ghost use Rattle.lyapunov.specs.Paths.{true_step, prices_along, IsPath, HasEnded, account_along, payment_along, IsTrueChoice, highest, highest_rise, IsLeastNear, halfway_down, halfway_up};
 
 /// The premises can be met. Three bidders take one good in two units from 0 to 6, and two of them to 3. Two bidders raise one
-/// of two goods to 1 and stop there, where larger sets of goods are in balance too.
+/// of two goods to 1 and stop there, where larger sets of goods are in balance too. Two bidders take one good in two units to 8,
+/// where the first gets both and pays 11: that is what the other would have had, and not the price of 16.
 pub fn path_examples()
     ensures three { IsPath (one 2) three_bidders (1 ∷ 2 ∷ 3 ∷ []) (one 0) (1 ∷ 1 ∷ 1 ∷ 1 ∷ 1 ∷ 1 ∷ []) }
     ensures three_ended { HasEnded (one 2) three_bidders (1 ∷ 2 ∷ 3 ∷ []) (one 0) (1 ∷ 1 ∷ 1 ∷ 1 ∷ 1 ∷ 1 ∷ []) }
@@ -22,6 +23,8 @@ pub fn path_examples()
     ensures debit { account_along (one 2) three_bidders (2 ∷ 3 ∷ []) (one 0) (1 ∷ 1 ∷ 1 ∷ []) ≡ negsuc 3 }
     ensures two { IsPath (two 1 1) two_bidders (1 ∷ 2 ∷ []) (two 0 0) (1 ∷ []) }
     ensures two_ended { HasEnded (two 1 1) two_bidders (1 ∷ 2 ∷ []) (two 0 0) (1 ∷ []) }
+    ensures unequal { IsPath (one 2) unequal_bidders (1 ∷ 2 ∷ []) (one 0) (1 ∷ 1 ∷ 1 ∷ 1 ∷ 1 ∷ 1 ∷ 1 ∷ 1 ∷ []) }
+    ensures pays { IsVcgPayment (one 2) (one 0) unequal_bidders (1 ∷ 2 ∷ []) (bundle_of (1 ∷ 2 ∷ []) (one 2 ∷ one 0 ∷ [])) 1 (pos 11) }
 {}
 
 /// The Lyapunov function is convex: over the two price vectors halfway between two others, one rounded down and one rounded
