@@ -1,5 +1,6 @@
 //! What no clause says: that calls succeed where there is memory, and choices that were worked by hand.
 ghost use Rattle.std.specs.Prelude.{IfOk};
+ghost use Rattle.std.specs.List.{AllByRecursion};
 ghost use Rattle.lot_base.specs.Demands.{IsDemand};
 
 use crate::{Assembly, Choice, assemble};
@@ -27,6 +28,23 @@ fn read(
         quantities,
     };
     Demand::read(alloc, goods, &raw)
+}
+
+/// Twelve times the demand.
+fn twelve(
+    rt: &impl Abort,
+    alloc: Global,
+    goods: &Goods,
+    quantities: &[u16],
+) -> Result<Vec<Demand>, DemandFault>
+    ensures { IfOk result (λ v. AllByRecursion (λ d. IsDemand goods.now d) v.items) }
+{
+    let mut demands = Vec::new(alloc);
+    for _ in 0..12 {
+        let demand = read(rt, alloc, goods, quantities)?;
+        demands.push(demand)?;
+    }
+    Ok(demands)
 }
 
 /// The choice for two demands.
@@ -98,6 +116,27 @@ fn finds_no_choice(rt: HostRuntime) -> Result<(), Fail> {
     // Two units each of two.
     let none = choice_of(&rt, rt.alloc(), &[2], &[0], [&[2], &[2]])?;
     assert!(rt; none.is_none());
+    Ok(())
+}
+
+// Twelve report 170 or 177 units of 2,047 at a price: eleven take 170, and the last one the rest.
+#[test]
+fn shares_a_large_supply_among_twelve(rt: HostRuntime) -> Result<(), Fail> {
+    let alloc = rt.alloc();
+    let goods = Goods::new(&[2047])?;
+    let prices = Prices::read(&[1]).ok_or("prices")?;
+    assert_eq!(rt; prices.count(), goods.count());
+    let demands = twelve(&rt, alloc, &goods, &[170, 177])?;
+    match assemble(alloc, &goods, &prices, &demands)? {
+        Assembly::NoChoice => panic!(&rt; "no choice"),
+        Assembly::Award(choice) => {
+            assert_eq!(rt; choice.len(), 12);
+            for place in 0..11 {
+                assert!(rt; is_bundle(&choice.get(place), &[170])?, "for {place}");
+            }
+            assert!(rt; is_bundle(&choice.get(11), &[177])?);
+        }
+    }
     Ok(())
 }
 

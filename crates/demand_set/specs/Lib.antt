@@ -1,4 +1,5 @@
 pub mod Held
 pub mod Reading
 pub mod Same
+pub mod Slopes
 pub mod Sums

@@ -3,6 +3,7 @@ ghost use Rattle.std.specs.Prelude.{◌≡◌, ◌^◌, ◌<◌, ◌≤◌, ◌+
 ghost use Rattle.std.specs.List.{AllByRecursion};
 ghost use Rattle.lot_base.specs.Goods.{quantity_in};
 ghost use Rattle.lot_base.specs.Demands.{IsDemand, IsTable, least, greatest};
+ghost use Rattle.demand_set.specs.Slopes.{AreFalls, AreRises};
 ghost use Rattle.demand_set.specs.Sums.{AddsGood};
 
 use crate::reading::Demand;
@@ -12,7 +13,8 @@ impl Demand {
     /// The least quantity on each set of the goods, in one pass over the bundles.
     pub fn least_table(&self, goods: &Goods) -> LeastTable
         requires { IsDemand goods.now self.now }
-        ensures { IsTable (length goods.now) (least self.now) result.0 }
+        ensures table { IsTable (length goods.now) (least self.now) result.0 }
+        ensures falls { AreFalls goods.now self.now result.0 }
     {
         LeastTable(least_of(self.bundles(), goods.count()))
     }
@@ -20,7 +22,8 @@ impl Demand {
     /// The greatest quantity on each set of the goods, in one pass over the bundles.
     pub fn greatest_table(&self, goods: &Goods) -> LeastTable
         requires { IsDemand goods.now self.now }
-        ensures { IsTable (length goods.now) (greatest self.now) result.0 }
+        ensures table { IsTable (length goods.now) (greatest self.now) result.0 }
+        ensures rises { AreRises goods.now self.now result.0 }
     {
         LeastTable(greatest_of(self.bundles(), goods.count()))
     }

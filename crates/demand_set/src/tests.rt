@@ -90,6 +90,29 @@ fn writes_what_was_read(rt: HostRuntime) -> Result<(), Fail> {
     Ok(())
 }
 
+#[test]
+fn a_full_box_is_read_copied_and_written(rt: HostRuntime) -> Result<(), Fail> {
+    let goods = goods_of(&rt, &[3, 3, 3, 3, 3, 1]);
+    let mut quantities = Vec::new(rt.alloc());
+    for place in 0..goods.box_size() {
+        let x = goods.bundle(place);
+        for good in 0..x.count() {
+            quantities.push(x.quantity(good))?;
+        }
+    }
+    let demand = read(&rt, rt.alloc(), &goods, 6, &quantities)?;
+    assert_eq!(rt; demand.len(), 2048);
+    let Ok(copy) = demand.copy(rt.alloc()) else {
+        panic!(&rt; "no memory for the copy");
+    };
+    assert!(rt; copy.same(&demand));
+    let Ok(raw) = demand.raw(rt.alloc()) else {
+        panic!(&rt; "no memory for the quantities");
+    };
+    assert!(rt; raw.quantities.as_slice() == quantities.as_slice());
+    Ok(())
+}
+
 // Bundles (0,3), (1,1) and (2,0) have 3, 2 and 2 units of both goods together.
 #[test]
 fn tables_of_two_goods(rt: HostRuntime) -> Result<(), Fail> {

@@ -10,3 +10,5 @@ pub mod Limits
 pub mod RowsTables
 pub mod RowsMarkets
 pub mod RowsSteps
+pub mod RowsChoices
+pub mod RowsEdges

@@ -11,7 +11,7 @@ use Rattle.lot_base.specs.Economy.{indirect_utility, demand, sum_over, lyapunov,
 use Rattle.lot_base.specs.Equilibrium.{total_bundle, IsAllocation, total_value, worth, IsWelfare, AllDemanded, IsWalrasian}
 use Rattle.lot_base.specs.Choices.{sum_of, Clears, IsChoice, IsClearingChoice}
 use Rattle.lot_base.proofs.Vec.{cost-plus_right}
-use Rattle.lot_base.proofs.Demand.{surplus_bounds, worth_of_demanded, demand-IsIn}
+use Rattle.lot_base.proofs.Demand.{surplus_bounds, worth_of_demanded, demand-IsIn, AtMost-zeros}
 
 pub cost-zeros : (p s : List ℕ) → cost p (zeros s) ≡ 0
 cost-zeros [] s = refl
@@ -202,3 +202,20 @@ zeros-cost (m ∷ s) (a ∷ x) = let i = zeros-cost s x in omega arith
 
 pub worth-zeros : (s : List ℕ) (u : ℕ → List ℕ → ℤ) (js : List ℕ) (x : ℕ → List ℕ) → worth s (zeros s) u js x ≡ total_value u js x
 worth-zeros s u js x = let i = zeros-cost s s in let k = zeros-cost s (total_bundle s x js) in omega (arith, ints)
+
+-- the greatest worth is one number, and without bidders it is 0
+pub welfare-one : (s o : List ℕ) (u : ℕ → List ℕ → ℤ) (js : List ℕ) (w v : ℤ) → IsWelfare s o u js w → IsWelfare s o u js v → w ≡ v
+welfare-one s o u js w v a b =
+    let h = a.bound b.best b.allocation in
+    let k = b.bound a.best a.allocation in
+    let d = a.reached in
+    let e = b.reached in
+    omega (arith, ints)
+
+pub welfare-nobody : (s : List ℕ) (u : ℕ → List ℕ → ℤ) → IsWelfare s (zeros s) u [] (pos 0)
+welfare-nobody s u = record {
+  best = λ j. zeros s;
+  allocation = record { bundles = tt; within = AtMost-zeros s };
+  reached = worth-zeros s u [] (λ j. zeros s);
+  bound = λ x allocation. let e = worth-zeros s u [] x in omega (arith, ints);
+}

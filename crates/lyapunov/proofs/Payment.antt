@@ -13,7 +13,7 @@ use Rattle.lyapunov.specs.Bidders.{IsOneOf, AllDifferent, bundle_of}
 use Rattle.lyapunov.specs.Paths.{prices_along, account_along, payment_along, IsPath, IsTrueChoice}
 use Rattle.lyapunov.proofs.Bidders.{AllDifferent-without, map-bundle_of, length-choice, all-without, strong-without, sum-without}
 use Rattle.lyapunov.proofs.Moments.{account-rises, stands}
-use Rattle.lyapunov.proofs.Duality.{clearing-walrasian, cost-zeros, met, walrasian-worth, walrasian-welfare, cost-sold}
+use Rattle.lyapunov.proofs.Duality.{clearing-walrasian, cost-zeros, met, walrasian-worth, walrasian-welfare, welfare-one, cost-sold}
 
 cost-total : (s p : List ℕ) (x : ℕ → List ℕ) (js : List ℕ) → pos (cost p (total_bundle s x js)) ≡ sum_over (λ j. pos (cost p (x j))) js
 cost-total s p x [] = ap pos (cost-zeros p s)
@@ -67,3 +67,12 @@ choice-pays s o u js sets rests i xs ys different one all choice others other_ch
     account-pays s o u js i sets rests (bundle_of js xs) (bundle_of (without i js) ys) all.substitutes one all.goods
     (choice-walrasian s o u js sets xs different all choice)
     (choice-walrasian s o u (without i js) rests ys (AllDifferent-without i js different) others other_choice)
+
+-- at an allocation there is one such payment
+pub vcg-one : (s o : List ℕ) (u : ℕ → List ℕ → ℤ) (js : List ℕ) (x : ℕ → List ℕ) (i : ℕ) (pay other : ℤ)
+    → IsVcgPayment s o u js x i pay → IsVcgPayment s o u js x i other → pay ≡ other
+vcg-one s o u js x i pay other a b =
+    let e = welfare-one s o u (without i js) a.others b.others a.welfare b.welfare in
+    let h = a.pays in
+    let k = b.pays in
+    omega (arith, ints)

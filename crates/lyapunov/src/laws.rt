@@ -7,12 +7,13 @@ ghost use Rattle.lot_base.specs.Equilibrium.{IsAllocation, IsWelfare, IsWalrasia
 ghost use Rattle.lot_base.specs.Choices.{IsClearingChoice};
 ghost use Rattle.lot_base.specs.Steps.{excess};
 ghost use Rattle.lot_base.specs.RowsTables.{one, two};
-ghost use Rattle.lyapunov.specs.RowsPaths.{three_bidders, two_bidders};
+ghost use Rattle.lyapunov.specs.RowsPaths.{three_bidders, two_bidders, unequal_bidders};
 ghost use Rattle.lyapunov.specs.Bidders.{IsOneOf, AllDifferent, bundle_of};
 ghost use Rattle.lyapunov.specs.Paths.{true_step, prices_along, IsPath, HasEnded, account_along, payment_along, IsTrueChoice, highest, highest_rise, IsLeastNear, halfway_down, halfway_up};
 
 /// The premises can be met. Three bidders take one good in two units from 0 to 6, and two of them to 3. Two bidders raise one
-/// of two goods to 1 and stop there, where larger sets of goods are in balance too.
+/// of two goods to 1 and stop there, where larger sets of goods are in balance too. Two bidders take one good in two units to 8,
+/// where the first gets both and pays 11: that is what the other would have had, and not the price of 16.
 pub fn path_examples()
     ensures three { IsPath (one 2) three_bidders (1 ∷ 2 ∷ 3 ∷ []) (one 0) (1 ∷ 1 ∷ 1 ∷ 1 ∷ 1 ∷ 1 ∷ []) }
     ensures three_ended { HasEnded (one 2) three_bidders (1 ∷ 2 ∷ 3 ∷ []) (one 0) (1 ∷ 1 ∷ 1 ∷ 1 ∷ 1 ∷ 1 ∷ []) }
@@ -22,6 +23,8 @@ pub fn path_examples()
     ensures debit { account_along (one 2) three_bidders (2 ∷ 3 ∷ []) (one 0) (1 ∷ 1 ∷ 1 ∷ []) ≡ negsuc 3 }
     ensures two { IsPath (two 1 1) two_bidders (1 ∷ 2 ∷ []) (two 0 0) (1 ∷ []) }
     ensures two_ended { HasEnded (two 1 1) two_bidders (1 ∷ 2 ∷ []) (two 0 0) (1 ∷ []) }
+    ensures unequal { IsPath (one 2) unequal_bidders (1 ∷ 2 ∷ []) (one 0) (1 ∷ 1 ∷ 1 ∷ 1 ∷ 1 ∷ 1 ∷ 1 ∷ 1 ∷ []) }
+    ensures pays { IsVcgPayment (one 2) (one 0) unequal_bidders (1 ∷ 2 ∷ []) (bundle_of (1 ∷ 2 ∷ []) (one 2 ∷ one 0 ∷ [])) 1 (pos 11) }
 {}
 
 /// The Lyapunov function is convex: over the two price vectors halfway between two others, one rounded down and one rounded
@@ -109,7 +112,7 @@ pub fn choice_law()
 {}
 
 /// In a Walrasian equilibrium the allocation has the greatest worth of all, which is the Lyapunov function at the prices, and
-/// the prices minimise that function.
+/// the prices minimise that function. The greatest worth is one number.
 pub fn welfare_law()
     ensures welfare { (supply opening js p : List ℕ) (u : ℕ → List ℕ → ℤ) (x : ℕ → List ℕ) →
         IsWalrasian supply opening u js p x → IsWelfare supply opening u js (worth supply opening u js x) }
@@ -117,6 +120,8 @@ pub fn welfare_law()
         IsWalrasian supply opening u js p x → worth supply opening u js x ≡ lyapunov supply u js p }
     ensures minimiser { (supply opening js p : List ℕ) (u : ℕ → List ℕ → ℤ) (x : ℕ → List ℕ) →
         IsWalrasian supply opening u js p x → IsMinimiser opening (lyapunov supply u js) p }
+    ensures one { (supply opening js : List ℕ) (u : ℕ → List ℕ → ℤ) (w v : ℤ) →
+        IsWelfare supply opening u js w → IsWelfare supply opening u js v → w ≡ v }
 {}
 
 /// Where a path has ended, some choice of demanded bundles clears.
@@ -137,13 +142,16 @@ pub fn least_walrasian_law()
 {}
 
 /// A bidder pays what Vickrey, Clarke and Groves ask: the price of its award at the end of the path of all, more by what the
-/// others' account keeps on the path without it, and less by what that account keeps on the path of all.
+/// others' account keeps on the path without it, and less by what that account keeps on the path of all. What they ask is one
+/// number.
 pub fn payment_law()
-    ensures { (supply opening js sets rests : List ℕ) (u : ℕ → List ℕ → ℤ) (i : ℕ) (x y : ℕ → List ℕ) →
+    ensures pays { (supply opening js sets rests : List ℕ) (u : ℕ → List ℕ → ℤ) (i : ℕ) (x y : ℕ → List ℕ) →
         AllStrongSubstitutes supply u js → IsOneOf i js → length opening ≡ length supply →
         IsWalrasian supply opening u js (prices_along opening sets) x →
         IsWalrasian supply opening u (without i js) (prices_along opening rests) y →
         IsVcgPayment supply opening u js x i (payment_along supply u js opening sets rests i (x i)) }
+    ensures one { (supply opening js : List ℕ) (u : ℕ → List ℕ → ℤ) (i : ℕ) (x : ℕ → List ℕ) (pay other : ℤ) →
+        IsVcgPayment supply opening u js x i pay → IsVcgPayment supply opening u js x i other → pay ≡ other }
 {}
 
 /// The auction: where the bidders are all different, and the choices at the ends of the path of all and of the path without a
@@ -173,9 +181,11 @@ pub fn without_law()
 {}
 
 /// An opening of 0 is one per good and at most any prices, and the worth of an allocation is the summed value of the bidders.
+/// Without bidders that is 0.
 pub fn zero_opening_law()
     ensures goods { (supply : List ℕ) → length (zeros supply) ≡ length supply }
     ensures below { (supply p : List ℕ) → length p ≡ length supply → AtMost (zeros supply) p }
     ensures worth { (supply js : List ℕ) (u : ℕ → List ℕ → ℤ) (x : ℕ → List ℕ) →
         worth supply (zeros supply) u js x ≡ total_value u js x }
+    ensures nobody { (supply : List ℕ) (u : ℕ → List ℕ → ℤ) → IsWelfare supply (zeros supply) u [] (pos 0) }
 {}

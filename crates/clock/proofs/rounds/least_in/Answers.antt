@@ -14,7 +14,7 @@ pub returns-in-Some-clause-small : goal.returns-in-Some-clause-small
 returns-in-Some-clause-small c =
     let found : demand_in c.args.reports.now c.args.round c.args.bidder ≡ Some c.in-Some.demand.now = sym c.find_demand.ensures ∙ ap option_copied c.in-Some.is in
     small-table c.args.goods.now c.in-Some.demand.now c.least_table.result.0 c.requires.supply
-    (found-fits c.args.goods.now c.args.reports.now c.args.round c.args.bidder c.in-Some.demand.now c.requires.fit found) c.least_table.ensures
+    (found-fits c.args.goods.now c.args.reports.now c.args.round c.args.bidder c.in-Some.demand.now c.requires.fit found) c.least_table.ensures.table
 
 pub returns-in-None-clause-table : goal.returns-in-None-clause-table
 returns-in-None-clause-table c =

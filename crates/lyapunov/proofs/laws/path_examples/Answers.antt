@@ -1,4 +1,4 @@
-use Rattle.lyapunov.proofs.Examples.{three, three-ended, without_first, without_first-ended, credit, debit, both_goods, both_goods-ended}
+use Rattle.lyapunov.proofs.Examples.{three, three-ended, without_first, without_first-ended, credit, debit, both_goods, both_goods-ended, unequal, pays}
 use Rattle.lyapunov.proofs.laws.path_examples.Goals as goal
 
 pub returns-clause-three : goal.returns-clause-three
@@ -24,3 +24,9 @@ returns-clause-two c = both_goods
 
 pub returns-clause-two_ended : goal.returns-clause-two_ended
 returns-clause-two_ended c = both_goods-ended
+
+pub returns-clause-unequal : goal.returns-clause-unequal
+returns-clause-unequal c = unequal
+
+pub returns-clause-pays : goal.returns-clause-pays
+returns-clause-pays c = pays
