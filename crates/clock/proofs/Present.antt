@@ -12,7 +12,8 @@ use Rattle.clock.specs.declared.judging.Judgement.TheVariants.{Take, Again, NotM
 use Rattle.clock.specs.Reports.{demand_in, is_full, ClockHistory, members_of}
 use Rattle.clock.specs.Standing.{step_set_after, leads_on, is_full_after, good_at_ceiling}
 use Rattle.clock.specs.Judging.{is_member, judged, late_by, repeated, repeat_of}
-use Rattle.clock.proofs.Path.{both, compare-or}
+use Rattle.lot_base.proofs.Within.{both}
+use Rattle.clock.proofs.Path.{compare-or}
 use Rattle.clock.proofs.Append.{take-says}
 
 -- in a full round each member has a report
