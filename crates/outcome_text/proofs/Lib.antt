@@ -11,3 +11,4 @@ pub mod Made
 pub mod OutcomeNumbers
 pub mod Items
 pub mod JsonText
+pub mod OneOutcome

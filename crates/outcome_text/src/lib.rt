@@ -3,6 +3,7 @@
 
 mod building;
 pub mod json;
+pub mod laws;
 mod numerals;
 pub mod plain;
 pub mod reading;

@@ -15,13 +15,13 @@ use std::fmt::Write;
 pub fn write_plain(alloc: Global, outcome: &Outcome) -> Result<Vec<u8>, NoMemory>
     ensures { IfOk result (λ v. v.items ≡ plain_text outcome.now) }
 {
-    match outcome_text(alloc, outcome) {
+    match whole_text(alloc, outcome) {
         Ok(text) => Ok(text.into_bytes()),
         Err(_) => Err(NoMemory),
     }
 }
 
-fn outcome_text(alloc: Global, outcome: &Outcome) -> Result<String, AllocError>
+fn whole_text(alloc: Global, outcome: &Outcome) -> Result<String, AllocError>
     ensures { IfOk result (λ t. string_bytes t ≡ plain_text outcome.now) }
 {
     let goods = outcome.prices.count();

@@ -1,5 +1,5 @@
 use Rattle.outcome_text.proofs.PlainLines.{outcome-written}
-use Rattle.outcome_text.proofs.plain.outcome_text.Goals as goal
+use Rattle.outcome_text.proofs.plain.whole_text.Goals as goal
 
 pub returns : goal.returns
 returns c =
