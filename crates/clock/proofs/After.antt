@@ -1,5 +1,5 @@
 -- What a clock keeps, after a report and at first.
-use Rattle.std.proofs.Common.{◌≡◌, ◌<◌, ◌≤◌, inl, inr, ℕ, zero, suc, ◌+◌, true, false, not, ◌&&◌, nat_eq, List, [], ◌∷◌, ◌++◌, is_none, pos, ◌-ℤ◌, refl, sym, ◌∙◌, ap, arith, subst, length, take}
+use Rattle.std.proofs.Common.{◌≡◌, ◌<◌, ◌≤◌, inl, inr, ℕ, zero, suc, ◌+◌, true, false, not, ◌&&◌, nat_eq, List, [], ◌∷◌, ◌++◌, is_none, pos, ◌-ℤ◌, refl, sym, ◌∙◌, ap, arith, subst, length, take, drop}
 use Rattle.std.proofs.lemmas.Bool.Decides.{nat_tests}
 use Rattle.std.proofs.lemmas.Nat.{pow_pos}
 use Rattle.std.specs.List.{AllByRecursion}
@@ -18,12 +18,13 @@ use Rattle.clock.specs.Kept.{IsKept}
 use Rattle.clock.specs.Next.{IsNext}
 use Rattle.clock.proofs.Path.{both, has_steps, steps-only, one_more}
 use Rattle.step_choice.proofs.Order.{first_set-is}
-use Rattle.clock.proofs.Append.{legal-push, all-push, take-says, past-push, past-more, not_full-beyond, prices-stay, leads_on-stays}
+use Rattle.clock.proofs.Append.{legal-push, all-push, take-says, past-push, not_full-beyond, prices-stay, leads_on-stays}
 use Rattle.lot_base.specs.Economy.{without}
 use Rattle.credit_book.specs.Account.{Sums, sum_without}
 use Rattle.clock.specs.Accounts.{account_after}
 use Rattle.clock.proofs.Ledger.{account-stays, account-next, account-zero}
 use Rattle.clock.proofs.Next.{waits}
+use Rattle.clock.proofs.Present.{taken-now, drop-push, drop-whole, none-beyond}
 
 pub kept-path : (c : ClockHistory) (current steps : ℕ) (phase : Phase) (prices : List ℕ) (account : Sums) → IsKept c current steps phase prices account → (m : ℕ) → m < steps → leads_on c m ≡ true
 kept-path c current steps phase prices account k m below = (has_steps c).before m (omega (arith, k.steps_are))
@@ -62,9 +63,9 @@ legal-after c r legal take fit =
 
 -- what is kept, once it stands after how many steps the clock stops
 pub kept-from : (c : ClockHistory) (current steps n : ℕ) (phase : Phase) (prices : List ℕ) (account : Sums) → n ≡ steps → HasSteps c steps → steps ≤ 60000 → phase ≡ phase_after c steps → prices ≡ prices_after c steps
-    → current ≤ length c.reports → AllByRecursion (λ (r : Report). r.round ≤ steps) (take current c.reports) → AllByRecursion (λ (r : Report). r.round ≤ steps + 1) c.reports → IsLegal c
+    → current ≤ length c.reports → AllByRecursion (λ (r : Report). r.round ≤ steps) (take current c.reports) → AllByRecursion (λ (r : Report). r.round ≡ steps + 1) (drop current c.reports) → IsLegal c
     → account.steps ≡ steps → ((b : ℕ) → sum_without account b ≡ account_after c (without b (members_of c)) steps) → IsKept c current n phase prices account
-kept-from c current steps n phase prices account e has few phase_is prices_are begins past none_beyond legal account_steps account_is =
+kept-from c current steps n phase prices account e has few phase_is prices_are begins past present legal account_steps account_is =
     let P : ℕ → Type 0 = λ m. IsKept c current m phase prices account in
     subst P (sym e) (record {
       legal = legal;
@@ -74,7 +75,7 @@ kept-from c current steps n phase prices account e has few phase_is prices_are b
       prices_are = prices_are;
       begins = begins;
       past = past;
-      none_beyond = none_beyond;
+      present = present;
       account_steps = account_steps;
       account_is = account_is;
     })
@@ -90,7 +91,13 @@ after-kept c r current steps phase prices before account s k take fit next = by 
     says = let t = take-says c (steps_of c + 1) (phase_of c) r take in (t.0, (let u = t.1 in let v = k.steps_are in grind (arith, nat_tests)))
 
     none_beyond : AllByRecursion (λ (x : Report). x.round ≤ steps + 1) (c.reports ++ r ∷ [])
-    none_beyond = past-push (steps + 1) c.reports r k.none_beyond says.1
+    none_beyond = past-push (steps + 1) c.reports r (none-beyond current steps c.reports k.past k.present) says.1
+
+    present : AllByRecursion (λ (x : Report). x.round ≡ steps + 1) (drop current (c.reports ++ r ∷ []))
+    present =
+        let now = taken-now c steps (steps_of c + 1) (phase_of c) r (kept-path c current steps phase prices before k) (omega (arith, k.steps_are)) take in
+        let P : List Report → Type 0 = λ xs. AllByRecursion (λ (x : Report). x.round ≡ steps + 1) xs in
+        subst P (sym (drop-push current c.reports r k.begins)) (all-push (λ (x : Report). x.round ≡ steps + 1) (drop current c.reports) r k.present now)
 
     -- the steps before are as they were
     so_far : (b : ℕ) → sum_without before b ≡ account_after (with_report c r) (without b (members_of c)) steps
@@ -100,7 +107,7 @@ after-kept c r current steps phase prices before account s k take fit next = by 
     by (inl stays) =
         let P : ℕ → Type 0 = λ n. IsKept (with_report c r) n s.steps s.phase s.prices account in
         subst P (sym stays.current_is) (kept-from (with_report c r) current steps s.steps s.phase s.prices account stays.steps_are (record { before = path; stops = stays.stops }) k.few stays.phase_is stays.prices_are
-        (after-begins c r current steps phase prices before k) (after-past c r current steps phase prices before k) none_beyond (legal-after c r k.legal take fit)
+        (after-begins c r current steps phase prices before k) (after-past c r current steps phase prices before k) present (legal-after c r k.legal take fit)
         (ap (λ (a : Sums). a.steps) stays.account_is ∙ k.account_steps) (λ b. ap (λ a. sum_without a b) stays.account_is ∙ so_far b))
     by (inr more) =
         let beyond : is_full_after (with_report c r) (steps + 1) ≡ false = not_full-beyond (with_report c r) (steps + 1) (steps + 1 + 1) r.bidder says.0 (omega arith) none_beyond in
@@ -108,8 +115,9 @@ after-kept c r current steps phase prices before account s k take fit next = by 
         let further : (m : ℕ) → m < steps + 1 → leads_on (with_report c r) m ≡ true = λ m below. one_more (with_report c r) steps path more.goes m (omega arith) in
         let P : ℕ → Type 0 = λ n. IsKept (with_report c r) n s.steps s.phase s.prices account in
         let Q : List Report → Type 0 = λ xs. AllByRecursion (λ (x : Report). x.round ≤ steps + 1) xs in
+        let R : List Report → Type 0 = λ xs. AllByRecursion (λ (x : Report). x.round ≡ steps + 1 + 1) xs in
         subst P (sym more.current_is) (kept-from (with_report c r) (length (c.reports ++ r ∷ [])) (steps + 1) s.steps s.phase s.prices account more.steps_are (record { before = further; stops = w.1 }) more.few (more.phase_is ∙ sym w.0) more.prices_are
-        (omega arith) (subst Q (sym (take-whole (c.reports ++ r ∷ []))) none_beyond) (past-more (steps + 1) (steps + 1 + 1) _ (omega arith) none_beyond) (legal-after c r k.legal take fit)
+        (omega arith) (subst Q (sym (take-whole (c.reports ++ r ∷ []))) none_beyond) (subst R (sym (drop-whole (c.reports ++ r ∷ []))) tt) (legal-after c r k.legal take fit)
         (more.account_steps ∙ ap (λ n. n + 1) k.account_steps)
         (λ b. more.account_sums b ∙ ap (λ z. z -ℤ excess c.terms.goods (demands_in (c.reports ++ r ∷ []) (steps + 1)) (without b (members_of c)) (step_set_after (with_report c r) steps)) (so_far b)
         ∙ sym (account-next (with_report c r) (without b (members_of c)) steps)))
@@ -149,7 +157,7 @@ first-kept c s before account e number none empty next = by next
   where
     by : IsNext c 0 0 before account s → IsKept c s.current s.steps s.phase s.prices account
     by (inl stays) =
-        let P : List Report → Type 0 = λ reports. AllByRecursion (λ (r : Report). r.round ≤ 0 + 1) reports in
+        let P : List Report → Type 0 = λ reports. AllByRecursion (λ (r : Report). r.round ≡ 0 + 1) reports in
         let L : List Report → Type 0 = λ reports. IsLegal (record c { reports = reports }) in
         let K : ℕ → Type 0 = λ n. IsKept c n s.steps s.phase s.prices account in
         subst K (sym stays.current_is) (kept-from c 0 0 s.steps s.phase s.prices account stays.steps_are (record { before = λ m below. absurd (omega arith); stops = stays.stops }) (omega arith) stays.phase_is stays.prices_are

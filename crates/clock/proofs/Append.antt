@@ -102,10 +102,6 @@ pub past-push : (limit : ℕ) (reports : List Report) (r : Report) → AllByRecu
 past-push limit [] r past now = (now, tt)
 past-push limit (x ∷ reports) r past now = (past.0, past-push limit reports r past.1 now)
 
-pub past-more : (limit more : ℕ) (reports : List Report) → limit ≤ more → AllByRecursion (λ (x : Report). x.round ≤ limit) reports → AllByRecursion (λ (x : Report). x.round ≤ more) reports
-past-more limit more [] up past = tt
-past-more limit more (x ∷ reports) up past = (omega (arith, past.0), past-more limit more reports up past.1)
-
 absent-beyond : (limit round j : ℕ) (reports : List Report) → limit < round → AllByRecursion (λ (x : Report). x.round ≤ limit) reports → find (is_named round j) reports ≡ None
 absent-beyond limit round j [] beyond past = refl
 absent-beyond limit round j (x ∷ reports) beyond past =

@@ -51,3 +51,12 @@ current-means c kept current steps phase prices account list round k same whole 
     let P : ClockHistory → Type 0 = λ h. demand_in round (last_round h) j ≡ demand_in h.reports (last_round h) j in
     let Q : ℕ → Type 0 = λ n. demand_in round (n + 1) j ≡ demand_in c.reports (n + 1) j in
     subst P same (subst Q k.steps_are (demand-current current steps j c.reports round k.past (e ∙ ap (drop current) whole)))
+
+-- they are all of that round
+pub current-only : (c : ClockHistory) (kept : ClockHistory) (current steps : ℕ) (phase : Phase) (prices : List ℕ) (account : Sums) (list round : List Report) → IsKept c current steps phase prices account → c ≡ kept → list ≡ c.reports → round ≡ drop current list
+    → AllByRecursion (λ (r : Report). r.round ≡ last_round kept) round
+current-only c kept current steps phase prices account list round k same whole e =
+    let P : ClockHistory → Type 0 = λ h. AllByRecursion (λ (r : Report). r.round ≡ last_round h) round in
+    let Q : ℕ → Type 0 = λ n. AllByRecursion (λ (r : Report). r.round ≡ n + 1) round in
+    let R : List Report → Type 0 = λ rs. AllByRecursion (λ (r : Report). r.round ≡ steps + 1) rs in
+    subst P same (subst Q k.steps_are (subst R (sym (e ∙ ap (drop current) whole)) k.present))

@@ -5,6 +5,7 @@ pub mod Members
 pub mod Excesses
 pub mod Append
 pub mod Next
+pub mod Present
 pub mod Ledger
 pub mod After
 pub mod Judges

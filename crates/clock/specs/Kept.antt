@@ -1,5 +1,5 @@
 -- What a clock keeps beside its reports: how it stands, and where the reports of its last or current round begin.
-use Rattle.std.specs.Prelude.{◌≡◌, ◌≤◌, ◌+◌, ℕ, List, length, take}
+use Rattle.std.specs.Prelude.{◌≡◌, ◌≤◌, ◌+◌, ℕ, List, length, take, drop}
 use Rattle.std.specs.List.{AllByRecursion}
 use Rattle.lot_base.specs.declared.phases.Phase.{Phase}
 use Rattle.demand_set.specs.declared.reports.Report.{Report}
@@ -18,6 +18,6 @@ pub record IsKept (c : ClockHistory) (current steps : ℕ) (phase : Phase) (pric
   pub prices_are : prices ≡ prices_after c steps
   pub begins : current ≤ length c.reports
   pub past : AllByRecursion (λ (r : Report). r.round ≤ steps) (take current c.reports)
-  pub none_beyond : AllByRecursion (λ (r : Report). r.round ≤ steps + 1) c.reports
+  pub present : AllByRecursion (λ (r : Report). r.round ≡ steps + 1) (drop current c.reports)
   pub account_steps : account.steps ≡ steps
   pub account_is : (bidder : ℕ) → sum_without account bidder ≡ account_after c (without bidder (members_of c)) steps

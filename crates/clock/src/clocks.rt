@@ -62,6 +62,8 @@ impl Clock {
     ghost use Rattle.clock.specs.Accounts.{account_without};
     ghost use Rattle.credit_book.specs.Account.{sum_without};
     ghost use Rattle.clock.specs.declared.judging.Judgement.TheVariants.{Take};
+    ghost use Rattle.std.specs.List.{AllByRecursion};
+    ghost use Rattle.demand_set.specs.declared.reports.Report.{Report as ReportValue};
 
     /// A clock of these terms without reports.
     pub fn new(alloc: Global, terms: &Terms, number: u8) -> Result<Clock, NoMemory>
@@ -119,9 +121,10 @@ impl Clock {
         }
     }
 
-    /// The reports of the last or current round, and no report before it.
+    /// The reports of the last or current round.
     fn current_round(&self) -> &[Report]
-        ensures { (j : ℕ) → demand_in result.now (last_round self.now) j ≡ demand_in self.now.reports (last_round self.now) j }
+        ensures found { (j : ℕ) → demand_in result.now (last_round self.now) j ≡ demand_in self.now.reports (last_round self.now) j }
+        ensures only { AllByRecursion (λ (r : ReportValue). r.round ≡ last_round self.now) result.now }
     {
         self.reports.split_at(self.current).1
     }
