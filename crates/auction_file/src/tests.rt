@@ -7,6 +7,7 @@ use std::test::Fail;
 
 mod accepted;
 mod faults;
+mod odd;
 mod order;
 
 const HEAD: &str = "version = 1\nceiling = 10\n";
