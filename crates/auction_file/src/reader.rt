@@ -88,7 +88,7 @@ fn auction_from(
 /// The auction that the bytes of an auction file say, or the first fault in the order of the format.
 #[tactic(auto, unfolding(crate::specs::AuctionFile::auction_of))]
 pub fn read(alloc: Global, bytes: &[u8]) -> Result<Auction, AuctionFault>
-    requires { length bytes.now ≤ MOST_BYTES }
+    requires { length bytes.now ≤ 65536 }
     ensures read { IfOk result (λ auction. auction_of bytes.now ≡ Ok (listing_of auction)) }
     ensures refused { IfErr result (λ fault. fault ≢ AuctionFault.NoMemory → auction_of bytes.now ≡ Err fault) }
 {

@@ -123,13 +123,14 @@ fn reads_names_and_digests_up_to_their_limits(rt: HostRuntime) -> Result<(), Fai
 
 #[test]
 fn reads_a_file_of_the_most_bytes(rt: HostRuntime) -> Result<(), Fail> {
+    assert_eq!(rt; MOST_BYTES, 65_536);
     let mut text = format!(in rt.alloc(); "{HEAD}{GOODS}{BIDDERS}#")?;
-    for _ in 0..MOST_BYTES {
-        if text.len() < MOST_BYTES {
+    for _ in 0..65_536 {
+        if text.len() < 65_536 {
             text.push_str(" ")?;
         }
     }
-    assert_eq!(rt; text.len(), MOST_BYTES);
+    assert_eq!(rt; text.len(), 65_536);
     let found = answer_to(&rt, text.as_bytes())?;
     assert_eq!(rt; found.as_str(), "read");
     Ok(())
