@@ -71,6 +71,7 @@ impl<D: Disk> Journal<D> {
         self.disk.moment()
     }
 
+    /// Gives the disk back. Takes no memory.
     pub fn into_disk(self) -> D
         ensures { result ≡ self.disk }
     {

@@ -41,6 +41,7 @@ impl Places {
         items
     }
 
+    /// The places as a slice.
     pub fn as_slice(&self) -> &[Place]
         ensures { result.now ≡ self.now }
     {

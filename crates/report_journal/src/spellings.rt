@@ -15,6 +15,7 @@ pub const HEADER_LENGTH: usize = 42;
 /// No record ends past this offset.
 pub const GREATEST_END: u32 = 67_108_864;
 
+/// No payload has more bytes than this.
 pub const GREATEST_PAYLOAD: u32 = 32_768;
 
 /// The name of the format, the clock, the digest and a closed gate.

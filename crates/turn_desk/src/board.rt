@@ -23,8 +23,10 @@ pub(crate) const COUNT: usize = 2;
 /// The slot of the book.
 pub(crate) const BOOK: usize = 0;
 
+/// A seat at the table, with the view of the desk that it has.
 pub type Place<B> = Seat<Option<B>, View<<B as Book>::Entry, <B as Book>::Origin>>;
 
+/// The table of a desk, with its three words and its one slot.
 pub(crate) struct Board<B: Book> {
     pub(crate) table: Table<Option<B>, View<B::Entry, B::Origin>, Snapshot<B>, Turns<B>, Global>,
     ghost sized: { (table.shared.table_id.words ≡ 3) × (table.shared.table_id.slots ≡ 1) },

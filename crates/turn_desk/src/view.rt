@@ -10,6 +10,7 @@ pub enum Stage<E> {
     Holds(u64, LinkedList<E>, LinkedList<E>),
 }
 
+/// What a seat knows of the desk and of itself.
 pub struct View<E, O> {
     pub stage: Stage<E>,
     /// The history that it has seen.
