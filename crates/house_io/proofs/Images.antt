@@ -1,7 +1,8 @@
 -- What a crash may leave: the file of the last sync, and an image with other bytes in a range that was written.
-use Rattle.std.proofs.Common.{◌≡◌, ◌⊎◌, inl, inr, ⊎_elim, ℕ, zero, suc, ◌+◌, ◌<◌, ◌≤◌, List, [], ◌∷◌, ◌++◌, length, get_or, refl, ◌∙◌, subst, arith}
-use Rattle.house_io.specs.Moments.{Moment, IsImage, IsOutside, Torn, end_of}
+use Rattle.std.proofs.Common.{◌≡◌, ◌⊎◌, inl, inr, ⊎_elim, ℕ, zero, suc, ◌+◌, ◌<◌, ◌≤◌, List, [], ◌∷◌, ◌++◌, length, get_or, replicate, refl, ap, ◌∙◌, subst, arith}
+use Rattle.house_io.specs.Moments.{Moment, IsImage, IsOutside, Torn, end_of, overlaid}
 use Rattle.house_io.specs.Ranges.{latest_first}
+use Rattle.house_io.specs.Fills.{filled_with}
 use Rattle.house_io.specs.declared.recorded_file.Range.{Range}
 
 no_shorter_end : (n : ℕ) (ranges : List (ℕ × ℕ)) → n ≤ end_of n ranges
@@ -15,6 +16,11 @@ image_synced m = record { no_shorter = omega arith; no_longer = no_shorter_end (
 pub latest-push : (ranges : List Range) (others : List (ℕ × ℕ)) (range : Range) → latest_first (ranges ++ range ∷ []) others ≡ (range.at, range.length) ∷ latest_first ranges others
 latest-push [] others range = refl
 latest-push (r ∷ ranges) others range = latest-push ranges ((r.at, r.length) ∷ others) range
+
+-- one more range is filled
+pub filled-push : (byte : ℕ) (ranges : List Range) (range : Range) (file : List ℕ)
+    → filled_with byte (latest_first (ranges ++ range ∷ []) []) file ≡ overlaid (filled_with byte (latest_first ranges []) file) range.at (replicate range.length byte)
+filled-push byte ranges range file = ap (λ (rs : List (ℕ × ℕ)). filled_with byte rs file) (latest-push ranges [] range)
 
 -- a range of this offset and length is one of these
 abbrev pub Has : List (ℕ × ℕ) → ℕ → ℕ → Type 0

@@ -3,10 +3,10 @@ mod Fronts
 mod Reading
 mod Writing
 mod Counting
-mod Finding
 pub mod Moments
 pub mod Overlays
 mod Replays
 mod Images
 mod Shelving
+mod SureShelving
 mod ListShelving

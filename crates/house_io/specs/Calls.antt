@@ -22,6 +22,15 @@ total (Write at n ∷ calls) = n + total calls
 total (Tear at n ∷ calls) = total calls
 total (Sync ∷ calls) = total calls
 
+-- how many bytes may be written to a file in memory yet, and how many calls recorded
+pub record Room : Type 0 where
+  pub bytes : ℕ
+  pub calls : ℕ
+
+-- the room of a file that was made with this much
+abbrev pub whole_room : ℕ → Room
+whole_room room = record { bytes = room; calls = room }
+
 -- the room that a write of n bytes takes on a file of this length: its own bytes, and the gap before them
 abbrev pub room_for : ℕ → ℕ → ℕ → ℕ
 room_for at n long = n + (at - long)

@@ -15,4 +15,6 @@ pub mod Moments
 pub mod Calls
 pub mod Recorded
 pub mod Ranges
+pub mod Fills
+pub mod Opened
 pub mod Places

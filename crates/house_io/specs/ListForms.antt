@@ -1,7 +1,5 @@
 -- Forms in memory of which chosen calls fail: which calls these are, and what a source and a sink stand for.
-use Rattle.std.specs.Prelude.{ℕ, ◌+◌, ◌-◌, ◌^◌, min, List, Result, Ok, Err, Contains}
-use Rattle.house_io.specs.declared.Failed.{Failed}
-use Rattle.house_io.specs.Faults.{raised_by}
+use Rattle.std.specs.Prelude.{ℕ, ◌+◌, ◌-◌, ◌^◌, min, List, Contains}
 use Rattle.house_io.specs.SureForms.{Kept, empty_sink}
 
 -- The numbers of the calls that are to fail, counted from 0, and how many calls there were. That count stands still
@@ -21,11 +19,6 @@ IsToFail plan = Contains plan.failing plan.calls
 -- the plan after one more call
 abbrev pub counted : CallPlan → CallPlan
 counted plan = record plan { calls = min (plan.calls + 1) (2 ^ 64 - 1) }
-
--- the count of faults after a call
-abbrev pub faults_after : {T : Type 0} → Result T Failed → ℕ → ℕ
-faults_after (Ok answer) faults = faults
-faults_after (Err failed) faults = raised_by faults 1
 
 -- a source: what is left, the plan, and the count of its faults
 pub record ListedSource : Type 0 where

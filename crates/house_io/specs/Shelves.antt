@@ -1,5 +1,5 @@
 -- Files by name, and the counts of their faults. Of two files of one name the first counts.
-use Rattle.std.specs.Prelude.{◌≡◌, ◌≢◌, ◌≤◌, ℕ, Bool, List, [], Option, Some, None, bytes_eq, find, option_map, unwrap_or, Contains, IsTrue}
+use Rattle.std.specs.Prelude.{◌≡◌, ◌≢◌, ◌≤◌, ℕ, Bool, List, [], Option, Some, None, Result, Ok, Err, bytes_eq, find, option_map, unwrap_or, Contains, IsTrue}
 use Rattle.house_io.specs.Moments.{Moments, opened}
 use Rattle.house_io.specs.declared.shelves.Refusal.{Refusal}
 use Rattle.house_io.specs.declared.shelves.Refusal.TheVariants as why
@@ -72,6 +72,12 @@ IsRefused why.NoMemory before now = now ≡ before
 pub record Adds (name : List ℕ) (faults : ℕ) (before now : List ℕ → ℕ) : Type 0 where
   pub added : now name ≡ raised_by (before name) faults
   pub others : (other : List ℕ) → other ≢ name → now other ≡ before other
+
+-- An opening that fails is one more fault of its name. Any other changes no count.
+abbrev pub CountsOpening : {T : Type 0} → List ℕ → Result T Refusal → (List ℕ → ℕ) → (List ℕ → ℕ) → Type 0
+CountsOpening name (Ok answer) before now = (other : List ℕ) → now other ≡ before other
+CountsOpening name (Err why.Failed) before now = Adds name 1 before now
+CountsOpening name (Err why.NoMemory) before now = (other : List ℕ) → now other ≡ before other
 
 -- a name that was opened stays so
 abbrev pub KeepsNames : List (List ℕ) → List (List ℕ) → Type 0

@@ -1,6 +1,6 @@
 //! A disk over a real file. It counts its faults and tells no content.
-ghost use Rattle.std.specs.Prelude.{false, ◌≡◌, ◌≤◌, [], ℕ, length, IfOk};
-ghost use Rattle.house_io.specs.Faults.{HasCause};
+ghost use Rattle.std.specs.Prelude.{false, ◌≡◌, ◌≤◌, ◌↔◌, [], ℕ, length, IfOk, IsOk};
+ghost use Rattle.house_io.specs.Faults.{HasCause, faults_after};
 ghost use Rattle.house_io.specs.Moments.{opened};
 
 use crate::{Disk, Failed};
@@ -61,7 +61,8 @@ fn make_file<R: Files>(files: &R, name: &str) -> io::Result<R::File> {
 
 /// Counts a call that failed.
 fn counted<T: Drop>(outcome: io::Result<T>, faults: &mut u64) -> Result<T, Failed>
-    ensures { HasCause faults.old faults.new result }
+    ensures answer { IsOk result ↔ IsOk outcome }
+    ensures faults { faults.new ≡ faults_after result faults.old }
 {
     match outcome {
         Ok(value) => Ok(value),
@@ -94,15 +95,22 @@ impl<F: Read + Write + Seek + OpenFile> Disk for FileDisk<F> {
 
     ghost faults = { λ disk. disk };
 
-    fn moment(&self) -> u64 {
+    fn moment(&self) -> u64
+        ensures { result ≡ 0 }
+    {
         0
     }
 
-    fn size(&mut self) -> Result<u64, Failed> {
+    fn size(&mut self) -> Result<u64, Failed>
+        ensures { self.new ≡ faults_after result self.old }
+    {
         counted(self.file.seek(SeekFrom::End(0)), &mut self.faults)
     }
 
-    fn read_at(&mut self, at: u64, into: &mut [u8]) -> Result<usize, Failed> {
+    fn read_at(&mut self, at: u64, into: &mut [u8]) -> Result<usize, Failed>
+        ensures count { IfOk result (λ n. n ≤ length into.old) }
+        ensures faults { self.new ≡ faults_after result self.old }
+    {
         counted(self.file.seek(SeekFrom::Start(at)), &mut self.faults)?;
         match read_front(&mut self.file, into) {
             Ok(count) => Ok(count),
@@ -113,13 +121,17 @@ impl<F: Read + Write + Seek + OpenFile> Disk for FileDisk<F> {
         }
     }
 
-    fn write_at(&mut self, at: u64, from: &[u8]) -> Result<(), Failed> {
+    fn write_at(&mut self, at: u64, from: &[u8]) -> Result<(), Failed>
+        ensures { self.new ≡ faults_after result self.old }
+    {
         counted(self.file.seek(SeekFrom::Start(at)), &mut self.faults)?;
         counted(self.file.write_all(from), &mut self.faults)
     }
 
     /// Syncs the data and the length.
-    fn sync(&mut self) -> Result<(), Failed> {
+    fn sync(&mut self) -> Result<(), Failed>
+        ensures { self.new ≡ faults_after result self.old }
+    {
         counted(self.file.sync_data(), &mut self.faults)
     }
 }

@@ -1,6 +1,8 @@
 //! The files of the folder in which the program runs.
-ghost use Rattle.std.specs.Prelude.{◌≡◌, ◌<◌, ◌^◌, None, ℕ, List, []};
+ghost use Rattle.std.specs.Prelude.{◌≡◌, ◌<◌, ◌^◌, None, ℕ, List, [], IfOk, IfErr, OnOk, OnErr, Contains};
 ghost use Rattle.house_io.specs.Counts.{NamedCount, count_of, names_of};
+ghost use Rattle.house_io.specs.Shelves.{IfTells, ChangesNoFile, CountsOpening, RisesOnly, IsRefused, KeepsNames};
+ghost use Rattle.house_io.specs.declared.shelves.Refusal.TheVariants as why;
 
 use crate::file_disk::{FileDisk, open_file};
 use crate::real::FileSource;
@@ -48,7 +50,17 @@ impl<'a, R: Files> Shelf for FolderShelf<'a, R> {
 
     ghost opened = { λ shelf. names_of shelf };
 
-    fn source(&mut self, alloc: Global, name: &str) -> Result<FileSource<R::File>, Refusal> {
+    fn source(&mut self, alloc: Global, name: &str) -> Result<FileSource<R::File>, Refusal>
+        // It tells nothing.
+        ensures bytes { IfOk result (λ _. IfTells None (λ _. ⊥)) }
+        ensures fresh { IfOk result (λ source. source.faults ≡ 0) }
+        ensures counting { CountsOpening name.now result (count_of self.old) (count_of self.new) }
+        ensures memory { result ≡ Err why.NoMemory → self.new ≡ self.old }
+        ensures counts { RisesOnly name.now (count_of self.old) (count_of self.new) }
+        ensures refused { IfErr result (λ refusal. IsRefused refusal (count_of self.old name.now) (count_of self.new name.now)) }
+        ensures opened { OnOk result (Contains (names_of self.new) name.now) }
+        ensures kept { KeepsNames (names_of self.old) (names_of self.new) }
+    {
         if let Err(_) = self.tallies.begin(alloc, name) {
             return Err(Refusal::NoMemory);
         }
@@ -65,7 +77,18 @@ impl<'a, R: Files> Shelf for FolderShelf<'a, R> {
         self.tallies.raise(name, source.faults());
     }
 
-    fn disk(&mut self, alloc: Global, name: &str) -> Result<FileDisk<R::File>, Refusal> {
+    fn disk(&mut self, alloc: Global, name: &str) -> Result<FileDisk<R::File>, Refusal>
+        // It tells nothing.
+        ensures stands { IfOk result (λ _. IfTells None (λ _. ⊥)) }
+        ensures unchanged { OnErr result (ChangesNoFile None None) }
+        ensures fresh { IfOk result (λ disk. disk ≡ 0) }
+        ensures counting { CountsOpening name.now result (count_of self.old) (count_of self.new) }
+        ensures memory { result ≡ Err why.NoMemory → self.new ≡ self.old }
+        ensures counts { RisesOnly name.now (count_of self.old) (count_of self.new) }
+        ensures refused { IfErr result (λ refusal. IsRefused refusal (count_of self.old name.now) (count_of self.new name.now)) }
+        ensures opened { OnOk result (Contains (names_of self.new) name.now) }
+        ensures kept { KeepsNames (names_of self.old) (names_of self.new) }
+    {
         if let Err(_) = self.tallies.begin(alloc, name) {
             return Err(Refusal::NoMemory);
         }

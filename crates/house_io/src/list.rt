@@ -1,11 +1,11 @@
 //! A source and a sink in memory of which chosen calls fail.
 ghost use Rattle.std.specs.Prelude.{◌≡◌, ◌≤◌, ◌↔◌, ℕ, List, [], Option, Some, length, min, IsOk, IsErr, IfOk, OnOk, OnErr, IsOkAnd, IfSome};
-ghost use Rattle.house_io.specs.Faults.{HasCause};
+ghost use Rattle.house_io.specs.Faults.{HasCause, faults_after};
 ghost use Rattle.house_io.specs.Told.{IfTold};
 ghost use Rattle.house_io.specs.Sources.{Pulls};
 ghost use Rattle.house_io.specs.Sinks.{IsPart, Pushes};
 ghost use Rattle.house_io.specs.SureForms.{Keeps};
-ghost use Rattle.house_io.specs.ListForms.{ListedSource, ListedSink, IsToFail, counted, faults_after, fresh_source, fresh_sink};
+ghost use Rattle.house_io.specs.ListForms.{ListedSource, ListedSink, IsToFail, counted, fresh_source, fresh_sink};
 
 use crate::failing::FailingCalls;
 use crate::{Failed, Sink, Source, SureSink, SureSource};

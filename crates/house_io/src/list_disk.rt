@@ -1,8 +1,10 @@
 //! A disk in memory, of which chosen calls fail.
 ghost use Rattle.std.specs.Prelude.{◌≡◌, ◌↔◌, ◌-◌, IsTrue, IfOk, OnOk, OnErr, IsErr, length, take, drop, min};
-ghost use Rattle.house_io.specs.ListForms.{begun, counted, IsToFail, faults_after};
+ghost use Rattle.house_io.specs.Faults.{faults_after};
+ghost use Rattle.house_io.specs.ListForms.{begun, counted, IsToFail};
 ghost use Rattle.house_io.specs.Moments.{IsImage, opened, wrote, synced_at};
 ghost use Rattle.house_io.specs.Calls.{tore, room_for};
+ghost use Rattle.house_io.specs.Fills.{image_of};
 
 use crate::failing::FailingCalls;
 use crate::{Disk, Failed, Fill, RecordedFile};
@@ -52,7 +54,8 @@ impl ListDisk {
 
     /// An image: what a crash now may leave, with this in the ranges that were written since the last good sync.
     pub fn image(&self, alloc: Global, fill: Fill) -> Result<Vec<u8>, NoMemory>
-        ensures { IfOk result (λ image. IsTrue self.now.file.told → IsImage (moments_of self.now.file).now image.items) }
+        ensures image { IfOk result (λ image. IsTrue self.now.file.told → IsImage (moments_of self.now.file).now image.items) }
+        ensures fills { IfOk result (λ image. IsTrue self.now.file.told → image.items ≡ image_of fill (moments_of self.now.file).now) }
     {
         self.file.image(alloc, fill)
     }

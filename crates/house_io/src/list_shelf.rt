@@ -1,19 +1,18 @@
 //! Files in memory of which chosen calls fail.
-ghost use Rattle.std.specs.Prelude.{◌≡◌, [], ◌∷◌, ◌++◌, ℕ, List, Option, Some, None, true, IfOk, IfErr, OnOk, OnErr, IsTrue, Contains, MatchOption, string_bytes, option_map};
-ghost use Rattle.house_io.specs.Moments.{opened};
-ghost use Rattle.house_io.specs.Recorded.{moments_of};
+ghost use Rattle.std.specs.Prelude.{◌≡◌, ◌↔◌, [], ◌∷◌, ◌++◌, ℕ, List, Option, Some, None, true, IfOk, IfErr, OnOk, OnErr, IsTrue, IsSome, Contains, MatchOption, string_bytes, option_map};
+ghost use Rattle.house_io.specs.Recorded.{moments_of, room_of};
 ghost use Rattle.house_io.specs.Places.{HasNone, IsFirstAt};
 ghost use Rattle.house_io.specs.declared.shelves.Refusal.TheVariants as why;
-ghost use Rattle.house_io.specs.Shelves.{Adds, KeepsNames, RisesOnly, IsRefused, bytes_of, file_of, moments_at};
+ghost use Rattle.house_io.specs.Shelves.{Adds, CountsOpening, KeepsNames, RisesOnly, IsRefused, bytes_of, file_of, moments_at};
 ghost use Rattle.house_io.specs.Counts.{count_of, names_of};
-ghost use Rattle.house_io.specs.ListShelves.{Answers, fresh_shelf, listed_file, source_on, shown_files};
-ghost use Rattle.house_io.specs.ListForms.{IsToFail, counted};
-ghost use Rattle.house_io.specs.ListFiles.{files_as_listed, moments_in, entry_as_listed, entries_as_listed};
+ghost use Rattle.house_io.specs.ListShelves.{Answers, fresh_shelf, listed_file, source_on, shown_file, shown_files, disk_on, disk_at, bare, file_opened, with_closed, plan_after};
+ghost use Rattle.house_io.specs.ListForms.{IsToFail};
+ghost use Rattle.house_io.specs.ListFiles.{disk_as_listed, files_as_listed, entry_as_listed, entries_as_listed};
 
 use crate::failing::FailingCalls;
 use crate::shelved::ListEntry;
 use crate::tallies::Tallies;
-use crate::{ListDisk, ListSource, Refusal, Shelf};
+use crate::{ListDisk, ListSource, RecordedFile, Refusal, Shelf};
 use lot_base::NoMemory;
 use std::alloc::{AllocError, Global};
 use std::marker::Model;
@@ -78,7 +77,7 @@ impl ListShelf {
 
     /// The bytes of a file.
     pub fn file(&self, name: &str) -> Option<&[u8]>
-        ensures { MatchOption result (listed_file self.now.files name.now ≡ None) (λ bytes. option_map (λ file. file.moments.now.read) (listed_file self.now.files name.now) ≡ Some bytes.now) }
+        ensures { MatchOption result (listed_file self.now.files name.now ≡ None) (λ bytes. option_map (λ file. (shown_file file).moments.now.read) (listed_file self.now.files name.now) ≡ Some bytes.now) }
     {
         match file_named(&self.files, name) {
             Some(file) => Some(bytes_in(file)),
@@ -109,7 +108,7 @@ fn entries_of(alloc: Global, files: Vec<ListFile>) -> Result<Vec<ListEntry>, All
 
 /// What a read of a file gives.
 fn bytes_in(entry: &ListEntry) -> &[u8]
-    ensures { result.now ≡ (moments_in entry.now).now.read }
+    ensures { result.now ≡ (shown_file (entry_as_listed entry.now)).moments.now.read }
 {
     match &entry.disk {
         Some(disk) => disk.bytes(),
@@ -205,12 +204,18 @@ impl Shelf for ListShelf {
 
     fn disk(&mut self, alloc: Global, name: &str) -> Result<ListDisk, Refusal>
         ensures told { IfOk result (λ disk. IsTrue disk.file.told × (disk.faults ≡ 0)) }
-        ensures moments { IfOk result (λ disk. moments_of disk.file ≡ moments_at (shown_files self.old.files) name.now) }
+        ensures disk { IfOk result (λ disk. disk_as_listed disk ≡ disk_at self.old.files self.old.room name.now) }
+        ensures taken { OnOk result (listed_file self.new.files name.now ≡ Some (file_opened self.old.files name.now)) }
         ensures failed { result ≡ Err why.Failed → IsToFail self.old.plan }
         ensures planned { OnOk result (IsToFail self.old.plan → ⊥) }
-        ensures counted { OnOk result (self.new.plan ≡ counted self.old.plan) }
-        ensures same { OnErr result ((other : List ℕ) → file_of (shown_files self.new.files) other ≡ file_of (shown_files self.old.files) other) }
-        ensures others { (other : List ℕ) → (other ≡ name.now → ⊥) → file_of (shown_files self.new.files) other ≡ file_of (shown_files self.old.files) other }
+        ensures plan { self.new.plan ≡ plan_after result self.old.plan }
+        ensures unchanged { OnErr result ((other : List ℕ) → listed_file self.new.files other ≡ listed_file self.old.files other) }
+        ensures others { (other : List ℕ) → (other ≡ name.now → ⊥) → listed_file self.new.files other ≡ listed_file self.old.files other }
+        ensures counting { CountsOpening name.now result (count_of self.old.counts) (count_of self.new.counts) }
+        // And so, of what the shelf tells:
+        ensures moments { IfOk result (λ disk. moments_of disk.file ≡ moments_at (shown_files self.old.files) name.now) }
+        ensures same_shown { OnErr result ((other : List ℕ) → file_of (shown_files self.new.files) other ≡ file_of (shown_files self.old.files) other) }
+        ensures others_shown { (other : List ℕ) → (other ≡ name.now → ⊥) → file_of (shown_files self.new.files) other ≡ file_of (shown_files self.old.files) other }
         ensures counts { RisesOnly name.now (count_of self.old.counts) (count_of self.new.counts) }
         ensures refused { IfErr result (λ refusal. IsRefused refusal (count_of self.old.counts name.now) (count_of self.new.counts name.now)) }
         ensures rest { (self.new.room ≡ self.old.room) × (self.new.told ≡ self.old.told) }
@@ -237,22 +242,24 @@ impl Shelf for ListShelf {
     fn close_disk(&mut self, name: &str, disk: ListDisk)
         requires { Contains (names_of self.old.counts) name.now }
         ensures added { Adds name.now disk.faults (count_of self.old.counts) (count_of self.new.counts) }
+        ensures told { IsTrue self.new.told ↔ (IsTrue self.old.told × IsTrue disk.file.told × IsSome (listed_file self.old.files name.now)) }
+        ensures closed { IsTrue self.new.told → listed_file self.new.files name.now ≡ option_map (with_closed (disk_as_listed disk)) (listed_file self.old.files name.now) }
+        ensures others { (other : List ℕ) → (other ≡ name.now → ⊥) → listed_file self.new.files other ≡ listed_file self.old.files other }
+        // And so, of what the shelf tells:
         ensures left { IsTrue self.new.told → IsTrue disk.file.told × (option_map (λ file. file.moments) (file_of (shown_files self.new.files) name.now) ≡ Some (moments_of disk.file)) }
-        ensures others { (other : List ℕ) → (other ≡ name.now → ⊥) → file_of (shown_files self.new.files) other ≡ file_of (shown_files self.old.files) other }
-        ensures told { IsTrue self.new.told → IsTrue self.old.told }
+        ensures others_shown { (other : List ℕ) → (other ≡ name.now → ⊥) → file_of (shown_files self.new.files) other ≡ file_of (shown_files self.old.files) other }
+        ensures rest { (self.new.room ≡ self.old.room) × (self.new.plan ≡ self.old.plan) }
         ensures kept { KeepsNames (names_of self.old.counts) (names_of self.new.counts) }
     {
         let ListDisk { file, plan, faults } = disk;
         self.tallies.raise(name, faults);
+        if !file.told {
+            self.told = false;
+            return;
+        }
         match place_of(&self.files, name) {
-            Some(place) if file.told => {
-                self.files[place].disk = Some(ListDisk {
-                    file,
-                    plan,
-                    faults: 0,
-                });
-            }
-            _ => self.told = false,
+            Some(place) => keep(&mut self.files[place], file, plan),
+            None => self.told = false,
         }
     }
 }
@@ -272,8 +279,9 @@ fn place_of(files: &[ListEntry], name: &str) -> Option<usize>
 /// The disk that was closed on a file, which is taken out of it, or a new one on its bytes.
 fn disk_in(alloc: Global, entry: &mut ListEntry, room: u32) -> Result<ListDisk, NoMemory>
     ensures told { IfOk result (λ disk. IsTrue disk.file.told × (disk.faults ≡ 0)) }
-    ensures moments { IfOk result (λ disk. moments_of disk.file ≡ moments_in entry.old) }
-    ensures unchanged { OnErr result (moments_in entry.new ≡ moments_in entry.old) }
+    ensures disk { IfOk result (λ disk. disk_as_listed disk ≡ disk_on room (entry_as_listed entry.old)) }
+    ensures taken { OnOk result (entry_as_listed entry.new ≡ bare (entry_as_listed entry.old)) }
+    ensures unchanged { OnErr result (entry_as_listed entry.new ≡ entry_as_listed entry.old) }
     ensures name { entry.new.name ≡ entry.old.name }
 {
     match entry.disk.take() {
@@ -288,6 +296,19 @@ fn disk_in(alloc: Global, entry: &mut ListEntry, room: u32) -> Result<ListDisk, 
     }
 }
 
+/// Keeps a disk that was closed on a file, with its count at 0.
+fn keep(entry: &mut ListEntry, file: RecordedFile, plan: FailingCalls)
+    requires { IsTrue file.told }
+    ensures kept { entry_as_listed entry.new ≡ with_closed (record { moments = moments_of file; room = room_of file; plan = plan }) (entry_as_listed entry.old) }
+    ensures name { entry.new.name ≡ entry.old.name }
+{
+    entry.disk = Some(ListDisk {
+        file,
+        plan,
+        faults: 0,
+    });
+}
+
 /// The disk of a name, whose file is made where it is absent.
 fn disk_of(
     alloc: Global,
@@ -296,9 +317,10 @@ fn disk_of(
     room: u32,
 ) -> Result<ListDisk, NoMemory>
     ensures told { IfOk result (λ disk. IsTrue disk.file.told × (disk.faults ≡ 0)) }
-    ensures moments { IfOk result (λ disk. moments_of disk.file ≡ moments_at (shown_files (entries_as_listed files.old.items)) name.now) }
-    ensures unchanged { OnErr result ((other : List ℕ) → file_of (shown_files (entries_as_listed files.new.items)) other ≡ file_of (shown_files (entries_as_listed files.old.items)) other) }
-    ensures others { (other : List ℕ) → (other ≡ name.now → ⊥) → file_of (shown_files (entries_as_listed files.new.items)) other ≡ file_of (shown_files (entries_as_listed files.old.items)) other }
+    ensures disk { IfOk result (λ disk. disk_as_listed disk ≡ disk_at (entries_as_listed files.old.items) room name.now) }
+    ensures taken { OnOk result (listed_file (entries_as_listed files.new.items) name.now ≡ Some (file_opened (entries_as_listed files.old.items) name.now)) }
+    ensures unchanged { OnErr result ((other : List ℕ) → listed_file (entries_as_listed files.new.items) other ≡ listed_file (entries_as_listed files.old.items) other) }
+    ensures others { (other : List ℕ) → (other ≡ name.now → ⊥) → listed_file (entries_as_listed files.new.items) other ≡ listed_file (entries_as_listed files.old.items) other }
 {
     match place_of(files, name) {
         Some(place) => return disk_in(alloc, &mut files[place], room),
@@ -316,7 +338,7 @@ fn disk_of(
 
 /// Adds an empty file.
 fn push_file(alloc: Global, files: &mut Vec<ListEntry>, name: &str) -> Result<(), AllocError>
-    ensures added { OnOk result (shown_files (entries_as_listed files.new.items) ≡ shown_files (entries_as_listed files.old.items) ++ record { name = name.now; moments = opened [] } ∷ []) }
+    ensures added { OnOk result (entries_as_listed files.new.items ≡ entries_as_listed files.old.items ++ record { name = name.now; bytes = []; failing = []; closed = None } ∷ []) }
     ensures unchanged { OnErr result (files.new.items ≡ files.old.items) }
 {
     let name = String::from_str(alloc, name)?;

@@ -3,6 +3,7 @@ ghost use Rattle.std.specs.Prelude.{◌≡◌, ◌+◌, ◌-◌, ◌<◌, ◌≤
 ghost use Rattle.house_io.specs.Moments.{Moment, IsImage, Torn, overlaid, opened, wrote, synced_at};
 ghost use Rattle.house_io.specs.Calls.{replay, total, tore, room_for};
 ghost use Rattle.house_io.specs.Ranges.{latest_first};
+ghost use Rattle.house_io.specs.Fills.{filled_with, image_of};
 
 use lot_base::NoMemory;
 use std::alloc::{AllocError, Global};
@@ -171,7 +172,8 @@ impl RecordedFile {
 
     /// An image: what a crash now may leave, with this in the ranges that were written since the last good sync.
     pub fn image(&self, alloc: Global, fill: Fill) -> Result<Vec<u8>, NoMemory>
-        ensures { IfOk result (λ image. IsTrue self.now.told → IsImage (moments_of self.now).now image.items) }
+        ensures image { IfOk result (λ image. IsTrue self.now.told → IsImage (moments_of self.now).now image.items) }
+        ensures fills { IfOk result (λ image. IsTrue self.now.told → image.items ≡ image_of fill (moments_of self.now).now) }
     {
         match fill {
             Fill::Old => copy_of(alloc, &self.synced),
@@ -202,7 +204,8 @@ fn copy_of(alloc: Global, bytes: &[u8]) -> Result<Vec<u8>, NoMemory>
 
 /// The file with this byte throughout these ranges.
 fn filled(alloc: Global, bytes: &[u8], ranges: &[Range], byte: u8) -> Result<Vec<u8>, NoMemory>
-    ensures { IfOk result (λ image. (m : Moment) → IsImage m bytes.now → latest_first ranges.now [] ≡ m.ranges → IsImage m image.items) }
+    ensures image { IfOk result (λ image. (m : Moment) → IsImage m bytes.now → latest_first ranges.now [] ≡ m.ranges → IsImage m image.items) }
+    ensures filled { IfOk result (λ image. image.items ≡ filled_with byte (latest_first ranges.now []) bytes.now) }
 {
     let mut image = copy_of(alloc, bytes)?;
     for range in ranges {
@@ -215,7 +218,8 @@ fn filled(alloc: Global, bytes: &[u8], ranges: &[Range], byte: u8) -> Result<Vec
 
 /// Puts this byte throughout a range.
 fn fill_range(alloc: Global, image: &mut Vec<u8>, range: Range, byte: u8) -> Result<(), AllocError>
-    ensures { OnOk result (Torn range.at range.length image.old.items image.new.items) }
+    ensures torn { OnOk result (Torn range.at range.length image.old.items image.new.items) }
+    ensures filled { OnOk result (image.new.items ≡ overlaid image.old.items range.at (replicate range.length byte)) }
 {
     let at = range.at as usize;
     let piece = vec![in alloc; byte; range.length as usize]?;

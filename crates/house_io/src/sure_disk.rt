@@ -1,6 +1,7 @@
 //! A disk in memory that never fails.
-ghost use Rattle.std.specs.Prelude.{◌≡◌, IsTrue, IfOk};
-ghost use Rattle.house_io.specs.Moments.{opened};
+ghost use Rattle.std.specs.Prelude.{◌≡◌, ◌-◌, IsTrue, IfOk, IsOk, Ok, length, take, drop, min};
+ghost use Rattle.house_io.specs.Moments.{IsImage, opened, wrote, synced_at};
+ghost use Rattle.house_io.specs.Calls.{room_for};
 
 use crate::{Disk, Failed, RecordedFile};
 use lot_base::NoMemory;
@@ -36,7 +37,7 @@ impl SureDisk {
 }
 
 impl Disk for SureDisk {
-    ghost use Rattle.house_io.specs.Recorded.{moments_of};
+    ghost use Rattle.house_io.specs.Recorded.{moments_of, Takes};
 
     ghost tells = { λ d. d.file.told };
 
@@ -48,20 +49,35 @@ impl Disk for SureDisk {
         self.file.calls.len() as u64
     }
 
-    fn size(&mut self) -> Result<u64, Failed> {
+    fn size(&mut self) -> Result<u64, Failed>
+        ensures sure { result ≡ Ok (length self.old.file.bytes.items) }
+        ensures unchanged { self.new ≡ self.old }
+    {
         Ok(self.file.bytes.len() as u64)
     }
 
-    fn read_at(&mut self, at: u64, into: &mut [u8]) -> Result<usize, Failed> {
+    fn read_at(&mut self, at: u64, into: &mut [u8]) -> Result<usize, Failed>
+        ensures sure { result ≡ Ok (min (length into.old) (length self.old.file.bytes.items - at)) }
+        ensures bytes { IfOk result (λ n. take n into.new ≡ take n (drop at self.old.file.bytes.items)) }
+        ensures unchanged { self.new ≡ self.old }
+    {
         Ok(self.file.read_at(at, into))
     }
 
-    fn write_at(&mut self, at: u64, from: &[u8]) -> Result<(), Failed> {
+    fn write_at(&mut self, at: u64, from: &[u8]) -> Result<(), Failed>
+        ensures sure { IsOk result }
+        ensures takes { Takes (room_for at (length from.now) (length self.old.file.bytes.items)) self.old.file self.new.file }
+        ensures written { IsTrue self.new.file.told → moments_of self.new.file ≡ wrote at from.now (moments_of self.old.file) }
+    {
         self.file.write_at(at, from);
         Ok(())
     }
 
-    fn sync(&mut self) -> Result<(), Failed> {
+    fn sync(&mut self) -> Result<(), Failed>
+        ensures sure { IsOk result }
+        ensures takes { Takes 0 self.old.file self.new.file }
+        ensures synced { IsTrue self.new.file.told → moments_of self.new.file ≡ synced_at (moments_of self.old.file) }
+    {
         self.file.sync();
         Ok(())
     }

@@ -1,9 +1,8 @@
 //! Files in memory that never fail.
-ghost use Rattle.std.specs.Prelude.{◌≡◌, ◌<◌, [], ℕ, List, Option, Some, None, true, unwrap_or, option_map, ◌∷◌, ◌++◌, IfOk, IfErr, OnOk, OnErr, IsTrue, Contains, MatchOption, string_bytes};
+ghost use Rattle.std.specs.Prelude.{◌≡◌, ◌<◌, ◌↔◌, [], ℕ, List, Option, Some, None, true, unwrap_or, option_map, ◌∷◌, ◌++◌, IfOk, IfErr, OnOk, OnErr, IsTrue, IsSome, Contains, MatchOption, string_bytes};
 ghost use Rattle.house_io.specs.Places.{HasNone, IsFirstAt};
 ghost use Rattle.house_io.specs.Shelves.{file_of, bytes_of, moments_at, KeepsNames};
-ghost use Rattle.house_io.specs.SureFiles.{fresh_shelf, named_files, named_entries, entry_moments};
-ghost use Rattle.house_io.specs.Moments.{opened};
+ghost use Rattle.house_io.specs.SureFiles.{fresh_shelf, shelved_file, shown_file, shown_files, disk_on, disk_at, bare, file_opened, with_closed, as_shelved, files_as_shelved, entry_as_shelved, entries_as_shelved};
 ghost use Rattle.house_io.specs.Recorded.{moments_of};
 ghost use Rattle.house_io.specs.declared.shelves.Refusal.TheVariants as why;
 
@@ -36,11 +35,11 @@ impl Model for SureShelf {
 
     ghost Value = { Shelved };
 
-    ghost use Rattle.house_io.specs.SureFiles.{named_entries};
+    ghost use Rattle.house_io.specs.SureFiles.{entries_as_shelved};
     ghost use Rattle.house_io.specs.Counts.{names_of};
 
     ghost view = { λ shelf. record {
-      files = named_entries shelf.files.items;
+      files = entries_as_shelved shelf.files.items;
       opened = names_of shelf.tallies;
       room = shelf.room;
       told = shelf.told;
@@ -50,7 +49,7 @@ impl Model for SureShelf {
 impl SureShelf {
     /// A shelf with these files. The room is that of each disk that is opened on it.
     pub fn new(alloc: Global, files: Vec<SureFile>, room: u32) -> Result<SureShelf, NoMemory>
-        ensures { IfOk result (λ shelf. shelf ≡ fresh_shelf (named_files files.items) room) }
+        ensures { IfOk result (λ shelf. shelf ≡ fresh_shelf (files_as_shelved files.items) room) }
     {
         let Ok(files) = entries_of(alloc, files) else {
             return Err(NoMemory);
@@ -65,7 +64,7 @@ impl SureShelf {
 
     /// The bytes of a file.
     pub fn file(&self, name: &str) -> Option<&[u8]>
-        ensures { MatchOption result (bytes_of self.now.files name.now ≡ None) (λ bytes. bytes_of self.now.files name.now ≡ Some bytes.now) }
+        ensures { MatchOption result (bytes_of (shown_files self.now.files) name.now ≡ None) (λ bytes. bytes_of (shown_files self.now.files) name.now ≡ Some bytes.now) }
     {
         match place_of(&self.files, name) {
             Some(place) => Some(bytes_in(&self.files[place])),
@@ -75,7 +74,7 @@ impl SureShelf {
 }
 
 fn entries_of(alloc: Global, files: Vec<SureFile>) -> Result<Vec<SureEntry>, AllocError>
-    ensures { IfOk result (λ entries. named_entries entries.items ≡ named_files files.items) }
+    ensures { IfOk result (λ entries. entries_as_shelved entries.items ≡ files_as_shelved files.items) }
 {
     let mut entries = Vec::new(alloc);
     for file in files {
@@ -103,7 +102,7 @@ fn place_of(files: &[SureEntry], name: &str) -> Option<usize>
 
 /// What a read of a file gives.
 fn bytes_in(entry: &SureEntry) -> &[u8]
-    ensures { result.now ≡ (entry_moments entry.now).now.read }
+    ensures { result.now ≡ (shown_file (entry_as_shelved entry.now)).moments.now.read }
 {
     match &entry.disk {
         Some(disk) => disk.bytes(),
@@ -113,7 +112,7 @@ fn bytes_in(entry: &SureEntry) -> &[u8]
 
 /// A copy of the bytes of a file, or no bytes where it is absent.
 fn copy_of(alloc: Global, files: &[SureEntry], name: &str) -> Result<Vec<u8>, NoMemory>
-    ensures { IfOk result (λ bytes. bytes.items ≡ unwrap_or (bytes_of (named_entries files.now) name.now) []) }
+    ensures { IfOk result (λ bytes. bytes.items ≡ unwrap_or (bytes_of (shown_files (entries_as_shelved files.now)) name.now) []) }
 {
     match place_of(files, name) {
         Some(place) => match bytes_in(&files[place]).to_vec(alloc) {
@@ -127,8 +126,9 @@ fn copy_of(alloc: Global, files: &[SureEntry], name: &str) -> Result<Vec<u8>, No
 /// The disk that was closed on a file, which is taken out of it, or a new one on its bytes.
 fn disk_in(alloc: Global, entry: &mut SureEntry, room: u32) -> Result<SureDisk, NoMemory>
     ensures told { IfOk result (λ disk. IsTrue disk.file.told) }
-    ensures moments { IfOk result (λ disk. moments_of disk.file ≡ entry_moments entry.old) }
-    ensures unchanged { OnErr result (entry_moments entry.new ≡ entry_moments entry.old) }
+    ensures disk { IfOk result (λ disk. as_shelved disk ≡ disk_on room (entry_as_shelved entry.old)) }
+    ensures taken { OnOk result (entry_as_shelved entry.new ≡ bare (entry_as_shelved entry.old)) }
+    ensures unchanged { OnErr result (entry_as_shelved entry.new ≡ entry_as_shelved entry.old) }
     ensures name { entry.new.name ≡ entry.old.name }
 {
     match entry.disk.take() {
@@ -140,6 +140,15 @@ fn disk_in(alloc: Global, entry: &mut SureEntry, room: u32) -> Result<SureDisk, 
     }
 }
 
+/// Keeps a disk that was closed on a file.
+fn keep(entry: &mut SureEntry, disk: SureDisk)
+    requires { IsTrue disk.file.told }
+    ensures kept { entry_as_shelved entry.new ≡ with_closed (as_shelved disk) (entry_as_shelved entry.old) }
+    ensures name { entry.new.name ≡ entry.old.name }
+{
+    entry.disk = Some(disk);
+}
+
 /// The disk of a name, whose file is made where it is absent.
 fn disk_of(
     alloc: Global,
@@ -148,9 +157,10 @@ fn disk_of(
     room: u32,
 ) -> Result<SureDisk, NoMemory>
     ensures told { IfOk result (λ disk. IsTrue disk.file.told) }
-    ensures moments { IfOk result (λ disk. moments_of disk.file ≡ moments_at (named_entries files.old.items) name.now) }
-    ensures unchanged { OnErr result ((other : List ℕ) → file_of (named_entries files.new.items) other ≡ file_of (named_entries files.old.items) other) }
-    ensures others { (other : List ℕ) → (other ≡ name.now → ⊥) → file_of (named_entries files.new.items) other ≡ file_of (named_entries files.old.items) other }
+    ensures disk { IfOk result (λ disk. as_shelved disk ≡ disk_at (entries_as_shelved files.old.items) room name.now) }
+    ensures taken { OnOk result (shelved_file (entries_as_shelved files.new.items) name.now ≡ Some (file_opened (entries_as_shelved files.old.items) name.now)) }
+    ensures unchanged { OnErr result ((other : List ℕ) → shelved_file (entries_as_shelved files.new.items) other ≡ shelved_file (entries_as_shelved files.old.items) other) }
+    ensures others { (other : List ℕ) → (other ≡ name.now → ⊥) → shelved_file (entries_as_shelved files.new.items) other ≡ shelved_file (entries_as_shelved files.old.items) other }
 {
     match place_of(files, name) {
         Some(place) => return disk_in(alloc, &mut files[place], room),
@@ -168,7 +178,7 @@ fn disk_of(
 
 /// Adds an empty file.
 fn push_file(alloc: Global, files: &mut Vec<SureEntry>, name: &str) -> Result<(), AllocError>
-    ensures added { OnOk result (named_entries files.new.items ≡ named_entries files.old.items ++ record { name = name.now; moments = opened [] } ∷ []) }
+    ensures added { OnOk result (entries_as_shelved files.new.items ≡ entries_as_shelved files.old.items ++ record { name = name.now; bytes = []; closed = None } ∷ []) }
     ensures unchanged { OnErr result (files.new.items ≡ files.old.items) }
 {
     let name = String::from_str(alloc, name)?;
@@ -194,7 +204,7 @@ impl Shelf for SureShelf {
     ghost opened = { λ shelf. shelf.opened };
 
     fn source(&mut self, alloc: Global, name: &str) -> Result<SureSource, Refusal>
-        ensures bytes { IfOk result (λ source. source ≡ unwrap_or (bytes_of self.old.files name.now) []) }
+        ensures bytes { IfOk result (λ source. source ≡ unwrap_or (bytes_of (shown_files self.old.files) name.now) []) }
         ensures sure { IfErr result (λ refusal. refusal ≡ why.NoMemory) }
         ensures unchanged { OnErr result (self.new ≡ self.old) }
         ensures rest { self.new ≡ record self.old { opened = self.new.opened } }
@@ -217,10 +227,15 @@ impl Shelf for SureShelf {
 
     fn disk(&mut self, alloc: Global, name: &str) -> Result<SureDisk, Refusal>
         ensures told { IfOk result (λ disk. IsTrue disk.file.told) }
-        ensures moments { IfOk result (λ disk. moments_of disk.file ≡ moments_at self.old.files name.now) }
+        ensures disk { IfOk result (λ disk. as_shelved disk ≡ disk_at self.old.files self.old.room name.now) }
+        ensures taken { OnOk result (shelved_file self.new.files name.now ≡ Some (file_opened self.old.files name.now)) }
         ensures sure { IfErr result (λ refusal. refusal ≡ why.NoMemory) }
-        ensures same { OnErr result ((other : List ℕ) → file_of self.new.files other ≡ file_of self.old.files other) }
-        ensures others { (other : List ℕ) → (other ≡ name.now → ⊥) → file_of self.new.files other ≡ file_of self.old.files other }
+        ensures unchanged { OnErr result ((other : List ℕ) → shelved_file self.new.files other ≡ shelved_file self.old.files other) }
+        ensures others { (other : List ℕ) → (other ≡ name.now → ⊥) → shelved_file self.new.files other ≡ shelved_file self.old.files other }
+        // And so, of what the shelf tells:
+        ensures moments { IfOk result (λ disk. moments_of disk.file ≡ moments_at (shown_files self.old.files) name.now) }
+        ensures same_shown { OnErr result ((other : List ℕ) → file_of (shown_files self.new.files) other ≡ file_of (shown_files self.old.files) other) }
+        ensures others_shown { (other : List ℕ) → (other ≡ name.now → ⊥) → file_of (shown_files self.new.files) other ≡ file_of (shown_files self.old.files) other }
         ensures rest { (self.new.room ≡ self.old.room) × (self.new.told ≡ self.old.told) }
         ensures opened { OnOk result (Contains self.new.opened name.now) }
         ensures kept { KeepsNames self.old.opened self.new.opened }
@@ -235,14 +250,21 @@ impl Shelf for SureShelf {
     }
 
     fn close_disk(&mut self, name: &str, disk: SureDisk)
-        ensures left { IsTrue self.new.told → IsTrue disk.file.told × (option_map (λ file. file.moments) (file_of self.new.files name.now) ≡ Some (moments_of disk.file)) }
-        ensures others { (other : List ℕ) → (other ≡ name.now → ⊥) → file_of self.new.files other ≡ file_of self.old.files other }
-        ensures told { IsTrue self.new.told → IsTrue self.old.told }
+        ensures told { IsTrue self.new.told ↔ (IsTrue self.old.told × IsTrue disk.file.told × IsSome (shelved_file self.old.files name.now)) }
+        ensures closed { IsTrue self.new.told → shelved_file self.new.files name.now ≡ option_map (with_closed (as_shelved disk)) (shelved_file self.old.files name.now) }
+        ensures others { (other : List ℕ) → (other ≡ name.now → ⊥) → shelved_file self.new.files other ≡ shelved_file self.old.files other }
+        // And so, of what the shelf tells:
+        ensures left { IsTrue self.new.told → IsTrue disk.file.told × (option_map (λ file. file.moments) (file_of (shown_files self.new.files) name.now) ≡ Some (moments_of disk.file)) }
+        ensures others_shown { (other : List ℕ) → (other ≡ name.now → ⊥) → file_of (shown_files self.new.files) other ≡ file_of (shown_files self.old.files) other }
         ensures rest { (self.new.room ≡ self.old.room) × (self.new.opened ≡ self.old.opened) }
     {
+        if !disk.file.told {
+            self.told = false;
+            return;
+        }
         match place_of(&self.files, name) {
-            Some(place) if disk.file.told => self.files[place].disk = Some(disk),
-            _ => self.told = false,
+            Some(place) => keep(&mut self.files[place], disk),
+            None => self.told = false,
         }
     }
 }

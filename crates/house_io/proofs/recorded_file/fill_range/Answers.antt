@@ -3,8 +3,8 @@ use Rattle.house_io.specs.Moments.{Torn, overlaid}
 use Rattle.house_io.proofs.Overlays.{overlaid_torn}
 use Rattle.house_io.proofs.recorded_file.fill_range.Goals as goal
 
-pub returns : goal.returns
-returns c =
+pub returns-clause-torn : goal.returns-clause-torn
+returns-clause-torn c =
     let image = c.args.image.now.items in
     let piece = c.deref.result.now in
     let long : length piece ≡ c.args.range.length = search rules in

@@ -3,7 +3,7 @@ use Rattle.std.specs.Prelude.{option_map}
 use Rattle.house_io.specs.Counts.{names_of}
 use Rattle.house_io.specs.ListShelves.{ListedShelf, listed_file, source_on}
 use Rattle.house_io.specs.ListFiles.{entries_as_listed}
-use Rattle.house_io.proofs.Finding.{bytes_of-opened}
+use Rattle.house_io.proofs.ListShelving.{bytes_of-opened}
 use Rattle.house_io.proofs.list_shelf.ListShelfShelf.source.Goals as goal
 
 -- the bytes of the source are those of the file

@@ -1,0 +1,24 @@
+use Rattle.std.proofs.Common.{◌≡◌, ◌∙◌, ap}
+use Rattle.house_io.specs.Shelves.{moments_at}
+use Rattle.house_io.specs.ListShelves.{ListedShelf, listed_file, shown_files}
+use Rattle.house_io.specs.ListFiles.{entries_as_listed}
+use Rattle.house_io.proofs.ListShelving.{moments_at-shown, shown-same}
+use Rattle.house_io.proofs.list_shelf.ListShelfShelf.disk.Goals as goal
+
+pub returns-in-Ok-clause-moments : goal.returns-in-Ok-clause-moments
+returns-in-Ok-clause-moments c =
+    ap (λ disk. disk.moments) c.in-Ok.ensures.disk
+    ∙ moments_at-shown (entries_as_listed c.self.inside.files.items) c.self.inside.room c.args.name.now
+    ∙ ap (λ (shelf : ListedShelf). moments_at (shown_files shelf.files) c.args.name.now) c.self.view_is
+
+pub returns-in-Ok-clause-others_shown : goal.returns-in-Ok-clause-others_shown
+returns-in-Ok-clause-others_shown c other ne =
+    shown-same (entries_as_listed c.disk_of.new.files.items) c.args.self.now.files other (c.in-Ok.ensures.others other ne ∙ ap (λ (shelf : ListedShelf). listed_file shelf.files other) c.self.view_is)
+
+pub returns-in-Err-disk_of-clause-same_shown : goal.returns-in-Err-disk_of-clause-same_shown
+returns-in-Err-disk_of-clause-same_shown c other =
+    shown-same (entries_as_listed c.disk_of.new.files.items) c.args.self.now.files other (c.in-Err-disk_of.ensures.unchanged other ∙ ap (λ (shelf : ListedShelf). listed_file shelf.files other) c.self.view_is)
+
+pub returns-in-Err-disk_of-clause-others_shown : goal.returns-in-Err-disk_of-clause-others_shown
+returns-in-Err-disk_of-clause-others_shown c other ne =
+    shown-same (entries_as_listed c.disk_of.new.files.items) c.args.self.now.files other (c.in-Err-disk_of.ensures.others other ne ∙ ap (λ (shelf : ListedShelf). listed_file shelf.files other) c.self.view_is)

@@ -1,0 +1,7 @@
+-- A file that is open for reading.
+use Rattle.std.specs.Prelude.{ℕ}
+
+-- the file, and how often a call on it has failed
+pub record OpenedFile (F : Type 0) : Type 0 where
+  pub file : F
+  pub faults : ℕ
