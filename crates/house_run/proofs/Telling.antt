@@ -8,7 +8,7 @@ use Rattle.auction_file.specs.declared.faults.AuctionFault.{AuctionFault}
 use Rattle.auction_file.specs.declared.faults.AuctionFault.TheVariants as refused
 use Rattle.house_run.specs.Entries.{log_of}
 use Rattle.house_run.specs.Texts.{standing_of, check_text}
-use Rattle.house_run.specs.Ends.{ShelfSeen, SinkSeen, FoldJob, CheckJob, Job, Wrote, WroteLine, CommandEnds, RunEnds, auction_limit, content, log_limit, line_of}
+use Rattle.house_run.specs.Ends.{ShelfSeen, SinkSeen, FoldJob, CheckJob, Job, OnlyReads, Wrote, WroteLine, CommandEnds, RunEnds, auction_limit, content, file_name_of, log_limit, line_of}
 use Rattle.house_run.specs.Words.{Check, Command, Fold, Spells}
 use Rattle.house_run.specs.declared.ends.Ended.{Ended}
 use Rattle.house_run.specs.declared.ends.Ended.TheVariants as how
@@ -48,11 +48,11 @@ pub same-end : (sink : SinkSeen) (end made answer : Ended) → end ≡ made → 
 same-end sink end made answer e wrote = let P : Ended → Type 0 = λ x. WroteLine sink x answer in subst P (sym e) wrote
 
 -- the text of a job that was done is written
-pub job-done : (command : Command) (shelf : ShelfSeen) (sink : SinkSeen) (text written : List ℕ) (answer : Ended) → Job command shelf how.Done text → written ≡ text
+pub job-done : (command : Command) (shelf : ShelfSeen) (sink : SinkSeen) (text written : List ℕ) (answer : Ended) → Job command shelf how.Done text → OnlyReads (file_name_of command) shelf → written ≡ text
     → Wrote sink how.Done written answer → CommandEnds command shelf sink answer
-job-done command shelf sink text written answer job same wrote =
+job-done command shelf sink text written answer job reads same wrote =
     let P : List ℕ → Type 0 = λ t. Wrote sink how.Done t answer in
-    record { end = how.Done; text = text; job = job; wrote = subst P same wrote }
+    record { end = how.Done; text = text; job = job; reads = reads; wrote = subst P same wrote }
 
 -- any job may end for want of memory, without a text
 no-text : (command : Command) (shelf : ShelfSeen) → Job command shelf how.NoMemory []
@@ -60,9 +60,10 @@ no-text (Fold terms log) shelf = refl
 no-text (Check auction) shelf = refl
 
 -- the line of another end is written, or memory for it ran out
-pub job-ends : (command : Command) (shelf : ShelfSeen) (sink : SinkSeen) (end answer : Ended) → Job command shelf end (line_of end) → WroteLine sink end answer → CommandEnds command shelf sink answer
-job-ends command shelf sink end answer job (inl wrote) = record { end = end; text = line_of end; job = job; wrote = wrote }
-job-ends command shelf sink end answer job (inr wrote) = record { end = how.NoMemory; text = []; job = no-text command shelf; wrote = wrote }
+pub job-ends : (command : Command) (shelf : ShelfSeen) (sink : SinkSeen) (end answer : Ended) → Job command shelf end (line_of end) → OnlyReads (file_name_of command) shelf → WroteLine sink end answer
+    → CommandEnds command shelf sink answer
+job-ends command shelf sink end answer job reads (inl wrote) = record { end = end; text = line_of end; job = job; reads = reads; wrote = wrote }
+job-ends command shelf sink end answer job reads (inr wrote) = record { end = how.NoMemory; text = []; job = no-text command shelf; reads = reads; wrote = wrote }
 
 -- the words are this command, and it ends
 pub command-ends : (command : Command) (words : List (List ℕ)) (shelf : ShelfSeen) (sink : SinkSeen) (answer : Ended) → Spells command words → CommandEnds command shelf sink answer → RunEnds words shelf sink answer

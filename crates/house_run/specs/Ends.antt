@@ -4,7 +4,7 @@ use Rattle.std.specs.Prelude.{◌≡◌, ◌≢◌, ◌<◌, ◌≤◌, ◌-◌,
 use Rattle.std.specs.declared.alloc.Global.{Global}
 use Rattle.house_io.specs.Faults.{Rose}
 use Rattle.house_io.specs.Told.{IfTold}
-use Rattle.house_io.specs.Shelves.{NamedFile, IfTells, bytes_of}
+use Rattle.house_io.specs.Shelves.{NamedFile, IfTells, ChangesNone, RisesOnly, bytes_of}
 use Rattle.lot_base.specs.declared.auction_terms.Terms.{Terms}
 use Rattle.clock.specs.Reports.{ClockHistory}
 use Rattle.outcome_text.specs.Lines.{line}
@@ -20,9 +20,18 @@ use Rattle.house_run.specs.declared.ends.File.TheVariants as which
 
 -- the shelf of a call: its files, where they are told, and the counts of faults by name as the call began and as it ended
 pub record ShelfSeen : Type 0 where
+  pub files_before : Option (List NamedFile)
   pub files : Option (List NamedFile)
   pub faults_before : List ℕ → ℕ
   pub faults : List ℕ → ℕ
+
+abbrev pub shelf_seen : {H : Type 0} → (H → Option (List NamedFile)) → (H → List ℕ → ℕ) → H → H → ShelfSeen
+shelf_seen files faults before after = record {
+  files_before = files before;
+  files = files after;
+  faults_before = faults before;
+  faults = faults after;
+}
 
 -- the sink of a call: the bytes written, where they are told, and the count of its faults, as the call began and as it ended
 pub record SinkSeen : Type 0 where
@@ -30,6 +39,24 @@ pub record SinkSeen : Type 0 where
   pub written : Option (List ℕ)
   pub faults_before : ℕ
   pub faults : ℕ
+
+abbrev pub sink_seen : {S : Type 0} → (S → Option (List ℕ)) → (S → ℕ) → S → S → SinkSeen
+sink_seen written faults before after = record {
+  written_before = written before;
+  written = written after;
+  faults_before = faults before;
+  faults = faults after;
+}
+
+-- nothing was done to the shelf
+pub record IsUntouched (shelf : ShelfSeen) : Type 0 where
+  pub files_same : shelf.files ≡ shelf.files_before
+  pub faults_same : (name : List ℕ) → shelf.faults name ≡ shelf.faults_before name
+
+-- no file was changed, and only calls on the file of this name failed
+pub record OnlyReads (name : List ℕ) (shelf : ShelfSeen) : Type 0 where
+  pub unchanged : ChangesNone shelf.files_before shelf.files
+  pub counts : RisesOnly name shelf.faults_before shelf.faults
 
 -- the bytes of a file, none where it is absent
 abbrev pub content : List NamedFile → List ℕ → List ℕ
@@ -90,6 +117,11 @@ abbrev pub Job : Command → ShelfSeen → Ended → List ℕ → Type 0
 Job (Fold terms log) shelf end text = FoldJob terms log shelf end text
 Job (Check auction) shelf end text = CheckJob auction shelf end text
 
+-- the name of the file that each command reads
+abbrev pub file_name_of : Command → List ℕ
+file_name_of (Fold terms log) = log
+file_name_of (Check auction) = auction
+
 -- the text of the job where it is done, and else the line of its end
 abbrev pub JobAnswer : Command → ShelfSeen → Result (Vec ℕ Global) Ended → Type 0
 JobAnswer command shelf (Ok text) = Job command shelf how.Done text.items
@@ -113,17 +145,19 @@ Wrote sink end text answer = WroteWhole sink end text answer ⊎ WroteFront sink
 abbrev pub WroteLine : SinkSeen → Ended → Ended → Type 0
 WroteLine sink end answer = Wrote sink end (line_of end) answer ⊎ Wrote sink how.NoMemory [] answer
 
--- a command's job had an end and a text, and the text was written
+-- a command's job had an end and a text, it only read the command's file, and the text was written
 pub record CommandEnds (command : Command) (shelf : ShelfSeen) (sink : SinkSeen) (answer : Ended) : Type 0 where
   pub end : Ended
   pub text : List ℕ
   pub job : Job command shelf end text
+  pub reads : OnlyReads (file_name_of command) shelf
   pub wrote : Wrote sink end text answer
 
 -- How a run ends: the words are no command, and it says so; or they are a command, and that ends; or memory ran out before
--- they were read, and nothing was written.
-pub record UsageEnds (words : List (List ℕ)) (sink : SinkSeen) (answer : Ended) : Type 0 where
+-- they were read, and nothing was written. No run changes a file, and only that of a command is read.
+pub record UsageEnds (words : List (List ℕ)) (shelf : ShelfSeen) (sink : SinkSeen) (answer : Ended) : Type 0 where
   pub none : IsNoCommand words
+  pub untouched : IsUntouched shelf
   pub wrote : Wrote sink how.Usage (line_of how.Usage) answer
 
 pub record SomeCommandEnds (words : List (List ℕ)) (shelf : ShelfSeen) (sink : SinkSeen) (answer : Ended) : Type 0 where
@@ -131,11 +165,12 @@ pub record SomeCommandEnds (words : List (List ℕ)) (shelf : ShelfSeen) (sink :
   pub spelled : Spells command words
   pub ends : CommandEnds command shelf sink answer
 
-pub record NoMemoryEnds (sink : SinkSeen) (answer : Ended) : Type 0 where
+pub record NoMemoryEnds (shelf : ShelfSeen) (sink : SinkSeen) (answer : Ended) : Type 0 where
+  pub untouched : IsUntouched shelf
   pub wrote : Wrote sink how.NoMemory [] answer
 
 abbrev pub RunEnds : List (List ℕ) → ShelfSeen → SinkSeen → Ended → Type 0
-RunEnds words shelf sink answer = UsageEnds words sink answer ⊎ (SomeCommandEnds words shelf sink answer ⊎ NoMemoryEnds sink answer)
+RunEnds words shelf sink answer = UsageEnds words shelf sink answer ⊎ (SomeCommandEnds words shelf sink answer ⊎ NoMemoryEnds shelf sink answer)
 
 -- no call outside failed, and no count stands at its last value
 pub record NothingFailed (shelf : ShelfSeen) (sink : SinkSeen) : Type 0 where

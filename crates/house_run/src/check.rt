@@ -1,6 +1,6 @@
 //! The command `check`: what an auction file says.
 ghost use Rattle.std.specs.Prelude.{◌≤◌, length};
-ghost use Rattle.house_run.specs.Ends.{JobAnswer};
+ghost use Rattle.house_run.specs.Ends.{JobAnswer, OnlyReads, shelf_seen};
 ghost use Rattle.house_run.specs.Reading.{IsTextOf};
 ghost use Rattle.house_run.specs.Words.{Check};
 
@@ -16,11 +16,8 @@ const AUCTION_LIMIT: u64 = MOST_BYTES as u64;
 
 /// The text of the auction that a file says, or why there is none.
 pub(crate) fn check<H: Shelf>(alloc: Global, auction: &str, shelf: &mut H) -> Result<Vec<u8>, Ended>
-    ensures { JobAnswer (Check auction.now) (record {
-      files = H.files shelf.new;
-      faults_before = H.faults shelf.old;
-      faults = H.faults shelf.new;
-    }) result }
+    ensures job { JobAnswer (Check auction.now) (shelf_seen H.files H.faults shelf.old shelf.new) result }
+    ensures reads { OnlyReads auction.now (shelf_seen H.files H.faults shelf.old shelf.new) }
 {
     let bytes = match read_file(alloc, shelf, auction, AUCTION_LIMIT) {
         Ok(bytes) => bytes,

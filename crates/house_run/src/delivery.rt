@@ -1,7 +1,7 @@
 //! Writing the one text of a run.
 ghost use Rattle.std.specs.Prelude.{◌≡◌, ◌≢◌, string_bytes};
 ghost use Rattle.std.specs.Result.{ForOk};
-ghost use Rattle.house_run.specs.Ends.{Wrote, WroteLine, line_of};
+ghost use Rattle.house_run.specs.Ends.{Wrote, WroteLine, line_of, sink_seen};
 ghost use Rattle.house_run.specs.declared.ends.Ended.TheVariants as how;
 
 use crate::ends::{Ended, File, fault_number};
@@ -10,12 +10,7 @@ use std::alloc::{AllocError, Global};
 
 /// Writes the text of a job that ended so.
 pub(crate) fn deliver<S: Sink>(out: &mut S, text: &[u8], ended: Ended) -> Ended
-    ensures { Wrote (record {
-      written_before = S.written out.old;
-      written = S.written out.new;
-      faults_before = S.faults out.old;
-      faults = S.faults out.new;
-    }) ended text.now result }
+    ensures { Wrote (sink_seen S.written S.faults out.old out.new) ended text.now result }
 {
     match write_whole(out, text) {
         Ok(()) => ended,
@@ -25,12 +20,7 @@ pub(crate) fn deliver<S: Sink>(out: &mut S, text: &[u8], ended: Ended) -> Ended
 
 /// Writes the line of a job that was not done.
 pub(crate) fn deliver_line<S: Sink>(alloc: Global, out: &mut S, ended: Ended) -> Ended
-    ensures { WroteLine (record {
-      written_before = S.written out.old;
-      written = S.written out.new;
-      faults_before = S.faults out.old;
-      faults = S.faults out.new;
-    }) ended result }
+    ensures { WroteLine (sink_seen S.written S.faults out.old out.new) ended result }
 {
     match ended {
         Ended::Usage => deliver(out, b"usage\n", Ended::Usage),
@@ -53,12 +43,7 @@ pub(crate) fn deliver_line<S: Sink>(alloc: Global, out: &mut S, ended: Ended) ->
 /// Writes the line of a job that was not done, if memory sufficed to make it.
 fn deliver_made<S: Sink>(out: &mut S, line: Result<String, AllocError>, ended: Ended) -> Ended
     requires { ForOk line (λ text. string_bytes text ≡ line_of ended) }
-    ensures { WroteLine (record {
-      written_before = S.written out.old;
-      written = S.written out.new;
-      faults_before = S.faults out.old;
-      faults = S.faults out.new;
-    }) ended result }
+    ensures { WroteLine (sink_seen S.written S.faults out.old out.new) ended result }
 {
     match line {
         Ok(line) => deliver(out, line.as_bytes(), ended),

@@ -1,7 +1,7 @@
 //! The command `fold`: one clock over a log.
 ghost use Rattle.std.specs.Prelude.{◌≡◌};
 ghost use Rattle.house_run.specs.Entries.{log_of};
-ghost use Rattle.house_run.specs.Ends.{JobAnswer};
+ghost use Rattle.house_run.specs.Ends.{JobAnswer, OnlyReads, shelf_seen};
 ghost use Rattle.house_run.specs.Reading.{IsLineOf};
 ghost use Rattle.house_run.specs.Words.{Fold};
 
@@ -23,11 +23,8 @@ pub(crate) fn fold<H: Shelf>(
     log: &str,
     shelf: &mut H,
 ) -> Result<Vec<u8>, Ended>
-    ensures { JobAnswer (Fold terms.now log.now) (record {
-      files = H.files shelf.new;
-      faults_before = H.faults shelf.old;
-      faults = H.faults shelf.new;
-    }) result }
+    ensures job { JobAnswer (Fold terms.now log.now) (shelf_seen H.files H.faults shelf.old shelf.new) result }
+    ensures reads { OnlyReads log.now (shelf_seen H.files H.faults shelf.old shelf.new) }
 {
     let bytes = match read_file(alloc, shelf, log, LOG_LIMIT) {
         Ok(bytes) => bytes,
