@@ -2,6 +2,13 @@ pub mod Decimals
 pub mod Commas
 pub mod Numbers
 pub mod FirstEntry
+pub mod Quantities
+pub mod Payloads
+pub mod Faultless
+pub mod LastRound
+pub mod WrittenEntries
+pub mod ReadEntries
+pub mod WrittenLogs
 pub mod Slots
 pub mod Commands
 pub mod Walking

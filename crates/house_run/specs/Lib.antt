@@ -3,6 +3,7 @@ pub mod Words
 pub mod Positionals
 pub mod CommandView
 pub mod Entries
+pub mod Logs
 pub mod Texts
 pub mod Reading
 pub mod Status

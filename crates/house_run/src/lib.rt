@@ -7,6 +7,7 @@ pub mod ends;
 mod entries;
 mod files;
 mod fold;
+pub mod laws;
 mod positionals;
 mod runs;
 mod supplies;
