@@ -9,11 +9,12 @@ use Rattle.lot_base.specs.Goods.{IsSupply, IsRange}
 use Rattle.lot_base.specs.declared.auction_terms.Terms.{Terms}
 use Rattle.auction_file.specs.AuctionFile.{auction_of}
 use Rattle.house_run.specs.Words.{Check, Command, Fold, Spells, IsFold, comma_list}
-use Rattle.house_run.specs.Entries.{log_of}
+use Rattle.house_run.specs.Logs.{IsLogOf, IsFaultyAt}
 use Rattle.house_run.specs.Ends.{ShelfSeen, SinkSeen, CheckJob, FoldJob, Job, Wrote, CommandEnds, RunEnds, NothingFailed, HasGoodFiles, IsGoodAuction, IsGoodLog, IsDoneOrNoMemory, auction_limit, content, log_limit}
 use Rattle.house_run.specs.declared.ends.Ended.{Ended}
 use Rattle.house_run.specs.declared.ends.Ended.TheVariants as how
 use Rattle.house_run.specs.declared.ends.File.TheVariants as which
+use Rattle.house_run.proofs.LogBytes.{no-fault}
 use Rattle.house_run.proofs.Commas.{parts-supply, decimals-same, supplies-few, small-enough}
 
 supply-one : (supply : List ℕ) (s r : IsSupply supply) → s ≡ r
@@ -86,8 +87,9 @@ fold-ended terms log text shelf sink files (how.TooLong which.Log) job told good
     let P : Option (List NamedFile) → Type 0 = λ o. IfTells o (λ fs. log_limit < length (content fs log)) in
     absurd (let long : log_limit < length (content files log) = subst P told job.0 in let short = good.short in omega arith)
 fold-ended terms log text shelf sink files (how.BadLog place) job told good quiet =
-    let P : Option (List NamedFile) → Type 0 = λ o. IfTells o (λ fs. (length (content fs log) ≤ log_limit) × (log_of terms (content fs log) ≡ Err place)) in
-    absurd (let bad : (length (content files log) ≤ log_limit) × (log_of terms (content files log) ≡ Err place) = subst P told job.0 in let e : Ok good.history ≡ Err place = sym good.whole ∙ bad.1 in cc)
+    let P : Option (List NamedFile) → Type 0 = λ o. IfTells o (λ fs. (length (content fs log) ≤ log_limit) × IsFaultyAt terms (content fs log) place) in
+    let bad : (length (content files log) ≤ log_limit) × IsFaultyAt terms (content files log) place = subst P told job.0 in
+    absurd (no-fault terms good.history (content files log) place good.whole bad.1)
 
 check-ended : (auction text : List ℕ) (shelf : ShelfSeen) (sink : SinkSeen) (files : List NamedFile) (end : Ended) → CheckJob auction shelf end text → shelf.files ≡ Some files
     → IsGoodAuction (content files auction) → NothingFailed shelf sink → IsDoneOrNoMemory end

@@ -9,6 +9,7 @@ pub mod LastRound
 pub mod WrittenEntries
 pub mod ReadEntries
 pub mod WrittenLogs
+pub mod LogBytes
 pub mod Slots
 pub mod Commands
 pub mod Walking

@@ -7,6 +7,11 @@ use Rattle.auction_file.specs.AuctionFile.{Listing, auction_of}
 use Rattle.auction_file.specs.declared.faults.AuctionFault.{AuctionFault}
 use Rattle.auction_file.specs.declared.faults.AuctionFault.TheVariants as refused
 use Rattle.house_run.specs.Entries.{log_of}
+use Rattle.house_run.specs.Logs.{AreBytes, IsLogOf, IsFaultyAt}
+use Rattle.house_run.specs.Reading.{IsLineOf, IsLogOrNoMemory}
+use Rattle.house_run.specs.declared.entries.LogFault.{LogFault}
+use Rattle.house_run.specs.declared.entries.LogFault.TheVariants as fault
+use Rattle.house_run.proofs.WrittenLogs.{faulty-log}
 use Rattle.house_run.specs.Texts.{standing_of, check_text}
 use Rattle.house_run.specs.Ends.{ShelfSeen, SinkSeen, FoldJob, CheckJob, Job, OnlyReads, Wrote, WroteLine, CommandEnds, RunEnds, auction_limit, content, file_name_of, log_limit, line_of}
 use Rattle.house_run.specs.Words.{Check, Command, Fold, Spells}
@@ -19,11 +24,28 @@ tells-map (Some fs) P Q p f = f fs p
 
 -- the bytes that were read are the log, so its clock is that of the log
 pub folded : (terms : Terms) (log : List ℕ) (shelf : ShelfSeen) (bytes read text : List ℕ) → read ≡ bytes → length bytes ≤ log_limit → IfTells shelf.files (λ files. bytes ≡ content files log)
-    → (c : ClockHistory) × (log_of terms read ≡ Ok c) × (text ≡ standing_of c) → FoldJob terms log shelf how.Done text
+    → (c : ClockHistory) × IsLogOf terms c read × (text ≡ standing_of c) → FoldJob terms log shelf how.Done text
 folded terms log shelf bytes read text same short told line =
     tells-map shelf.files _ _ told (λ files is.
     let P : List ℕ → Type 0 = λ bs. length bs ≤ log_limit in
-    (subst P is short, (line.0, ap (log_of terms) (sym is) ∙ ap (log_of terms) (sym same) ∙ line.1, line.2)))
+    let Q : List ℕ → Type 0 = λ bs. IsLogOf terms line.0 bs in
+    (subst P is short, (line.0, subst Q (same ∙ is) line.1, line.2)))
+
+-- and so is the place of its fault
+pub bad-log : (terms : Terms) (log : List ℕ) (shelf : ShelfSeen) (bytes read : List ℕ) (place : ℕ) → read ≡ bytes → length bytes ≤ log_limit → IfTells shelf.files (λ files. bytes ≡ content files log)
+    → IsFaultyAt terms read place → FoldJob terms log shelf (how.BadLog place) (line_of (how.BadLog place))
+bad-log terms log shelf bytes read place same short told faulty = (
+  tells-map shelf.files _ _ told (λ files is.
+      let P : List ℕ → Type 0 = λ bs. length bs ≤ log_limit in
+      let Q : List ℕ → Type 0 = λ bs. IsFaultyAt terms bs place in
+      (subst P is short, subst Q (same ∙ is) faulty)),
+  refl,
+)
+
+-- a fault that the walk over a log tells
+pub fault-said : (refusal : LogFault) (terms : Terms) (bytes : List ℕ) → AreBytes bytes → IsLogOrNoMemory (Err refusal) (log_of terms bytes) → IsLineOf (Err refusal) terms bytes
+fault-said (fault.Faulty place) terms bytes are e = faulty-log terms bytes place are e
+fault-said fault.NoMemory terms bytes are e = tt
 
 -- and they are the auction file
 pub checked : (auction : List ℕ) (shelf : ShelfSeen) (bytes read text : List ℕ) → read ≡ bytes → length bytes ≤ auction_limit → IfTells shelf.files (λ files. bytes ≡ content files auction)

@@ -11,7 +11,7 @@ use Rattle.outcome_text.specs.Lines.{line}
 use Rattle.auction_file.specs.AuctionFile.{Listing, auction_of}
 use Rattle.auction_file.specs.declared.faults.AuctionFault.TheVariants as refused
 use Rattle.house_run.specs.Words.{Command, Fold, Check, Spells, IsNoCommand}
-use Rattle.house_run.specs.Entries.{log_of}
+use Rattle.house_run.specs.Logs.{IsLogOf, IsFaultyAt}
 use Rattle.house_run.specs.Texts.{standing_of, check_text}
 use Rattle.house_run.specs.Status.{number_of}
 use Rattle.house_run.specs.declared.ends.Ended.{Ended}
@@ -85,13 +85,13 @@ line_of (how.BadAuction fault) = line (codes "bad" ∷ codes "auction" ∷ decim
 -- other end has its cause and its line; the want of memory has none, and writes nothing.
 abbrev pub FoldJob : Terms → List ℕ → ShelfSeen → Ended → List ℕ → Type 0
 FoldJob terms log shelf how.Done text =
-    IfTells shelf.files (λ files. (length (content files log) ≤ log_limit) × ((c : ClockHistory) × (log_of terms (content files log) ≡ Ok c) × (text ≡ standing_of c)))
+    IfTells shelf.files (λ files. (length (content files log) ≤ log_limit) × ((c : ClockHistory) × IsLogOf terms c (content files log) × (text ≡ standing_of c)))
 FoldJob terms log shelf how.NoMemory text = text ≡ []
 FoldJob terms log shelf how.ReadFault text = Rose (shelf.faults_before log) (shelf.faults log) × (text ≡ line_of how.ReadFault)
 FoldJob terms log shelf (how.TooLong which.Log) text =
     IfTells shelf.files (λ files. log_limit < length (content files log)) × (text ≡ line_of (how.TooLong which.Log))
 FoldJob terms log shelf (how.BadLog place) text =
-    IfTells shelf.files (λ files. (length (content files log) ≤ log_limit) × (log_of terms (content files log) ≡ Err place)) × (text ≡ line_of (how.BadLog place))
+    IfTells shelf.files (λ files. (length (content files log) ≤ log_limit) × IsFaultyAt terms (content files log) place) × (text ≡ line_of (how.BadLog place))
 FoldJob terms log shelf how.Usage text = ⊥
 FoldJob terms log shelf how.WriteFault text = ⊥
 FoldJob terms log shelf (how.TooLong which.Auction) text = ⊥
@@ -183,7 +183,7 @@ pub record NothingFailed (shelf : ShelfSeen) (sink : SinkSeen) : Type 0 where
 pub record IsGoodLog (terms : Terms) (bytes : List ℕ) : Type 0 where
   pub short : length bytes ≤ log_limit
   pub history : ClockHistory
-  pub whole : log_of terms bytes ≡ Ok history
+  pub whole : IsLogOf terms history bytes
 
 -- the auction file is not too long, and is one of an auction
 pub record IsGoodAuction (bytes : List ℕ) : Type 0 where

@@ -2,6 +2,7 @@
 use Rattle.std.specs.Prelude.{◌≡◌, ◌≢◌, ℕ, List, Option, Some, None, Result, Ok, Err, Vec}
 use Rattle.std.specs.declared.alloc.Global.{Global}
 use Rattle.lot_base.specs.declared.raw.RawReport.{RawReport}
+use Rattle.lot_base.specs.declared.auction_terms.Terms.{Terms}
 use Rattle.demand_set.specs.declared.reports.Report.{Report}
 use Rattle.clock.specs.Reports.{ClockHistory}
 use Rattle.auction_file.specs.AuctionFile.{Listing, auction_of}
@@ -10,6 +11,7 @@ use Rattle.auction_file.specs.declared.faults.AuctionFault.TheVariants as refuse
 use Rattle.house_run.specs.declared.entries.LogFault.{LogFault}
 use Rattle.house_run.specs.declared.entries.LogFault.TheVariants as fault
 use Rattle.house_run.specs.Entries.{SpelledReport, report_in}
+use Rattle.house_run.specs.Logs.{IsLogOf, IsFaultyAt}
 use Rattle.house_run.specs.Texts.{standing_of, check_text}
 
 abbrev pub spelled : RawReport → SpelledReport
@@ -32,10 +34,10 @@ IsLogOrNoMemory (Err (fault.Faulty place)) log = log ≡ Err place
 IsLogOrNoMemory (Err fault.NoMemory) log = Unit {0}
 
 -- it is the standing line of the log's clock, unless memory runs out
-abbrev pub IsLineOf : Result (Vec ℕ Global) LogFault → Result ClockHistory ℕ → Type 0
-IsLineOf (Ok text) log = (c : ClockHistory) × (log ≡ Ok c) × (text.items ≡ standing_of c)
-IsLineOf (Err (fault.Faulty place)) log = log ≡ Err place
-IsLineOf (Err fault.NoMemory) log = Unit {0}
+abbrev pub IsLineOf : Result (Vec ℕ Global) LogFault → Terms → List ℕ → Type 0
+IsLineOf (Ok text) terms bytes = (c : ClockHistory) × IsLogOf terms c bytes × (text.items ≡ standing_of c)
+IsLineOf (Err (fault.Faulty place)) terms bytes = IsFaultyAt terms bytes place
+IsLineOf (Err fault.NoMemory) terms bytes = Unit {0}
 
 -- it is the text of the auction that the bytes say, or their fault, unless memory runs out
 abbrev pub IsTextOf : Result (Vec ℕ Global) AuctionFault → List ℕ → Type 0

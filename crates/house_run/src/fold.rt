@@ -1,6 +1,5 @@
 //! The command `fold`: one clock over a log.
 ghost use Rattle.std.specs.Prelude.{◌≡◌};
-ghost use Rattle.house_run.specs.Entries.{log_of};
 ghost use Rattle.house_run.specs.Ends.{JobAnswer, OnlyReads, shelf_seen};
 ghost use Rattle.house_run.specs.Reading.{IsLineOf};
 ghost use Rattle.house_run.specs.Words.{Fold};
@@ -41,7 +40,7 @@ pub(crate) fn fold<H: Shelf>(
 
 /// The standing line of the clock of all bidders after the entries of a log.
 fn log_line(alloc: Global, terms: &Terms, bytes: &[u8]) -> Result<Vec<u8>, LogFault>
-    ensures { IsLineOf result (log_of terms.now bytes.now) }
+    ensures { IsLineOf result terms.now bytes.now }
 {
     let clock = match replay_log(alloc, terms, bytes) {
         Ok(clock) => clock,

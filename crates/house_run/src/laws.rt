@@ -1,14 +1,23 @@
 //! Laws of logs.
-ghost use Rattle.std.specs.Prelude.{◌≡◌, ℕ, List, [], ◌∷◌, Ok, Err};
+ghost use Rattle.std.specs.Prelude.{◌≡◌, ◌⊎◌, ℕ, List, [], ◌∷◌, Ok, Err};
 ghost use Rattle.lot_base.specs.declared.auction_terms.Terms.{Terms};
 ghost use Rattle.clock.specs.Reports.{ClockHistory};
 ghost use Rattle.house_run.specs.Entries.{log_of};
 ghost use Rattle.house_run.specs.Logs.{AreBytes, IsLogOf, IsFaultyAt, entry_of};
 
-/// A log in the words of its format. One that is read is the entries of its reports, one after another, and these are a legal
-/// history; each such log is read back; and the place of a fault is the one where, behind such entries, no entry of a report
-/// that would be taken stands.
+/// Bytes are a log of one history, or they have one first faulty entry, and not both. So what `run` says of a log says which
+/// answer it gives.
 pub fn log_law()
+    ensures either { (terms : Terms) (bytes : List ℕ) → AreBytes bytes → ((c : ClockHistory) × IsLogOf terms c bytes) ⊎ ((place : ℕ) × IsFaultyAt terms bytes place) }
+    ensures not_both { (terms : Terms) (bytes : List ℕ) (c : ClockHistory) (place : ℕ) → IsLogOf terms c bytes → IsFaultyAt terms bytes place → ⊥ }
+    ensures one { (terms : Terms) (bytes : List ℕ) (c d : ClockHistory) → IsLogOf terms c bytes → IsLogOf terms d bytes → c ≡ d }
+    ensures one_place { (terms : Terms) (bytes : List ℕ) (place other : ℕ) →
+        AreBytes bytes → IsFaultyAt terms bytes place → IsFaultyAt terms bytes other → place ≡ other }
+{}
+
+/// The same as a function, which walks from entry to entry: one that is read whole is a log, each log is read, and the place
+/// that it finds is that of the first faulty entry.
+pub fn walk_law()
     ensures whole { (terms : Terms) (bytes : List ℕ) (c : ClockHistory) →
         AreBytes bytes → log_of terms bytes ≡ Ok c → IsLogOf terms c bytes }
     ensures back { (terms : Terms) (bytes : List ℕ) (c : ClockHistory) → IsLogOf terms c bytes → log_of terms bytes ≡ Ok c }
