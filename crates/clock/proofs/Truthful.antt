@@ -148,13 +148,13 @@ least-minimiser u c explains e =
     let P : List ℕ → Type 0 = λ q. IsLeastMinimiser (opening_of c.terms) (lyapunov c.terms.goods u (members_of c)) q in
     subst P (sym (prices-along c (steps_of c))) (ended-least c.terms.goods u (members_of c) p.substitutes (opening_of c.terms) (sets_of c (steps_of c)) p.goods p.steps (has-ended u c explains e))
 
-halted-by : (full empty : Bool) (good : Option ℕ) (k : ℕ) → phase_by full empty good ≡ Halted k → good ≡ Some k
+pub halted-by : (full empty : Bool) (good : Option ℕ) (k : ℕ) → phase_by full empty good ≡ Halted k → good ≡ Some k
 halted-by false empty good k e = absurd (let f : Running ≡ Halted k = e in cc)
 halted-by true true good k e = absurd (let f : Ended ≡ Halted k = e in cc)
 halted-by true false None k e = absurd (let f : Running ≡ Halted k = e in cc)
 halted-by true false (Some n) k e = let f : n ≡ k = cc in ap (λ m. Some m) f
 
-at-ceiling : (from ceiling : ℕ) (ps : List ℕ) (set k : ℕ) → good_from from ceiling ps set ≡ Some k → (from ≤ k) × (at ps (k - from) ≡ ceiling)
+pub at-ceiling : (from ceiling : ℕ) (ps : List ℕ) (set k : ℕ) → good_from from ceiling ps set ≡ Some k → (from ≤ k) × (at ps (k - from) ≡ ceiling)
 at-ceiling from ceiling [] set k e = absurd (let f : None ≡ Some k = e in cc)
 at-ceiling from ceiling (p ∷ ps) set k e = by (nat_eq (set % 2) 1) (nat_eq p ceiling) refl (λ f. at-ceiling (from + 1) ceiling ps (set / 2) k f) e
   where

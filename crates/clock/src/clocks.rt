@@ -1,5 +1,5 @@
 //! A clock.
-ghost use Rattle.std.specs.Prelude.{◌≡◌, ◌+◌, ◌-◌, ◌<◌, ◌≤◌, ◌++◌, [], ◌∷◌, ℕ, List, length, OnOk, IfOk, IfErr, IsTrue, option_copied};
+ghost use Rattle.std.specs.Prelude.{◌≡◌, ◌+◌, ◌-◌, ◌<◌, ◌≤◌, ◌++◌, [], ◌∷◌, ℕ, List, length, OnOk, IfOk, IfErr, IfSome, IsTrue, option_copied};
 
 use crate::judging::Judgement;
 use crate::rounds::{find_demand, missing_in};
@@ -50,6 +50,7 @@ pub struct NotApplied {
 }
 
 impl Clock {
+    ghost use Rattle.lot_base.specs.Goods.{at};
     ghost use Rattle.lot_base.specs.Demands.{IsDemand};
     ghost use Rattle.std.specs.Prelude.{ℤ, pos, ◌≤ℤ◌, ◌+ℤ◌, ◌-ℤ◌};
     ghost use Rattle.lot_base.specs.Economy.{lyapunov, without, AllBelowCeiling, IsLeastMinimiser};
@@ -209,6 +210,11 @@ impl Clock {
         ensures phase { result.phase ≡ phase_of self.now }
         ensures prices { result.prices ≡ prices_of self.now }
 
+        // Each good has a price, and none is above the ceiling. The good at which a clock is halted is at the ceiling.
+        ensures goods { length result.prices ≡ length self.now.terms.goods }
+        ensures within { AllByRecursion (λ price. price ≤ self.now.terms.ceiling) result.prices }
+        ensures halted { (good : ℕ) → result.phase ≡ Halted good → (good < length self.now.terms.goods) × (at result.prices good ≡ self.now.terms.ceiling) }
+
         // Where valuations explain the reports, a clock that has ended is at the least prices that minimise the Lyapunov function
         // of its members; at every moment that is so among the prices so many steps from the opening.
         ensures least { (u : ℕ → List ℕ → ℤ) → Explains u self.now → result.phase ≡ Ended → IsLeastMinimiser (opening_of self.now.terms) (lyapunov self.now.terms.goods u (members_of self.now)) result.prices }
@@ -237,7 +243,8 @@ impl Clock {
 
     /// The demand of a bidder in the last or current round, if it has reported one.
     pub fn last_demand(&self, bidder: u8) -> Option<&Demand>
-        ensures { option_copied result ≡ demand_in self.now.reports (last_round self.now) bidder }
+        ensures value { option_copied result ≡ demand_in self.now.reports (last_round self.now) bidder }
+        ensures fits { IfSome (option_copied result) (IsDemand self.now.terms.goods) }
     {
         self.demand_of(bidder, self.steps + 1)
     }

@@ -5,7 +5,6 @@ ghost use Rattle.lot_base.specs.Demands.{IsDemand};
 ghost use Rattle.lot_base.specs.declared.phases.Phase.TheVariants.{Ended};
 ghost use Rattle.clock.specs.Reports.{ClockHistory, members_of, demand_in};
 ghost use Rattle.clock.specs.Standing.{phase_of, last_round, last_demands};
-ghost use Rattle.clock.specs.Judging.{IsLegal};
 ghost use Rattle.settlement.specs.Found.{IsRowOf, AreChoicesOf};
 
 use crate::outcome::{ClockRow, Rows};
@@ -83,7 +82,6 @@ fn last_demands(alloc: Global, terms: &Terms, clock: &Clock) -> Result<Vec<Deman
 
 /// What a bidder that has reported demands in a clock's last round.
 fn last_demand(alloc: Global, clock: &Clock, bidder: u8) -> Result<Demand, NoMemory>
-    requires legal { IsLegal clock.now }
     requires reported { IsSome (demand_in clock.now.reports (last_round clock.now) bidder) }
     ensures value { IfOk result (λ d. d ≡ last_demands clock.now bidder) }
     ensures fits { IfOk result (λ d. IsDemand clock.now.terms.goods d) }

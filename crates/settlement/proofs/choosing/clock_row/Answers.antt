@@ -1,9 +1,6 @@
-use Rattle.std.proofs.Common.{length, Some, None, ◌∙◌, ap}
-use Rattle.settlement.proofs.Bounds.{path-of, choice-from}
+use Rattle.std.proofs.Common.{Some, None, ◌∙◌}
+use Rattle.settlement.proofs.Bounds.{choice-from}
 use Rattle.settlement.proofs.choosing.clock_row.Goals as goal
-
-pub assemble-requires-clause-prices : goal.assemble-requires-clause-prices
-assemble-requires-clause-prices c = ap length c.look-look.ensures.prices ∙ (path-of c.args.clock.now).goods ∙ ap (λ terms. length terms.goods) c.requires.terms
 
 pub returns-in-Ok-Award : goal.returns-in-Ok-Award
 returns-in-Ok-Award c = record {

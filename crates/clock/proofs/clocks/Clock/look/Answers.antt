@@ -1,12 +1,17 @@
-use Rattle.std.proofs.Common.{◌≡◌, ℕ, ◌+◌, ◌-◌, List, sym, ◌∙◌, ap, subst, arith}
+use Rattle.std.proofs.Common.{◌≡◌, ◌≢◌, refl, ◌<◌, ◌≤◌, ℕ, ◌+◌, ◌-◌, zero, suc, nat_eq, List, [], ◌∷◌, length, sym, ◌∙◌, ap, subst, arith}
+use Rattle.std.specs.List.{AllByRecursion}
+use Rattle.lot_base.specs.Goods.{at}
 use Rattle.lot_base.specs.Economy.{lyapunov, IsLeastMinimiser}
 use Rattle.lot_base.specs.declared.phases.Phase.{Phase}
+use Rattle.lot_base.specs.declared.phases.Phase.TheVariants.{Halted}
 use Rattle.lyapunov.specs.Paths.{IsLeastNear}
 use Rattle.credit_book.specs.Account.{Sums}
 use Rattle.clock.specs.Reports.{ClockHistory, opening_of, members_of}
-use Rattle.clock.specs.Standing.{steps_of, phase_of, phase_after, prices_of, prices_after}
+use Rattle.clock.specs.Standing.{steps_of, phase_of, phase_after, prices_of, prices_after, is_full_after, step_set_after, good_at_ceiling}
 use Rattle.clock.specs.Kept.{IsKept}
-use Rattle.clock.proofs.Truthful.{least-minimiser, least-near, never-halted}
+use Rattle.clock.proofs.Ceiling.{AllUpTo}
+use Rattle.clock.proofs.Path.{on_the_path, has_steps, OnThePath}
+use Rattle.clock.proofs.Truthful.{least-minimiser, least-near, never-halted, halted-by, at-ceiling}
 use Rattle.clock.proofs.clocks.Clock.look.Goals as goal
 
 phase-kept : (v c : ClockHistory) (current steps : ℕ) (phase : Phase) (prices : List ℕ) (account : Sums) → IsKept v current steps phase prices account → v ≡ c → phase ≡ phase_of c
@@ -32,3 +37,42 @@ returns-clause-near c = λ u explains.
 pub returns-clause-unhalted : goal.returns-clause-unhalted
 returns-clause-unhalted c = λ u good explains low halted.
     never-halted u c.args.self.now good explains low (sym (phase-kept _ c.args.self.now _ _ _ _ _ c.self.invariant c.self.view_is) ∙ halted)
+
+path-of : (c : ClockHistory) → OnThePath c (steps_of c)
+path-of c = on_the_path c (steps_of c) (has_steps c).before
+
+all-up : (ceiling : ℕ) (ps : List ℕ) → AllUpTo ceiling ps → AllByRecursion (λ price. price ≤ ceiling) ps
+all-up ceiling [] up = tt
+all-up ceiling (p ∷ ps) up = (up.0, all-up ceiling ps up.1)
+
+-- behind the last entry there is 0
+some-there : (ps : List ℕ) (k : ℕ) → at ps k ≢ 0 → k < length ps
+some-there [] k some = absurd (some refl)
+some-there (p ∷ ps) zero some = omega arith
+some-there (p ∷ ps) (suc k) some = let below = some-there ps k some in omega arith
+
+halted-at : (c : ClockHistory) (good : ℕ) → phase_of c ≡ Halted good → (good < length c.terms.goods) × (at (prices_of c) good ≡ c.terms.ceiling)
+halted-at c good e =
+    let found = halted-by (is_full_after c (steps_of c)) (nat_eq (step_set_after c (steps_of c)) 0) (good_at_ceiling c (steps_of c)) good e in
+    let there = at-ceiling 0 c.terms.ceiling (prices_of c) (step_set_after c (steps_of c)) good found in
+    let none : good - 0 ≡ good = omega arith in
+    let same : at (prices_of c) good ≡ c.terms.ceiling = ap (at (prices_of c)) (sym none) ∙ there.1 in
+    let r = c.terms.ceiling_in_range.at_least in
+    let some : at (prices_of c) good ≢ 0 = omega arith in
+    (subst (λ n. good < n) (path-of c).goods (some-there (prices_of c) good some), same)
+
+pub returns-clause-goods : goal.returns-clause-goods
+returns-clause-goods c =
+    ap length (prices-kept _ c.args.self.now _ _ _ _ _ c.self.invariant c.self.view_is) ∙ (path-of c.args.self.now).goods
+
+pub returns-clause-within : goal.returns-clause-within
+returns-clause-within c =
+    let now = c.args.self.now in
+    let W : List ℕ → Type 0 = λ ps. AllByRecursion (λ price. price ≤ now.terms.ceiling) ps in
+    subst W (sym (prices-kept _ now _ _ _ _ _ c.self.invariant c.self.view_is)) (all-up now.terms.ceiling (prices_of now) (path-of now).up)
+
+pub returns-clause-halted : goal.returns-clause-halted
+returns-clause-halted c = λ good halted.
+    let now = c.args.self.now in
+    let H : List ℕ → Type 0 = λ ps. (good < length now.terms.goods) × (at ps good ≡ now.terms.ceiling) in
+    subst H (sym (prices-kept _ now _ _ _ _ _ c.self.invariant c.self.view_is)) (halted-at now good (sym (phase-kept _ now _ _ _ _ _ c.self.invariant c.self.view_is) ∙ halted))
