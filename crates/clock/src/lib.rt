@@ -3,6 +3,7 @@
 
 pub mod clocks;
 pub mod judging;
+pub mod laws;
 pub mod replaying;
 mod rounds;
 mod standing;

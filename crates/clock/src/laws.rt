@@ -1,0 +1,25 @@
+//! Laws on clocks: where a notion is said in two ways, both say the same, and each has one answer.
+ghost use Rattle.std.specs.Prelude.{◌≡◌, ◌↔◌, ℕ};
+ghost use Rattle.std.specs.List.{Contains};
+ghost use Rattle.demand_set.specs.declared.reports.Report.{Report};
+ghost use Rattle.clock.specs.Reports.{ClockHistory, members_of};
+ghost use Rattle.clock.specs.Standing.{HasSteps, steps_of};
+ghost use Rattle.clock.specs.Judging.{IsMember, IsJudgement, judgement_of};
+ghost use Rattle.clock.specs.declared.judging.Judgement.{Judgement};
+
+/// The members of a clock, as a list, are those of whom `IsMember` says so.
+pub fn member_law()
+    ensures { (c : ClockHistory) (bidder : ℕ) → Contains (members_of c) bidder ↔ IsMember c bidder }
+{}
+
+/// Any reports, legal or not, have one number of steps, and it is the one that the function finds.
+pub fn steps_law()
+    ensures exists { (c : ClockHistory) → HasSteps c (steps_of c) }
+    ensures unique { (c : ClockHistory) (steps : ℕ) → HasSteps c steps → steps ≡ steps_of c }
+{}
+
+/// A report has one judgement after any reports, and it is the one that the function gives.
+pub fn judgement_law()
+    ensures exists { (c : ClockHistory) (r : Report) → IsJudgement c r (judgement_of c r) }
+    ensures unique { (c : ClockHistory) (r : Report) (judgement : Judgement) → IsJudgement c r judgement → judgement ≡ judgement_of c r }
+{}
