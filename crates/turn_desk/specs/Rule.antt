@@ -85,6 +85,8 @@ module _ {B E O : Type 0} (history : B → List E) (origin : B → O) (first : B
     pub numbers : (i j : ℕ) (v w : View E O) → get_elem? s.views i ≡ some v → get_elem? s.views j ≡ some w → 0 < v.seats → 0 < w.seats → v.number ≡ w.number → i ≡ j
     pub below : (j : ℕ) (v : View E O) → get_elem? s.views j ≡ some v → 0 < v.seats → v.number < total (λ (w : View E O). w.made) s.views
     pub origins : (j : ℕ) (v : View E O) → get_elem? s.views j ≡ some v → 0 < v.seats → (v.origin ≡ Some (origin first)) × (v.start ≡ length (history first))
+    -- one view at most keeps how many were made
+    pub maker : (i j : ℕ) (v w : View E O) → get_elem? s.views i ≡ some v → get_elem? s.views j ≡ some w → 0 < v.made → 0 < w.made → i ≡ j
     -- the next ticket is the one that is served and the number of views that wait, since none holds the turn
     pub queue : slice_index s.words 0 ≡ (slice_index s.words 1 + total (λ (v : View E O). active v.stage) s.views) % 2 ^ 64
     pub holders : total (λ (v : View E O). holding v.stage) s.views ≡ 0
