@@ -5,7 +5,7 @@ use Rattle.std.proofs.lemmas.List.{drop-take, drop-drop, take-take, length-take-
 use Rattle.std.proofs.Math.Seq.{take-add}
 use Rattle.std.proofs.lemmas.Nat.{be_bytes_4}
 use Rattle.std.specs.Int.{w32, to_be_bytes, from_be_bytes}
-use Rattle.report_journal.specs.Format.{Contents, format_name, header, IsUnformed, length_at, HasNoRecord}
+use Rattle.report_journal.specs.Format.{Contents, format_name, header, clock_in, digest_in, IsUnformed, length_at, HasNoRecord}
 use Rattle.report_journal.specs.Journals.{said}
 use Rattle.report_journal.specs.Kinds.{Kind, Unformed, Formed, Damaged, Misnamed, IsOfKind, AreBytes, IsJust}
 use Rattle.report_journal.specs.Scans.{IsNext, AreRead}
@@ -58,10 +58,10 @@ module _ (file : List ℕ) (are_bytes : AreBytes file) where
 
   module _ (big : 42 ≤ length file) (opened : get_or file 0 0 ≡ 0xa5) (named : take 4 (drop 1 file) ≡ format_name) where
     abbrev clock : ℕ
-    clock = from_be_bytes w32 (take 4 (drop 5 file))
+    clock = clock_in file
 
     abbrev digest : List ℕ
-    digest = take 32 (drop 9 file)
+    digest = digest_in file
 
     is_header : take 40 (drop 1 (take 42 file)) ≡ header clock digest
     is_header =

@@ -1,9 +1,9 @@
 -- What the bytes at a gate say.
 use Rattle.std.proofs.Common.{◌≡◌, ◌≢◌, ⊎_elim, ◌<◌, ◌^◌, inl, inr, ℕ, zero, suc, ◌+◌, ◌-◌, ◌≤◌, min, List, [], ◌∷◌, ◌++◌, length, get_or, take, drop, refl, sym, ◌∙◌, ap, subst, arith, append_assoc, take-append-drop, length-append, length-drop}
 use Rattle.std.proofs.lemmas.List.{take_all, get_or-take, get_or-drop, drop-take, drop-drop, drop_more, length-take-le, append-nil, map_push, take-take, take_at}
-use Rattle.std.specs.Int.{w32, to_be_bytes}
+use Rattle.std.specs.Int.{w32, to_be_bytes, from_be_bytes}
 use Rattle.std.specs.List.{AllByRecursion}
-use Rattle.report_journal.specs.Format.{Contents, records, body, header, front, format_name, Fits, StandsFor, IsUnformed, IsPayload, length_at, HasNoRecord, IsDamaged}
+use Rattle.report_journal.specs.Format.{Contents, records, body, header, front, format_name, Fits, StandsFor, IsUnformed, IsPayload, clock_in, digest_in, length_at, HasNoRecord, IsDamaged}
 use Rattle.report_journal.specs.Journals.{payload_at, payloads_at, ArePlaced, said}
 use Rattle.report_journal.specs.Scans.{IsNext, AreRead}
 use Rattle.report_journal.specs.declared.places.Place.{Place}
@@ -87,6 +87,14 @@ module _ (file bytes : List ℕ) (front_bytes : take 42 file ≡ bytes) (big : 4
 
   pub not_named : (take 4 (drop 1 bytes) ≡ format_name → ⊥) → take 4 (drop 1 file) ≢ format_name
   not_named other named = other (sym (same_behind 4 (omega arith)) ∙ named)
+
+  pub same_clock : clock_in file ≡ clock_in bytes
+  same_clock =
+      ap (from_be_bytes w32) (sym (take-take 4 37 (drop 5 file) (omega arith)) ∙ ap (λ (l : List ℕ). take 4 l) (sym (drop-take 5 37 file)) ∙ ap (λ (l : List ℕ). take 4 (drop 5 l)) front_bytes)
+
+  pub same_digest : digest_in file ≡ digest_in bytes
+  same_digest =
+      sym (take-take 32 33 (drop 9 file) (omega arith)) ∙ ap (λ (l : List ℕ). take 32 l) (sym (drop-take 9 33 file)) ∙ ap (λ (l : List ℕ). take 32 (drop 9 l)) front_bytes
 
   module _ (clock : ℕ) (digest : List ℕ) (is_header : take 40 (drop 1 bytes) ≡ header clock digest) (fits : clock < 2 ^ 32) (long_digest : length digest ≡ 32) where
     begins : take 41 file ≡ 0xa5 ∷ header clock digest

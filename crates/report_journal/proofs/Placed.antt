@@ -5,6 +5,7 @@ use Rattle.std.proofs.lemmas.Option.{slice_get-map}
 use Rattle.std.specs.List.{slice_get}
 use Rattle.std.specs.Option.{option_map}
 use Rattle.report_journal.specs.Journals.{payload_at, payloads_at, ArePlaced}
+use Rattle.report_journal.specs.Scans.{FollowFrom, gate_behind}
 use Rattle.report_journal.specs.declared.places.Place.{Place}
 
 -- a place that was read whole into a buffer of its length
@@ -30,3 +31,12 @@ nth_length file gate (q ∷ places) zero place are is =
     let P : Place → Type 0 = λ p. length (payload_at file p) ≡ p.length in
     subst P same (sym are.1)
 nth_length file gate (q ∷ places) (suc i) place are is = nth_length file (gate + 5 + length (payload_at file q)) places i place are.2 is
+
+-- one more record behind those that follow one another
+pub follow_push : (places : List Place) (place : Place) (gate : ℕ) → FollowFrom gate places → place.at ≡ gate_behind gate places + 5 → place.length ≤ 32768 → FollowFrom gate (places ++ place ∷ [])
+follow_push [] place gate follow at short = (at, short, tt)
+follow_push (p ∷ places) place gate follow at short = (follow.0, follow.1, follow_push places place (gate + 5 + p.length) follow.2 at short)
+
+pub behind_push : (places : List Place) (place : Place) (gate : ℕ) → gate_behind gate (places ++ place ∷ []) ≡ gate_behind gate places + 5 + place.length
+behind_push [] place gate = refl
+behind_push (p ∷ places) place gate = behind_push places place (gate + 5 + p.length)

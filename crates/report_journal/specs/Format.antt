@@ -49,6 +49,13 @@ pub record StandsFor (x : Contents) (file : List ℕ) : Type 0 where
   pub shut : gate ≢ 0xa5
   pub fits : Fits x
 
+-- the clock and the digest where a header names them, whatever name it has
+abbrev pub clock_in : List ℕ → ℕ
+clock_in file = from_be_bytes w32 (take 4 (drop 5 file))
+
+abbrev pub digest_in : List ℕ → List ℕ
+digest_in file = take 32 (drop 9 file)
+
 abbrev pub IsUnformed : List ℕ → Type 0
 IsUnformed file = (length file < 42) ⊎ (slice_index file 0 ≢ 0xa5)
 

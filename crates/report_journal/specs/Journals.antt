@@ -1,5 +1,5 @@
 -- A journal as its callers see it: a disk, the payloads that count, and the one that is in doubt.
-use Rattle.std.specs.Prelude.{◌≡◌, ℕ, ◌+◌, ◌≤◌, ◌<◌, List, [], ◌∷◌, length, take, drop, map, Option, Some, None}
+use Rattle.std.specs.Prelude.{◌≡◌, ℕ, ◌+◌, ◌≤◌, ◌<◌, List, [], ◌∷◌, ◌++◌, length, take, drop, map, Option, Some, None}
 use Rattle.house_io.specs.Moments.{Moments, Leaves, IsSettled}
 use Rattle.report_journal.specs.Format.{Contents, StandsFor, Fits, front}
 use Rattle.report_journal.specs.Puts.{with_one_more, IsBeforeOrAfter}
@@ -9,10 +9,28 @@ pub record JournalOf (D : Type 0) : Type 0 where
   pub disk : D
   -- what the disk's file stands for, where the disk tells
   pub contents : Contents
+  -- where the payloads lie in the file
+  pub places : List Place
   -- the offset of the gate that ends the list
   pub end : ℕ
   -- the payload in doubt: that of an append that failed on the disk and was not mended
   pub pending : Option (List ℕ)
+
+-- Of two states of a journal: clock and digest are the same, and so are the records in number and place.
+pub record KeepsRecords {D : Type 0} (old new : JournalOf D) : Type 0 where
+  pub clock : new.contents.clock ≡ old.contents.clock
+  pub digest : new.contents.digest ≡ old.contents.digest
+  pub count : length new.contents.payloads ≡ length old.contents.payloads
+  pub places : new.places ≡ old.places
+  pub end : new.end ≡ old.end
+
+-- Clock and digest are the same, and one record of this length stands behind the old ones.
+pub record AddsRecord {D : Type 0} (size : ℕ) (old new : JournalOf D) : Type 0 where
+  pub clock : new.contents.clock ≡ old.contents.clock
+  pub digest : new.contents.digest ≡ old.contents.digest
+  pub count : length new.contents.payloads ≡ length old.contents.payloads + 1
+  pub places : new.places ≡ old.places ++ record { at = old.end + 5; length = size } ∷ []
+  pub end : new.end ≡ old.end + 5 + size
 
 abbrev pub payload_at : List ℕ → Place → List ℕ
 payload_at file place = take place.length (drop place.at file)

@@ -2,7 +2,7 @@
 ghost use Rattle.std.specs.Prelude.{◌≡◌, ◌≢◌, ◌⊎◌, ◌+◌, ◌-◌, ◌*◌, ◌^◌, ◌<◌, ◌≤◌, ℕ, length, take, drop, min, slice_index, IsTrue, IfOk, IfErr, OnOk};
 ghost use Rattle.house_io.specs.Faults.{HasCause, Rose};
 ghost use Rattle.report_journal.specs.Format.{HasNoRecord};
-ghost use Rattle.report_journal.specs.Scans.{IsChunk, IsNext, AreRead};
+ghost use Rattle.report_journal.specs.Scans.{IsChunk, IsNext, AreRead, FollowFrom, gate_behind};
 
 use crate::chunks::{Chunk, read_head};
 use crate::faults::JournalFault;
@@ -77,6 +77,7 @@ pub fn read_records<D: Disk>(alloc: Global, disk: &mut D, size: u64) -> Result<F
     ensures damaged { IfOk result (λ found. IsTrue (D.tells disk.new) → (IsTrue found.closed → ⊥)
         → (slice_index (D.moments disk.old).now.read found.gate ≡ 0xa5) × HasNoRecord (D.moments disk.old).now.read found.gate) }
     ensures limit { IfOk result (λ found. (found.gate + 1 ≤ 67108864) × (41 + 5 * length found.places.items ≤ found.gate)) }
+    ensures follow { IfOk result (λ found. FollowFrom 41 found.places.items × (gate_behind 41 found.places.items ≡ found.gate)) }
     ensures moments { IsTrue (D.tells disk.new) → D.moments disk.new ≡ D.moments disk.old }
     ensures tells { IsTrue (D.tells disk.new) → IsTrue (D.tells disk.old) }
     ensures cause { (result ≡ Err JournalFault.DiskFault) → Rose (D.faults disk.old) (D.faults disk.new) }

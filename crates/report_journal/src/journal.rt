@@ -1,11 +1,11 @@
 //! A journal of payloads, each on the disk before it is acknowledged.
-ghost use Rattle.std.specs.Prelude.{◌≡◌, ◌≢◌, ◌+◌, ◌-◌, ◌^◌, ◌<◌, ◌≤◌, ◌++◌, [], ◌∷◌, ◌↔◌, List, ℕ, length, vec_len, vec_capacity, slice_get, slice_index, IsTrue, IfOk, IfErr, OnOk, OnErr, IsSome, None, Some, ◌⊎◌};
+ghost use Rattle.std.specs.Prelude.{◌≡◌, ◌≢◌, ◌+◌, ◌-◌, ◌^◌, ◌<◌, ◌≤◌, ◌++◌, [], ◌∷◌, ◌↔◌, List, ℕ, length, vec_len, vec_capacity, slice_get, slice_index, IsTrue, IfOk, IfErr, OnOk, OnErr, IsSome, IfSome, None, Some, ◌⊎◌};
 ghost use Rattle.house_io.specs.Faults.{Rose};
 ghost use Rattle.house_io.specs.Moments.{AtEach, Leaves, IsSettled};
-ghost use Rattle.report_journal.specs.Format.{StandsFor, IsUnformed, front};
-ghost use Rattle.report_journal.specs.Journals.{Stands, payload_at};
-ghost use Rattle.report_journal.specs.Puts.{empty, with_one_more, IsBeforeOrAfter, IsUnformedOrEmpty};
-ghost use Rattle.report_journal.specs.Scans.{IsFormed, HasLimits, IsScan, contents_of, end_in};
+ghost use Rattle.report_journal.specs.Format.{StandsFor, IsUnformed, front, header, body};
+ghost use Rattle.report_journal.specs.Journals.{Stands, ArePlaced, KeepsRecords, AddsRecord, payload_at};
+ghost use Rattle.report_journal.specs.Puts.{empty, with_one_more, IsBeforeOrAfter, IsUnformedOrEmpty, IsSynced};
+ghost use Rattle.report_journal.specs.Scans.{IsFormed, HasLimits, IsScan, contents_of, places_in, end_in};
 
 use crate::faults::{JournalFault, Mended, NotFormed};
 use crate::places::Place;
@@ -42,6 +42,7 @@ impl<D: Disk> Model for Journal<D> {
     ghost view = { λ j. record {
       disk = j.disk;
       contents = said j.clock j.digest j.places.items (D.moments j.disk).now.read;
+      places = j.places.items;
       end = j.end;
       pending = option_map (λ p. p.items) j.pending;
     } };
@@ -55,7 +56,8 @@ impl<D: Disk> Model for Journal<D> {
 impl<D: Disk> Journal<D> {
     /// How many payloads count.
     pub fn count(&self) -> u32
-        ensures { result ≡ length self.now.contents.payloads }
+        ensures payloads { result ≡ length self.now.contents.payloads }
+        ensures places { result ≡ length self.now.places }
     {
         self.places.len() as u32
     }
@@ -66,6 +68,7 @@ impl<D: Disk> Journal<D> {
         // What the type keeps.
         ensures stands { IsTrue (D.tells self.now.disk) → Stands self.now.contents self.now.pending (D.moments self.now.disk) }
         ensures end { IsTrue (D.tells self.now.disk) → self.now.end ≡ length (front self.now.contents) }
+        ensures placed { IsTrue (D.tells self.now.disk) → ArePlaced 41 self.now.places self.now.contents.payloads }
         ensures limit { self.now.end + 1 ≤ 67108864 }
     {
         self.disk.moment()
@@ -98,6 +101,8 @@ impl<D: Disk> Journal<D> {
             → Leaves (StandsFor (with_one_more self.old.contents payload.now)) (D.moments self.new.disk).now) }
         ensures number { IfOk result (λ n. n ≡ length self.new.contents.payloads) }
         ensures grown { OnOk result ((self.new.end ≡ self.old.end + 5 + length payload.now) × (self.new.pending ≡ None)) }
+        ensures adds_record { OnOk result (AddsRecord (length payload.now) self.old self.new) }
+        ensures keeps_records { OnErr result (KeepsRecords self.old self.new) }
         ensures not_mended { result ≡ Err JournalFault.NotMended ↔ IsSome self.old.pending }
         ensures full { (needed : ℕ) → (result ≡ Err (JournalFault.Full needed))
             ↔ ((self.old.pending ≡ None) × (needed ≡ self.old.end + 6 + length payload.now) × (67108864 < needed)) }
@@ -149,6 +154,9 @@ impl<D: Disk> Journal<D> {
             × Leaves (StandsFor (with_one_more self.old.contents payload)) (D.moments self.new.disk).now }
         ensures dropped { result ≡ Ok Mended.Dropped → IsTrue (D.tells self.new.disk)
             → (self.new.contents ≡ self.old.contents) × Leaves (StandsFor self.old.contents) (D.moments self.new.disk).now }
+        ensures adds_record { result ≡ Ok Mended.Counted → (payload : List ℕ) → self.old.pending ≡ Some payload
+            → AddsRecord (length payload) self.old self.new }
+        ensures keeps_records { (result ≡ Ok Mended.Counted) ⊎ KeepsRecords self.old self.new }
         ensures open { result ≡ Ok Mended.Counted → IsTrue (D.tells self.new.disk)
             → slice_index (D.moments self.old.disk).now.read self.old.end ≡ 0xa5 }
         ensures shut { result ≡ Ok Mended.Dropped → IsTrue (D.tells self.new.disk)
@@ -157,6 +165,7 @@ impl<D: Disk> Journal<D> {
             × (IsTrue (D.tells self.new.disk) → self.new.contents ≡ self.old.contents)
             × (self.new.end ≡ self.old.end)
             × Rose (D.faults self.old.disk) (D.faults self.new.disk)) }
+        ensures synced { IsTrue (D.tells self.new.disk) → IsSynced (D.moments self.old.disk) (D.moments self.new.disk) }
         ensures moments { IsTrue (D.tells self.new.disk) → (payload : List ℕ) → self.old.pending ≡ Some payload
             → AtEach (IsBeforeOrAfter self.old.contents payload) (D.moments self.old.disk) (D.moments self.new.disk) }
         ensures tells { IsTrue (D.tells self.new.disk) → IsTrue (D.tells self.old.disk) }
@@ -193,6 +202,8 @@ impl<D: Disk> Journal<D> {
         ensures payload { IfOk result (λ payload. IsTrue (D.tells self.new.disk)
             → slice_get self.old.contents.payloads (number - 1) ≡ Some payload.items) }
         ensures contents { IsTrue (D.tells self.new.disk) → self.new.contents ≡ self.old.contents }
+        ensures long { IfOk result (λ payload. IfSome (slice_get self.old.places (number - 1)) (λ place. length payload.items ≡ place.length)) }
+        ensures keeps_records { KeepsRecords self.old self.new }
         ensures same { (self.new.end ≡ self.old.end) × (self.new.pending ≡ self.old.pending) }
         ensures moments { IsTrue (D.tells self.new.disk) → D.moments self.new.disk ≡ D.moments self.old.disk }
         ensures tells { IsTrue (D.tells self.new.disk) → IsTrue (D.tells self.old.disk) }
@@ -214,6 +225,7 @@ impl<D: Disk> Journal<D> {
         ensures disk { result.disk ≡ disk }
         ensures pending { result.pending ≡ None }
         ensures contents { result.contents ≡ contents_of scan (D.moments disk).now.read }
+        ensures places { result.places ≡ places_in scan }
         ensures end { result.end ≡ end_in scan }
     {
         let Scanned::Formed {
@@ -244,6 +256,7 @@ impl<D: Disk> Journal<D> {
     ) -> Result<Journal<D>, NotFormed<D>>
         requires { IsTrue (D.tells disk) → IsSettled (D.moments disk).now × IsUnformed (D.moments disk).now.read }
         ensures ok { IfOk result (λ j. (j.pending ≡ None) × (j.end ≡ 41) × (j.contents ≡ empty clock digest)) }
+        ensures places { IfOk result (λ j. j.places ≡ []) }
         ensures every_image { IfOk result (λ j. IsTrue (D.tells j.disk)
             → Leaves (StandsFor (empty clock digest)) (D.moments j.disk).now) }
         ensures moments { IfOk result (λ j. IsTrue (D.tells j.disk)
@@ -252,7 +265,7 @@ impl<D: Disk> Journal<D> {
         ensures faults { IfOk result (λ j. D.faults disk ≤ D.faults j.disk) }
         ensures err { IfErr result (λ e. (IsTrue (D.tells e.disk) → AtEach (IsUnformedOrEmpty clock digest) (D.moments disk) (D.moments e.disk))
             × (IsTrue (D.tells e.disk) → IsTrue (D.tells disk)) × (D.faults disk ≤ D.faults e.disk)
-            × ((e.fault ≡ JournalFault.NoMemory) ⊎ ((e.fault ≡ JournalFault.DiskFault) × Rose (D.faults disk) (D.faults e.disk)))) }
+            × (((e.fault ≡ JournalFault.NoMemory) × (e.disk ≡ disk)) ⊎ ((e.fault ≡ JournalFault.DiskFault) × Rose (D.faults disk) (D.faults e.disk)))) }
     {
         let Ok(bytes) = header_bytes(alloc, clock, &digest) else {
             return Err(NotFormed {
@@ -288,6 +301,7 @@ fn push_reserved(places: &mut Vec<Place>, place: Place)
 
 /// Reads a payload at its place; bytes that a disk has not are 0.
 fn read_place<D: Disk>(alloc: Global, disk: &mut D, place: Place) -> Result<Vec<u8>, JournalFault>
+    ensures long { IfOk result (λ payload. length payload.items ≡ place.length) }
     ensures payload { IfOk result (λ payload. IsTrue (D.tells disk.new)
         → length (payload_at (D.moments disk.old).now.read place) ≡ place.length
         → payload.items ≡ payload_at (D.moments disk.old).now.read place) }

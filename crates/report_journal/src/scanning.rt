@@ -4,7 +4,7 @@ ghost use Rattle.house_io.specs.Faults.{HasCause, Rose};
 ghost use Rattle.house_io.specs.Moments.{IsSettled};
 ghost use Rattle.report_journal.specs.Format.{IsUnformed};
 ghost use Rattle.report_journal.specs.Puts.{IsSynced};
-ghost use Rattle.report_journal.specs.Scans.{IsScan, HasLimits};
+ghost use Rattle.report_journal.specs.Scans.{IsScan, HasLimits, IsInOrder};
 
 use crate::faults::JournalFault;
 use crate::heads::read_records;
@@ -56,6 +56,7 @@ pub fn scan<D: Disk>(alloc: Global, disk: &mut D) -> Result<Scanned, JournalFaul
     ensures found { IfOk result (λ s. IsTrue (D.tells disk.new) → IsScan s (D.moments disk.old).now.read) }
     ensures settled { OnOk result (IsTrue (D.tells disk.new) → IsSettled (D.moments disk.new).now) }
     ensures limits { IfOk result HasLimits }
+    ensures in_order { IfOk result IsInOrder }
     ensures moments { IsTrue (D.tells disk.new) → IsSynced (D.moments disk.old) (D.moments disk.new) }
     ensures tells { IsTrue (D.tells disk.new) → IsTrue (D.tells disk.old) }
     ensures cause { (result ≡ Err JournalFault.DiskFault) → Rose (D.faults disk.old) (D.faults disk.new) }

@@ -1,7 +1,7 @@
 //! The spellings of headers and records. Numbers are big-endian.
 ghost use Rattle.std.specs.Prelude.{◌≡◌, ◌↔◌, ◌+◌, ◌^◌, ◌<◌, ◌≤◌, ◌++◌, [], ◌∷◌, length, take, drop, IsTrue, IfOk};
 ghost use Rattle.std.specs.Int.{w32, to_be_bytes, from_be_bytes};
-ghost use Rattle.report_journal.specs.Format.{format_name, header, body};
+ghost use Rattle.report_journal.specs.Format.{format_name, header, body, clock_in, digest_in};
 ghost use Rattle.report_journal.specs.Puts.{IsHeader};
 
 use std::alloc::{AllocError, Global};
@@ -65,6 +65,8 @@ pub fn header_of(bytes: &[u8; HEADER_LENGTH]) -> Header
     ensures header { IsTrue result.named → take 40 (drop 1 bytes.now) ≡ header result.clock result.digest }
     ensures clock { result.clock < 2 ^ 32 }
     ensures long { length result.digest ≡ 32 }
+    ensures clock_read { result.clock ≡ clock_in bytes.now }
+    ensures digest_read { result.digest ≡ digest_in bytes.now }
 {
     let mut digest = [0; 32];
     digest.copy_from_slice(&bytes[9..41]);

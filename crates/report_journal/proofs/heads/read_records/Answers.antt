@@ -3,6 +3,7 @@ use Rattle.report_journal.specs.Scans.{IsChunk, AreRead, IsNext}
 use Rattle.report_journal.specs.declared.places.Place.{Place}
 use Rattle.report_journal.specs.declared.heads.Next.TheVariants.{Record}
 use Rattle.report_journal.proofs.Chunked.{chunk_none}
+use Rattle.report_journal.proofs.Placed.{follow_push, behind_push}
 use Rattle.report_journal.proofs.Gates.{read_start, read_more}
 use Rattle.report_journal.proofs.heads.read_records.Goals as goal
 
@@ -14,6 +15,8 @@ records-init g c = rw c.new-places.ensures.items (record {
   moments = λ told. refl;
   read = λ told. read_start _ (c.requires.long told);
   chunk = λ told. chunk_none c.in_ok-chunk.chunk.bytes.items _ c.in_ok-chunk.chunk.at c.in_ok-chunk.chunk.filled c.in_ok-chunk.ensures;
+  follow = tt;
+  behind = refl;
   faults = omega arith;
 })
 
@@ -38,6 +41,8 @@ records-preserved g c =
       chunk = λ told.
           let told_before = c.next_record.ensures.tells told in
           subst (λ ms. IsChunk c.next_record.new.chunk.bytes.items c.next_record.new.chunk.at c.next_record.new.chunk.filled ms.now.read) (before.moments told_before) (c.in_ok-next_record.ensures.chunk told);
+      follow = follow_push c.records.places.items place 41 before.follow (omega (arith, before.behind)) limits.0;
+      behind = omega (arith, behind_push c.records.places.items place 41, before.behind);
       faults = omega (arith, before.faults, c.next_record.ensures.cause.later);
     })
 

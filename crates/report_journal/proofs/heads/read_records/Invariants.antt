@@ -1,5 +1,5 @@
 use Rattle.std.proofs.Common.{◌≡◌, ◌+◌, ◌*◌, ◌-◌, ◌≤◌, length, IsTrue}
-use Rattle.report_journal.specs.Scans.{AreRead, IsChunk}
+use Rattle.report_journal.specs.Scans.{AreRead, IsChunk, FollowFrom, gate_behind}
 use Rattle.report_journal.proofs.heads.read_records.Given as goal
 
 abbrev pub invariant-records : goal.invariant-records
@@ -10,6 +10,8 @@ invariant-records g l = record {
   moments : IsTrue (g.D.Disk.tells l.disk) → g.D.Disk.moments l.disk ≡ g.D.Disk.moments l.initial.disk;
   read : IsTrue (g.D.Disk.tells l.disk) → AreRead l.places.items l.gate (g.D.Disk.moments l.initial.disk).now.read;
   chunk : IsTrue (g.D.Disk.tells l.disk) → IsChunk l.chunk.bytes.items l.chunk.at l.chunk.filled (g.D.Disk.moments l.initial.disk).now.read;
+  follow : FollowFrom 41 l.places.items;
+  behind : gate_behind 41 l.places.items ≡ l.gate;
   faults : g.D.Disk.faults l.initial.disk ≤ g.D.Disk.faults l.disk;
 }
 

@@ -1,6 +1,6 @@
-use Rattle.std.proofs.Common.{◌≡◌, ◌+◌, ◌∙◌, ap, subst, sym, refl, inl, inr, length, List, ℕ, arith, rules, IsTrue, true, false}
+use Rattle.std.proofs.Common.{◌≡◌, ◌+◌, ◌∙◌, ap, subst, sym, refl, inl, inr, length, List, ℕ, arith, rules, IsTrue, true, false, lit≤}
 use Rattle.report_journal.proofs.Kept.{is_true, is_false}
-use Rattle.report_journal.proofs.Gates.{is_formed, not_named, size, stands, damaged}
+use Rattle.report_journal.proofs.Gates.{is_formed, not_named, same_clock, same_digest, size, stands, damaged}
 use Rattle.report_journal.proofs.scanning.scan.Goals as goal
 
 pub returns-then-not-named-clause-found : goal.returns-then-not-named-clause-found
@@ -15,6 +15,8 @@ returns-then-not-named-clause-found g c told =
         formed = is_formed _ c.in-Some.bytes found.0 found.1 found.2;
         other = not_named _ c.in-Some.bytes found.0 found.1 found.2 (λ named. is_false c.header_of-named.ensures.named (search rules) named);
       },
+      c.header_of-named.ensures.clock_read ∙ sym (same_clock _ c.in-Some.bytes found.0 found.1 found.2),
+      c.header_of-named.ensures.digest_read ∙ sym (same_digest _ c.in-Some.bytes found.0 found.1 found.2),
     )
 
 pub returns-then-found-clause-found : goal.returns-then-found-clause-found
@@ -49,3 +51,15 @@ returns-clause-found g c told =
     let open_gate = rw front_same at (c.in_ok-found.ensures.damaged told (λ closed. let e : true ≡ false = sym closed ∙ c.if-found.false in cc e)) in
     let count : c.len.result ≡ length c.in_ok-found.found.places.items = search rules in
     rw c.from_vec-2.ensures (inr (omega (arith, count), damaged _ c.in-Some.bytes found.0 found.1 found.2 _ _ is_header c.header_of-named.ensures.clock c.header_of-named.ensures.long _ _ are c.in_ok-found.ensures.limit.0 open_gate.0 open_gate.1, are.placed))
+
+pub returns-then-not-named-clause-in_order : goal.returns-then-not-named-clause-in_order
+returns-then-not-named-clause-in_order g c = rw (c.from_vec.ensures ∙ c.new.ensures.items) (tt, lit≤ tt, inl (refl, refl))
+
+pub returns-then-found-clause-in_order : goal.returns-then-found-clause-in_order
+returns-then-found-clause-in_order g c = rw c.from_vec-then-found.ensures c.in_ok-found.ensures.follow
+
+pub returns-clause-in_order : goal.returns-clause-in_order
+returns-clause-in_order g c =
+    let follow = c.in_ok-found.ensures.follow in
+    let count : c.len.result ≡ length c.in_ok-found.found.places.items = search rules in
+    rw c.from_vec-2.ensures (follow.0, omega (arith, follow.1, c.in_ok-found.ensures.limit.0), inr (omega (arith, count)))

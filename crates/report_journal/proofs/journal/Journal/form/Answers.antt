@@ -5,7 +5,7 @@ use Rattle.report_journal.proofs.Forming.{not_begun}
 use Rattle.report_journal.proofs.journal.Journal.form.Goals as goal
 
 pub returns-in_default-clause-err : goal.returns-in_default-clause-err
-returns-in_default-clause-err g c = (λ told. not_begun _ _ _ (c.requires told), λ told. told, omega arith, inl refl)
+returns-in_default-clause-err g c = (λ told. not_begun _ _ _ (c.requires told), λ told. told, omega arith, inl (refl, refl))
 
 pub returns-clause-every_image : goal.returns-clause-every_image
 returns-clause-every_image g c told =
