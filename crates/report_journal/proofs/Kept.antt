@@ -2,7 +2,7 @@
 use Rattle.std.proofs.Common.{◌≡◌, ◌≢◌, ◌↔◌, Bool, true, false, IsTrue, get_or, ◌⊎◌, inl, inr, ⊎_elim, ℕ, ◌+◌, ◌≤◌, List, [], ◌∷◌, ◌++◌, length, take, drop, Option, Some, None, refl, sym, ◌∙◌, ap, subst, arith, append_assoc, length-append}
 use Rattle.std.proofs.lemmas.List.{take_at, drop_at, get_or_at}
 use Rattle.std.specs.Int.{w32, to_be_bytes}
-use Rattle.house_io.specs.Moments.{Moment, Moments, Leaves, AtEach, IsSettled, settled}
+use Rattle.house_io.specs.Moments.{Moment, Moments, Leaves, AtEach, Torn, IsSettled, settled}
 use Rattle.std.specs.List.{AllByRecursion}
 use Rattle.house_io.proofs.Moments.{at_start, at_next, at_now, leaves_settled}
 use Rattle.report_journal.specs.Format.{format_name, Contents, header, body, records, front, IsPayload, StandsFor, Fits}
@@ -10,6 +10,7 @@ use Rattle.report_journal.specs.Puts.{Takes, with_one_more, IsBeforeOrAfter, IsS
 use Rattle.report_journal.specs.Journals.{said, payload_at, payloads_at, ArePlaced, Stands, IsKept}
 use Rattle.report_journal.specs.declared.places.Place.{Place}
 use Rattle.report_journal.proofs.Records.{front-push}
+use Rattle.report_journal.proofs.Spans.{at_rest}
 
 regroup : (pre size payload more : List ℕ) → pre ++ (0xa5 ∷ size ++ payload) ++ more ≡ (pre ++ 0xa5 ∷ size) ++ payload ++ more
 regroup pre size payload more = ap (λ (l : List ℕ). l ++ more) (sym (append_assoc pre (0xa5 ∷ size) payload))
@@ -120,6 +121,9 @@ module _ (x : Contents) (places : List Place) (end : ℕ) (pending : Option (Lis
 
   pub nothing_done : (payload : List ℕ) → AtEach (IsBeforeOrAfter x payload) ms ms
   nothing_done payload = at_start (IsBeforeOrAfter x payload) ms (subst (Leaves (IsBeforeOrAfter x payload)) (sym stands.0) (leaves_settled (IsBeforeOrAfter x payload) ms.now.read (inl stands.1)))
+
+  pub nothing_written : (at n : ℕ) → AtEach (Torn at n ms.now.read) ms ms
+  nothing_written at n = at_rest at n ms stands.0
 
   pub takes : (payload bytes : List ℕ) → bytes ≡ body payload ++ 0 ∷ [] → length payload ≤ 32768 → end + 6 + length payload ≤ 67108864 → Takes x payload end bytes ms.now.read
   takes payload bytes is short room = record {

@@ -9,3 +9,4 @@ pub mod Placed
 pub mod Chains
 pub mod OneKind
 pub mod FindKind
+pub mod Spans

@@ -1,7 +1,7 @@
 //! A journal of payloads, each on the disk before it is acknowledged.
 ghost use Rattle.std.specs.Prelude.{◌≡◌, ◌≢◌, ◌+◌, ◌-◌, ◌^◌, ◌<◌, ◌≤◌, ◌++◌, [], ◌∷◌, ◌↔◌, List, ℕ, length, vec_len, vec_capacity, slice_get, slice_index, IsTrue, IfOk, IfErr, OnOk, OnErr, IsSome, IfSome, None, Some, ◌⊎◌};
 ghost use Rattle.house_io.specs.Faults.{Rose};
-ghost use Rattle.house_io.specs.Moments.{AtEach, Leaves, IsSettled};
+ghost use Rattle.house_io.specs.Moments.{AtEach, Leaves, IsSettled, Torn, overlaid};
 ghost use Rattle.report_journal.specs.Format.{StandsFor, IsUnformed, front, header, body};
 ghost use Rattle.report_journal.specs.Journals.{Stands, ArePlaced, KeepsRecords, AddsRecord, payload_at};
 ghost use Rattle.report_journal.specs.Puts.{empty, with_one_more, IsBeforeOrAfter, IsUnformedOrEmpty, IsSynced};
@@ -112,6 +112,12 @@ impl<D: Disk> Journal<D> {
         ensures same { IfErr result (λ e. (e ≡ JournalFault.DiskFault) ⊎ (self.new ≡ self.old)) }
         ensures moments { self.old.pending ≡ None → IsTrue (D.tells self.new.disk)
             → AtEach (IsBeforeOrAfter self.old.contents payload.now) (D.moments self.old.disk) (D.moments self.new.disk) }
+        // Its bytes, and no others.
+        ensures written { OnOk result (IsTrue (D.tells self.new.disk) → (D.moments self.new.disk).now.read
+            ≡ overlaid (D.moments self.old.disk).now.read self.old.end (0xa5 ∷ body payload.now ++ 0 ∷ [])) }
+        ensures range { self.old.pending ≡ None → IsTrue (D.tells self.new.disk)
+            → AtEach (Torn self.old.end (6 + length payload.now) (D.moments self.old.disk).now.read)
+            (D.moments self.old.disk) (D.moments self.new.disk) }
         ensures tells { IsTrue (D.tells self.new.disk) → IsTrue (D.tells self.old.disk) }
         ensures faults { D.faults self.old.disk ≤ D.faults self.new.disk }
     {
@@ -261,6 +267,13 @@ impl<D: Disk> Journal<D> {
             → Leaves (StandsFor (empty clock digest)) (D.moments j.disk).now) }
         ensures moments { IfOk result (λ j. IsTrue (D.tells j.disk)
             → AtEach (IsUnformedOrEmpty clock digest) (D.moments disk) (D.moments j.disk)) }
+        // The header's bytes, and no others.
+        ensures written { IfOk result (λ j. IsTrue (D.tells j.disk) → (D.moments j.disk).now.read
+            ≡ overlaid (D.moments disk).now.read 0 (0xa5 ∷ header clock digest ++ 0 ∷ [])) }
+        ensures range { IfOk result (λ j. IsTrue (D.tells j.disk)
+            → AtEach (Torn 0 42 (D.moments disk).now.read) (D.moments disk) (D.moments j.disk)) }
+        ensures err_range { IfErr result (λ e. IsTrue (D.tells e.disk)
+            → AtEach (Torn 0 42 (D.moments disk).now.read) (D.moments disk) (D.moments e.disk)) }
         ensures tells { IfOk result (λ j. IsTrue (D.tells j.disk) → IsTrue (D.tells disk)) }
         ensures faults { IfOk result (λ j. D.faults disk ≤ D.faults j.disk) }
         ensures err { IfErr result (λ e. (IsTrue (D.tells e.disk) → AtEach (IsUnformedOrEmpty clock digest) (D.moments disk) (D.moments e.disk))

@@ -1,5 +1,5 @@
 //! The steps of a journal's calls on its disk: each writes a piece and syncs it.
-ghost use Rattle.std.specs.Prelude.{◌≡◌, ◌+◌, ◌^◌, ◌<◌, ◌≤◌, ◌↔◌, List, ℕ, length, slice_index, IsTrue, IfOk, OnOk, OnErr};
+ghost use Rattle.std.specs.Prelude.{◌≡◌, ◌+◌, ◌^◌, ◌<◌, ◌≤◌, ◌↔◌, ◌⊎◌, [], ◌∷◌, List, ℕ, length, slice_index, IsTrue, IfOk, OnOk, OnErr};
 ghost use Rattle.house_io.specs.Faults.{HasCause};
 ghost use Rattle.house_io.specs.Moments.{settled, IsSettled, overlaid, Torn, AtEach};
 ghost use Rattle.report_journal.specs.Format.{Contents, StandsFor, IsUnformed};
@@ -36,6 +36,10 @@ pub fn put_record<D: Disk>(disk: &mut D, gate: u64, bytes: &[u8]) -> Result<(), 
     ensures moments { IsTrue (D.tells disk.new) → (x : Contents) (payload : List ℕ)
         → Takes x payload gate bytes.now (D.moments disk.old).now.read
         → AtEach (IsBeforeOrAfter x payload) (D.moments disk.old) (D.moments disk.new) }
+    ensures written { OnOk result (IsTrue (D.tells disk.new)
+        → (D.moments disk.new).now.read ≡ overlaid (D.moments disk.old).now.read gate (0xa5 ∷ bytes.now)) }
+    ensures range { IsTrue (D.tells disk.new)
+        → AtEach (Torn gate (1 + length bytes.now) (D.moments disk.old).now.read) (D.moments disk.old) (D.moments disk.new) }
     ensures tells { IsTrue (D.tells disk.new) → IsTrue (D.tells disk.old) }
     ensures cause { HasCause (D.faults disk.old) (D.faults disk.new) result }
 {
@@ -49,6 +53,10 @@ pub fn shut_gate<D: Disk>(disk: &mut D) -> Result<(), Failed>
     ensures done { OnOk result (IsTrue (D.tells disk.new)
         → IsSettled (D.moments disk.new).now × IsShut (D.moments disk.new).now.read) }
     ensures moments { IsTrue (D.tells disk.new) → AtEach IsUnformed (D.moments disk.old) (D.moments disk.new) }
+    ensures written { OnOk result (IsTrue (D.tells disk.new) → ((D.moments disk.new).now.read ≡ (D.moments disk.old).now.read)
+        ⊎ ((D.moments disk.new).now.read ≡ overlaid (D.moments disk.old).now.read 0 (0 ∷ []))) }
+    ensures range { IsTrue (D.tells disk.new)
+        → AtEach (Torn 0 1 (D.moments disk.old).now.read) (D.moments disk.old) (D.moments disk.new) }
     ensures tells { IsTrue (D.tells disk.new) → IsTrue (D.tells disk.old) }
     ensures cause { HasCause (D.faults disk.old) (D.faults disk.new) result }
 {
@@ -66,6 +74,10 @@ pub fn put_header<D: Disk>(disk: &mut D, bytes: &[u8]) -> Result<(), Failed>
         → IsHeader clock digest bytes.now → StandsFor (empty clock digest) (D.moments disk.new).now.read) }
     ensures moments { IsTrue (D.tells disk.new) → (clock : ℕ) (digest : List ℕ)
         → IsHeader clock digest bytes.now → AtEach (IsUnformedOrEmpty clock digest) (D.moments disk.old) (D.moments disk.new) }
+    ensures written { OnOk result (IsTrue (D.tells disk.new)
+        → (D.moments disk.new).now.read ≡ overlaid (D.moments disk.old).now.read 0 (0xa5 ∷ bytes.now)) }
+    ensures range { IsTrue (D.tells disk.new)
+        → AtEach (Torn 0 (1 + length bytes.now) (D.moments disk.old).now.read) (D.moments disk.old) (D.moments disk.new) }
     ensures tells { IsTrue (D.tells disk.new) → IsTrue (D.tells disk.old) }
     ensures cause { HasCause (D.faults disk.old) (D.faults disk.new) result }
 {
@@ -81,6 +93,10 @@ pub fn form_file<D: Disk>(disk: &mut D, bytes: &[u8]) -> Result<(), Failed>
         → IsHeader clock digest bytes.now → StandsFor (empty clock digest) (D.moments disk.new).now.read) }
     ensures moments { IsTrue (D.tells disk.new) → (clock : ℕ) (digest : List ℕ)
         → IsHeader clock digest bytes.now → AtEach (IsUnformedOrEmpty clock digest) (D.moments disk.old) (D.moments disk.new) }
+    ensures written { OnOk result (IsTrue (D.tells disk.new)
+        → (D.moments disk.new).now.read ≡ overlaid (D.moments disk.old).now.read 0 (0xa5 ∷ bytes.now)) }
+    ensures range { IsTrue (D.tells disk.new)
+        → AtEach (Torn 0 (1 + length bytes.now) (D.moments disk.old).now.read) (D.moments disk.old) (D.moments disk.new) }
     ensures tells { IsTrue (D.tells disk.new) → IsTrue (D.tells disk.old) }
     ensures cause { HasCause (D.faults disk.old) (D.faults disk.new) result }
 {

@@ -1,7 +1,10 @@
-use Rattle.std.proofs.Common.{inl}
+use Rattle.std.proofs.Common.{◌+◌, ◌∷◌, length, inl, ⊎_elim, ◌∙◌, ap, arith}
+use Rattle.std.proofs.lemmas.Result.{on_ok_weaker}
+use Rattle.house_io.specs.Moments.{overlaid}
 use Rattle.house_io.proofs.Moments.{at_both, at_weaker}
 use Rattle.report_journal.specs.Format.{IsUnformed}
 use Rattle.report_journal.specs.Puts.{IsUnformedOrEmpty}
+use Rattle.report_journal.proofs.Spans.{at_wider, at_twice, overlaid_over}
 use Rattle.report_journal.proofs.steps.form_file.Goals as goal
 
 pub returns-in_err-shut_gate-clause-moments : goal.returns-in_err-shut_gate-clause-moments
@@ -13,3 +16,19 @@ returns-clause-moments g c told clock digest is_header =
     at_both (IsUnformedOrEmpty clock digest) _ _ _
     (at_weaker IsUnformed (IsUnformedOrEmpty clock digest) _ _ (λ f unformed. inl unformed) (c.shut_gate.ensures.moments (c.put_header.ensures.tells told)))
     (c.put_header.ensures.moments told clock digest is_header)
+
+pub returns-in_err-shut_gate-clause-range : goal.returns-in_err-shut_gate-clause-range
+returns-in_err-shut_gate-clause-range g c told =
+    at_wider 0 (1 + length c.args.bytes.now) 0 1 (omega arith) (omega arith) _ _ (c.shut_gate.ensures.range told)
+
+pub returns-clause-range : goal.returns-clause-range
+returns-clause-range g c told =
+    at_twice 0 (1 + length c.args.bytes.now) 0 1 0 (1 + length c.args.bytes.now) (omega arith) (omega arith) (omega arith) (omega arith) _ _ _ (c.shut_gate.ensures.range (c.put_header.ensures.tells told)) (c.put_header.ensures.range told)
+
+pub returns-clause-written : goal.returns-clause-written
+returns-clause-written g c = on_ok_weaker c.put_header.result (λ done told.
+    let file = (g.D.Disk.moments c.args.disk.now).now.read in
+    ⊎_elim
+    (λ same. done told ∙ ap (λ f. overlaid f 0 (0xa5 ∷ c.args.bytes.now)) same)
+    (λ shut. done told ∙ ap (λ f. overlaid f 0 (0xa5 ∷ c.args.bytes.now)) shut ∙ overlaid_over file c.args.bytes.now 0xa5 0)
+    (c.in_ok-shut_gate.ensures.written (c.put_header.ensures.tells told))) c.put_header.ensures.written

@@ -1,7 +1,7 @@
 use Rattle.std.proofs.Common.{◌≡◌, ◌+◌, ◌++◌, [], ◌∷◌, length, None, Some, refl, sym, ◌∙◌, ap, subst, arith, rules, length-append}
 use Rattle.std.specs.Option.{option_map}
 use Rattle.house_io.proofs.Moments.{at_now, leaves_here}
-use Rattle.report_journal.proofs.Kept.{nothing_done, takes, put_is, put_kept, doubt_is, doubt_kept}
+use Rattle.report_journal.proofs.Kept.{nothing_done, nothing_written, takes, put_is, put_kept, doubt_is, doubt_kept}
 use Rattle.report_journal.proofs.journal.Journal.append.Goals as goal
 
 pub returns-then-needed-gt-GREATEST_END-clause-moments : goal.returns-then-needed-gt-GREATEST_END-clause-moments
@@ -83,3 +83,15 @@ returns-clause-every_image g c = rw (← c.self.view_is) (λ told.
     let none : option_map (λ p. p.items) c.self.inside.pending ≡ None = search rules in
     let takes_it = takes _ _ _ _ _ kept none c.args.payload.now c.deref.result.now (c.deref.ensures.value ∙ c.in_ok-bytes.ensures) c.requires (omega arith) in
     leaves_here _ _ (c.in-Ok.ensures.done told) (c.in-Ok.ensures.has_it told _ _ takes_it))
+
+pub returns-then-needed-gt-GREATEST_END-clause-range : goal.returns-then-needed-gt-GREATEST_END-clause-range
+returns-then-needed-gt-GREATEST_END-clause-range g c = rw (← c.self.view_is) (λ none told. nothing_written _ _ _ _ _ (c.self.invariant.3 told) none _ _)
+
+pub returns-in_err-bytes-clause-range : goal.returns-in_err-bytes-clause-range
+returns-in_err-bytes-clause-range g c = rw (← c.self.view_is) (λ none told. nothing_written _ _ _ _ _ (c.self.invariant.3 told) none _ _)
+
+pub returns-in_err-kept-clause-range : goal.returns-in_err-kept-clause-range
+returns-in_err-kept-clause-range g c = rw (← c.self.view_is) (λ none told. nothing_written _ _ _ _ _ (c.self.invariant.3 told) none _ _)
+
+pub returns-in_err-reserve-clause-range : goal.returns-in_err-reserve-clause-range
+returns-in_err-reserve-clause-range g c = rw (← c.self.view_is) (λ none told. nothing_written _ _ _ _ _ (c.self.invariant.3 told) none _ _)

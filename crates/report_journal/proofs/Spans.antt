@@ -1,0 +1,85 @@
+-- What two writes within one range change of a file.
+use Rattle.std.proofs.Common.{◌≡◌, ◌⊎◌, inl, inr, ℕ, suc, ◌+◌, ◌<◌, ◌≤◌, List, [], ◌∷◌, ◌++◌, length, get_or, take, drop, refl, sym, ◌∙◌, ap, arith, append_assoc, length-append, take-append-drop}
+use Rattle.std.proofs.lemmas.List.{length-take-le, drop_more, drop-drop}
+use Rattle.house_io.specs.Moments.{Moments, Torn, overlaid, AtEach, IsSettled, Leaves}
+use Rattle.house_io.proofs.Moments.{at_start, at_both, at_weaker, at_now, leaves_here, settled_torn}
+use Rattle.house_io.proofs.Overlays.{overlaid_behind}
+
+-- nothing was written
+pub at_rest : (at n : ℕ) (old : Moments) → IsSettled old.now → AtEach (Torn at n old.now.read) old old
+at_rest at n old is_settled =
+    at_start (Torn at n old.now.read) old (leaves_here (Torn at n old.now.read) old.now is_settled (settled_torn old.now.read old.now.read at n refl))
+
+module _ (at l a n : ℕ) (from : at ≤ a) (to : a + n ≤ at + l) where
+  outside : (i : ℕ) → (i < at) ⊎ (at + l ≤ i) → (i < a) ⊎ (a + n ≤ i)
+  outside i (inl less) = inl (omega (arith, less, from))
+  outside i (inr more) = inr (omega (arith, more, to))
+
+  torn_wider : (file c : List ℕ) → Torn a n file c → Torn at l file c
+  torn_wider file c torn = record {
+    no_shorter = torn.no_shorter;
+    no_longer = omega (arith, torn.no_longer, to);
+    same = λ i below out. torn.same i below (outside i out);
+  }
+
+  pub at_wider : (old new : Moments) → AtEach (Torn a n old.now.read) old new → AtEach (Torn at l old.now.read) old new
+  at_wider old new each = at_weaker (Torn a n old.now.read) (Torn at l old.now.read) old new (torn_wider old.now.read) each
+
+module _ (at l a n b k : ℕ) (from : at ≤ a) (to : a + n ≤ at + l) (from' : at ≤ b) (to' : b + k ≤ at + l) where
+  torn_twice : (file mid c : List ℕ) → Torn a n file mid → Torn b k mid c → Torn at l file c
+  torn_twice file mid c one two = record {
+    no_shorter = omega (arith, one.no_shorter, two.no_shorter);
+    no_longer = omega (arith, one.no_longer, two.no_longer, to, to');
+    same = λ i below out. two.same i (omega (arith, below, one.no_shorter)) (outside at l b k from' to' i out) ∙ one.same i below (outside at l a n from to i out);
+  }
+
+  pub at_twice : (old mid new : Moments) → AtEach (Torn a n old.now.read) old mid → AtEach (Torn b k mid.now.read) mid new → AtEach (Torn at l old.now.read) old new
+  at_twice old mid new first second =
+      at_both (Torn at l old.now.read) old mid new (at_wider at l a n from to old mid first)
+      (at_weaker (Torn b k mid.now.read) (Torn at l old.now.read) mid new
+      (λ c torn. torn_twice old.now.read mid.now.read c (at_now (Torn a n old.now.read) old mid first).read torn) second)
+
+-- a piece, and then the byte before it
+module _ (file : List ℕ) (at : ℕ) (some : at + 1 ≤ length file) (bytes : List ℕ) (x : ℕ) where
+  abbrev pre : List ℕ
+  pre = take at file
+
+  abbrev y : ℕ
+  y = get_or file at 0
+
+  abbrev rest : List ℕ
+  rest = drop (at + 1) file
+
+  abbrev behind : List ℕ
+  behind = bytes ++ drop (length bytes) rest
+
+  pre_is : length pre ≡ at
+  pre_is = length-take-le at file (omega (arith, some))
+
+  split : file ≡ pre ++ y ∷ rest
+  split = sym (take-append-drop at file) ∙ ap (λ (l : List ℕ). pre ++ l) (drop_more file at 0 (omega (arith, some)))
+
+  first : overlaid file (at + 1) bytes ≡ pre ++ y ∷ behind
+  first =
+      ap (λ (l : List ℕ). overlaid l (at + 1) bytes) (split ∙ sym (append_assoc pre (y ∷ []) rest))
+      ∙ overlaid_behind (pre ++ y ∷ []) (at + 1) (omega (arith, length-append pre (y ∷ []), pre_is)) rest bytes
+      ∙ append_assoc (pre ++ y ∷ []) bytes (drop (length bytes) rest)
+      ∙ append_assoc pre (y ∷ []) behind
+
+  pub overlaid_twice : overlaid (overlaid file (at + 1) bytes) at (x ∷ []) ≡ overlaid file at (x ∷ bytes)
+  overlaid_twice =
+      ap (λ (l : List ℕ). overlaid l at (x ∷ [])) first
+      ∙ overlaid_behind pre at pre_is (y ∷ behind) (x ∷ [])
+      ∙ append_assoc pre (x ∷ []) behind
+      ∙ sym (append_assoc pre (x ∷ bytes) (drop (length bytes) rest))
+      ∙ sym (overlaid_behind pre at pre_is (y ∷ rest) (x ∷ bytes))
+      ∙ ap (λ (l : List ℕ). overlaid l at (x ∷ bytes)) (sym split)
+
+-- a byte that is written over
+pub overlaid_over : (file bytes : List ℕ) (x y : ℕ) → overlaid (overlaid file 0 (y ∷ [])) 0 (x ∷ bytes) ≡ overlaid file 0 (x ∷ bytes)
+overlaid_over file bytes x y =
+    let e : 1 + length bytes ≡ suc (length bytes) = omega arith in
+    ap (λ (l : List ℕ). overlaid l 0 (x ∷ bytes)) (overlaid_behind [] 0 refl file (y ∷ []))
+    ∙ overlaid_behind [] 0 refl (y ∷ drop 1 file) (x ∷ bytes)
+    ∙ ap (λ (l : List ℕ). (x ∷ bytes) ++ l) (drop-drop (length bytes) 1 file ∙ ap (λ (n : ℕ). drop n file) e)
+    ∙ sym (overlaid_behind [] 0 refl file (x ∷ bytes))
