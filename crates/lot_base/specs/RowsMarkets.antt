@@ -3,11 +3,9 @@
 -- after another, in ascending order of the bundles.
 use Rattle.std.specs.Prelude.{◌≡◌, ℕ, ◌==◌, if◌then◌else◌, List, [], ◌∷◌, ℤ, pos, refl}
 use Rattle.lot_base.specs.Economy.{indirect_utility, demand, lyapunov}
-use Rattle.lot_base.specs.RowsTables.{one, two, marginals, unit_demand}
+use Rattle.lot_base.specs.RowsTables.{one, two, marginals, unit_demand, three_bidders, two_bidders}
 
 -- One good in two units, and three bidders.
-abbrev three_bidders : ℕ → List ℕ → ℤ
-three_bidders j = if j == 1 then marginals 10 4 else if j == 2 then marginals 8 3 else marginals 6 1
 
 -- 0, 10, 14; 0, 8, 11; 0, 6, 7
 two_units_at_0 :
@@ -37,8 +35,6 @@ unfolding indirect_utility demand lyapunov
 two_units_at_6 = (refl, refl, refl, refl, refl, refl, refl)
 
 -- Two goods of one unit, and two bidders.
-abbrev two_bidders : ℕ → List ℕ → ℤ
-two_bidders j = if j == 1 then unit_demand 5 4 else unit_demand 3 0
 
 -- 0, 4, 5, 5; 0, 0, 3, 3
 one_unit_each_at_0_0 :

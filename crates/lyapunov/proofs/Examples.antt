@@ -3,12 +3,11 @@ use Rattle.std.proofs.Common.{◌≡◌, ◌≢◌, ℕ, [], ◌∷◌, refl, ar
 use Rattle.std.specs.Prelude.{ℤ, pos, negsuc}
 use Rattle.lot_base.specs.Economy.{AllStrongSubstitutes, indirect_utility, demand}
 use Rattle.lot_base.specs.Steps.{step_set}
-use Rattle.lot_base.specs.RowsTables.{one, two, marginals, unit_demand}
+use Rattle.lot_base.specs.RowsTables.{one, two, marginals, unit_demand, three_bidders, two_bidders, unequal_bidders}
 use Rattle.lot_base.proofs.ExchangeTest.{exchanges-strong}
 use Rattle.lot_base.specs.Equilibrium.{IsVcgPayment}
 use Rattle.lyapunov.specs.Bidders.{bundle_of}
 use Rattle.lyapunov.specs.Paths.{IsPath, HasEnded, IsTrueChoice, account_along, payment_along}
-use Rattle.lyapunov.specs.RowsPaths.{three_bidders, two_bidders, unequal_bidders}
 use Rattle.lyapunov.proofs.Payment.{choice-pays}
 
 some : (n : ℕ) → n ≡ 1 → n ≢ 0

@@ -1,4 +1,3 @@
 pub mod Excesses
 pub mod Bidders
 pub mod Paths
-pub mod RowsPaths

@@ -6,8 +6,7 @@ ghost use Rattle.lot_base.specs.Economy.{demand, without, AllStrongSubstitutes, 
 ghost use Rattle.lot_base.specs.Equilibrium.{IsAllocation, IsWelfare, IsWalrasian, IsWalrasianPrices, IsLeastWalrasian, IsVcgPayment, total_value, worth};
 ghost use Rattle.lot_base.specs.Choices.{IsClearingChoice};
 ghost use Rattle.lot_base.specs.Steps.{excess};
-ghost use Rattle.lot_base.specs.RowsTables.{one, two};
-ghost use Rattle.lyapunov.specs.RowsPaths.{three_bidders, two_bidders, unequal_bidders};
+ghost use Rattle.lot_base.specs.RowsTables.{one, two, three_bidders, two_bidders, unequal_bidders};
 ghost use Rattle.lyapunov.specs.Bidders.{IsOneOf, AllDifferent, bundle_of};
 ghost use Rattle.lyapunov.specs.Paths.{true_step, prices_along, IsPath, HasEnded, account_along, payment_along, IsTrueChoice, highest, highest_rise, IsLeastNear, halfway_down, halfway_up};
 

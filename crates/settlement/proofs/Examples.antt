@@ -4,11 +4,10 @@ use Rattle.std.specs.Prelude.{pos}
 use Rattle.std.specs.List.{AllByRecursion}
 use Rattle.lot_base.specs.Goods.{IsSupply, IsRange}
 use Rattle.lot_base.specs.Economy.{demand, indirect_utility, AllStrongSubstitutes}
-use Rattle.lot_base.specs.RowsTables.{marginals}
+use Rattle.lot_base.specs.RowsTables.{marginals, three_bidders, unequal_bidders}
 use Rattle.lot_base.specs.Steps.{step_set}
 use Rattle.lot_base.specs.declared.auction_terms.Terms.{Terms}
 use Rattle.lot_base.proofs.ExchangeTest.{exchanges-strong}
-use Rattle.lyapunov.specs.RowsPaths.{three_bidders}
 use Rattle.lyapunov.proofs.Bidders.{strong-without}
 use Rattle.lyapunov.proofs.Examples.{three}
 use Rattle.clock.specs.Reports.{all_bidders}
@@ -16,7 +15,7 @@ use Rattle.clock.specs.Standing.{prices_after, steps_from, steps_of}
 use Rattle.clock.specs.Accounts.{account_after}
 use Rattle.settlement.specs.Clocks.{choice_of}
 use Rattle.settlement.specs.Settling.{IsOutcomeOf}
-use Rattle.settlement.specs.Examples.{first_clocks, first_outcome, IsFirstExample, two_rivals, second_clocks, second_outcome_at, IsSecondExample}
+use Rattle.settlement.specs.Examples.{first_clocks, first_outcome, IsFirstExample, second_clocks, second_outcome_at, IsSecondExample}
 use Rattle.settlement.specs.declared.outcome.Settlement.TheVariants.{Settled}
 use Rattle.settlement.proofs.Unique.{one-pays}
 use Rattle.settlement.proofs.Computed.{Stands, stands, worked, below}
@@ -64,17 +63,17 @@ first s b c =
           (below (2 ∷ []) three_bidders 100 (all_bidders 3) refl) (first-outcome s b c);
     }
 
-rivals-strong : AllStrongSubstitutes (2 ∷ []) two_rivals (1 ∷ 2 ∷ [])
+rivals-strong : AllStrongSubstitutes (2 ∷ []) unequal_bidders (1 ∷ 2 ∷ [])
 rivals-strong = (exchanges-strong (2 ∷ []) (marginals 10 9) refl, (exchanges-strong (2 ∷ []) (marginals 8 3) refl, tt))
 
-second-stand : (s : IsSupply (2 ∷ [])) (b : IsRange 1 12 2) (c : IsRange 2 10000 100) → AllByRecursion (Stands two_rivals) (second_clocks (terms_of 2 s b c))
+second-stand : (s : IsSupply (2 ∷ [])) (b : IsRange 1 12 2) (c : IsRange 2 10000 100) → AllByRecursion (Stands unequal_bidders) (second_clocks (terms_of 2 s b c))
 unfolding steps_of steps_from prices_after step_set demand indirect_utility
 second-stand s b c =
-    let strong = λ (j : ℕ). strong-without (2 ∷ []) two_rivals j (all_bidders 2) rivals-strong in (
-      stands two_rivals _ (lit≤ tt) (refl, (refl, tt)) rivals-strong refl refl,
+    let strong = λ (j : ℕ). strong-without (2 ∷ []) unequal_bidders j (all_bidders 2) rivals-strong in (
+      stands unequal_bidders _ (lit≤ tt) (refl, (refl, tt)) rivals-strong refl refl,
       (
-        stands two_rivals _ (lit≤ tt) (refl, tt) (strong 1) refl refl,
-        (stands two_rivals _ (lit≤ tt) (refl, tt) (strong 2) refl refl, tt),
+        stands unequal_bidders _ (lit≤ tt) (refl, tt) (strong 1) refl refl,
+        (stands unequal_bidders _ (lit≤ tt) (refl, tt) (strong 2) refl refl, tt),
       ),
     )
 
@@ -95,14 +94,14 @@ second-outcome s b c = (
 second : (s : IsSupply (2 ∷ [])) (b : IsRange 1 12 2) (c : IsRange 2 10000 100) → IsSecondExample (terms_of 2 s b c)
 second s b c =
     let terms = terms_of 2 s b c in
-    let w = worked two_rivals terms (second_clocks terms) (second_outcome_at (pos 11)) (record { numbers = refl; terms_are = (refl, (refl, (refl, tt))) }) (second-stand s b c)
-    (below (2 ∷ []) two_rivals 100 (all_bidders 2) refl) (second-outcome s b c) in
+    let w = worked unequal_bidders terms (second_clocks terms) (second_outcome_at (pos 11)) (record { numbers = refl; terms_are = (refl, (refl, (refl, tt))) }) (second-stand s b c)
+    (below (2 ∷ []) unequal_bidders 100 (all_bidders 2) refl) (second-outcome s b c) in
     record {
       goods = refl;
       bidders = refl;
       ceiling = refl;
       worked = w;
-      only_payment = λ pays efficient. let e = one-pays two_rivals terms (second_outcome_at pays) (second_outcome_at (pos 11)) efficient w.efficient refl in cc;
+      only_payment = λ pays efficient. let e = one-pays unequal_bidders terms (second_outcome_at pays) (second_outcome_at (pos 11)) efficient w.efficient refl in cc;
     }
 
 -- what holds of all terms with these numbers holds of the terms

@@ -1,12 +1,11 @@
 -- Two worked auctions, whole, of one good in two units with a ceiling of 100. Written out are the reports of all clocks, each the
 -- demand set at the price of its round, and what they settle.
-use Rattle.std.specs.Prelude.{◌≡◌, ℕ, ◌+◌, ◌==◌, if◌then◌else◌, List, [], ◌∷◌, ◌++◌, ℤ, pos, negsuc}
+use Rattle.std.specs.Prelude.{◌≡◌, ℕ, ◌+◌, List, [], ◌∷◌, ◌++◌, ℤ, pos, negsuc}
 use Rattle.std.specs.List.{AllByRecursion}
 use Rattle.lot_base.specs.Economy.{AllBelowCeiling}
-use Rattle.lot_base.specs.RowsTables.{marginals}
+use Rattle.lot_base.specs.RowsTables.{three_bidders, unequal_bidders}
 use Rattle.lot_base.specs.declared.auction_terms.Terms.{Terms}
 use Rattle.demand_set.specs.declared.reports.Report.{Report}
-use Rattle.lyapunov.specs.RowsPaths.{three_bidders}
 use Rattle.clock.specs.Reports.{ClockHistory, all_bidders}
 use Rattle.clock.specs.Judging.{IsLegal}
 use Rattle.settlement.specs.Clocks.{AreClocksOf}
@@ -118,9 +117,6 @@ pub record IsFirstExample (terms : Terms) : Type 0 where
 
 -- A second auction, of two bidders, to whom no, one and two units are worth 0, 10 and 19, then 0, 8 and 11. At a price of 8 the first one
 -- gets both units. It is credited 5, and pays 11.
-abbrev pub two_rivals : ℕ → List ℕ → ℤ
-two_rivals j = if j == 1 then marginals 10 9 else marginals 8 3
-
 abbrev pub reports_of_both : List Report
 reports_of_both = from_round 1 (1 ∷ 2 ∷ [])
     ((two ∷ two ∷ []) ∷ (two ∷ two ∷ []) ∷ (two ∷ two ∷ []) ∷ (two ∷ one_or_two ∷ [])
@@ -145,5 +141,5 @@ pub record IsSecondExample (terms : Terms) : Type 0 where
   pub goods : terms.goods ≡ 2 ∷ []
   pub bidders : terms.bidders ≡ 2
   pub ceiling : terms.ceiling ≡ 100
-  pub worked : IsWorked two_rivals terms (second_clocks terms) (second_outcome_at (pos 11))
-  pub only_payment : (pays : ℤ) → IsEfficient two_rivals terms (second_outcome_at pays) → pays ≡ pos 11
+  pub worked : IsWorked unequal_bidders terms (second_clocks terms) (second_outcome_at (pos 11))
+  pub only_payment : (pays : ℤ) → IsEfficient unequal_bidders terms (second_outcome_at pays) → pays ≡ pos 11
