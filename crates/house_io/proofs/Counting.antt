@@ -1,10 +1,12 @@
 -- Tallies as counts by name: one more tally, and one that is raised.
-use Rattle.std.proofs.Common.{◌≡◌, ◌<◌, ℕ, ◌+◌, ◌-◌, ◌^◌, min, suc, zero, List, [], ◌∷◌, ◌++◌, length, bytes_eq, string_bytes, slice_index_or, slice_set, true, false, cond, Bool, Contains, refl, sym, ◌∙◌, ap, arith}
+use Rattle.std.proofs.Common.{◌≡◌, ◌<◌, ℕ, ◌+◌, ◌-◌, ◌^◌, min, suc, zero, List, [], ◌∷◌, ◌++◌, length, take, bytes_eq, string_bytes, slice_index_or, slice_set, true, false, cond, Bool, Contains, refl, sym, ◌∙◌, ap, arith}
 use Rattle.std.proofs.lemmas.Slice.Eq.{bytes_eq-Decides}
+use Rattle.std.proofs.lemmas.List.{map-append}
+use Rattle.std.proofs.Math.Seq.{take-append_seam}
 use Rattle.house_io.specs.declared.tallies.Tally.{Tally}
 use Rattle.house_io.specs.Counts.{count_of, names_of}
 use Rattle.house_io.specs.Tallies.{counts_in, HasNo, IsPlace}
-use Rattle.house_io.specs.Shelves.{Adds}
+use Rattle.house_io.specs.Shelves.{Adds, with_name}
 use Rattle.house_io.specs.Faults.{raised_by}
 
 -- a test that is not true is false
@@ -25,6 +27,23 @@ count-push (x ∷ xs) t other none = ap (λ n. cond (bytes_eq (string_bytes x.na
 pub names-push : (ts : List Tally) (t : Tally) → names_of (counts_in (ts ++ t ∷ [])) ≡ names_of (counts_in ts) ++ string_bytes t.name ∷ []
 names-push [] t = refl
 names-push (x ∷ xs) t = ap (λ names. string_bytes x.name ∷ names) (names-push xs t)
+
+-- the tallies before one more
+pub counts-front : (ts : List Tally) (t : Tally) → take (length (counts_in ts)) (counts_in (ts ++ t ∷ [])) ≡ counts_in ts
+counts-front ts t = ap (take (length (counts_in ts))) (map-append (λ (tally : Tally). record { name = string_bytes tally.name; faults = tally.faults }) ts (t ∷ [])) ∙ take-append_seam (counts_in ts) (counts_in (t ∷ []))
+
+-- a name that has a tally is among the names already
+pub with_name-there : (ts : List Tally) (name : List ℕ) (place : ℕ) → IsPlace ts name place → with_name name (names_of (counts_in ts)) ≡ names_of (counts_in ts)
+with_name-there [] name place is = absurd (omega (arith, is.inside))
+with_name-there (t ∷ ts) name zero is = rw (is.here t) refl
+with_name-there (t ∷ ts) name (suc place) is =
+    rw (is.first zero t (omega arith)) (ap (λ names. string_bytes t.name ∷ names) (with_name-there ts name place (record { inside = omega (arith, is.inside); here = is.here; first = λ k other below. is.first (suc k) other (omega arith) })))
+
+-- and one that has none is put behind them
+pub with_name-new : (ts : List Tally) (name : List ℕ) → HasNo ts name → with_name name (names_of (counts_in ts)) ≡ names_of (counts_in ts) ++ name ∷ []
+with_name-new [] name absent = refl
+with_name-new (t ∷ ts) name absent =
+    rw (absent zero t (omega arith)) (ap (λ names. string_bytes t.name ∷ names) (with_name-new ts name (λ k other below. absent (suc k) other (omega arith))))
 
 -- the name at a place is among the names
 pub named-place : (ts : List Tally) (name : List ℕ) (place : ℕ) → place < length ts → ((other : Tally) → bytes_eq (string_bytes (slice_index_or ts place other).name) name ≡ true) → Contains (names_of (counts_in ts)) name

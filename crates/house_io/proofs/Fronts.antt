@@ -1,7 +1,7 @@
 -- The front of a list, and what is behind it.
 use Rattle.std.proofs.Common.{◌≡◌, ◌<◌, ◌≤◌, ℕ, ◌+◌, ◌-◌, min, List, ◌++◌, length, take, drop, sym, ◌∙◌, ap, arith, length-append, length-drop}
-use Rattle.std.proofs.lemmas.List.{take-append-drop, length-take-le}
-use Rattle.std.proofs.Math.Seq.{take-append_seam, drop-append_seam, drop-drop, take-length}
+use Rattle.std.proofs.lemmas.List.{take-append-drop, take-append-le, length-take-le}
+use Rattle.std.proofs.Math.Seq.{take-append_seam, take-append-add, drop-append_seam, drop-drop, take-length}
 use Rattle.house_io.specs.Sources.{Takes}
 
 -- all that is behind a place
@@ -35,3 +35,9 @@ rest-of front rest all e =
 -- the front of a list, by its length
 pub front-of : (front rest all : List ℕ) → all ≡ front ++ rest → take (length front) all ≡ front
 front-of front rest all e = ap (take (length front)) e ∙ take-append_seam front rest
+
+-- the front of a list in whose middle another was put, up to a place in that one
+pub front-put : (a n : ℕ) (xs ys zs : List ℕ) → a ≤ length xs → n ≤ length ys → take (a + n) (take a xs ++ (ys ++ zs)) ≡ take a xs ++ take n ys
+front-put a n xs ys zs inside few =
+    let size : length (take a xs) ≡ a = length-take-le a xs inside in
+    ap (λ k. take (k + n) (take a xs ++ (ys ++ zs))) (sym size) ∙ take-append-add (take a xs) (ys ++ zs) n ∙ ap (λ l. take a xs ++ l) (take-append-le n ys zs few)

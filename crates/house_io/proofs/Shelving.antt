@@ -96,6 +96,5 @@ module _ {F : Type 0} (name_in : F → List ℕ) where
     map-same (x ∷ es) (suc place) e d same = ap (λ (ys : List F). f x ∷ ys) (map-same es place e d same)
 
     -- an entry that stands for the same thing
-    pub same-put : (es : List E) (place : ℕ) (e d : E) → f e ≡ f d → d ≡ slice_index_or es place d
-        → (other : List ℕ) → found (map f (slice_set es place e)) other ≡ found (map f es) other
-    same-put es place e d same here other = ap (λ (ys : List F). found ys other) (map-same es place e d (same ∙ ap f here))
+    pub same-put : (es : List E) (place : ℕ) (e d : E) → f e ≡ f d → d ≡ slice_index_or es place d → map f (slice_set es place e) ≡ map f es
+    same-put es place e d same here = map-same es place e d (same ∙ ap f here)

@@ -18,3 +18,5 @@ pub mod Ranges
 pub mod Fills
 pub mod Opened
 pub mod Places
+pub mod RowsDisks
+pub mod RowsCounts

@@ -16,3 +16,10 @@ Reads limit (Ok text) before after = (text.items ≡ before) × (after ≡ [])
 Reads limit (Err why.TooLong) before after = (limit < length before) × (after ≡ drop (limit + 1) before)
 Reads limit (Err why.Failed) before after = TakesFront limit before after
 Reads limit (Err why.NoMemory) before after = TakesFront limit before after
+
+-- The count of faults stays, unless a fault is answered. So a fault is passed over by no answer, and told as no other.
+abbrev pub StaysUnlessFailed : Result (Vec ℕ Global) ReadWhole → ℕ → ℕ → Type 0
+StaysUnlessFailed (Ok text) before now = now ≡ before
+StaysUnlessFailed (Err why.TooLong) before now = now ≡ before
+StaysUnlessFailed (Err why.Failed) before now = Unit {0}
+StaysUnlessFailed (Err why.NoMemory) before now = now ≡ before

@@ -1,5 +1,5 @@
 -- Files by name, and the counts of their faults. Of two files of one name the first counts.
-use Rattle.std.specs.Prelude.{◌≡◌, ◌≢◌, ◌≤◌, ℕ, Bool, List, [], Option, Some, None, Result, Ok, Err, bytes_eq, find, option_map, unwrap_or, Contains, IsTrue}
+use Rattle.std.specs.Prelude.{◌≡◌, ◌≢◌, ◌≤◌, ℕ, Bool, if◌then◌else◌, List, [], ◌∷◌, Option, Some, None, Result, Ok, Err, bytes_eq, find, option_map, unwrap_or, Contains, IsTrue}
 use Rattle.house_io.specs.Moments.{Moments, opened}
 use Rattle.house_io.specs.declared.shelves.Refusal.{Refusal}
 use Rattle.house_io.specs.declared.shelves.Refusal.TheVariants as why
@@ -82,3 +82,14 @@ CountsOpening name (Err why.NoMemory) before now = (other : List ℕ) → now ot
 -- a name that was opened stays so
 abbrev pub KeepsNames : List (List ℕ) → List (List ℕ) → Type 0
 KeepsNames before now = (name : List ℕ) → Contains before name → Contains now name
+
+-- the names, and this one behind them where it is not among them
+abbrev pub with_name : List ℕ → List (List ℕ) → List (List ℕ)
+with_name name [] = name ∷ []
+with_name name (first ∷ names) = if bytes_eq first name then first ∷ names else first ∷ with_name name names
+
+-- the names after an opening; one that finds no memory opens none
+abbrev pub names_after : {T : Type 0} → Result T Refusal → List ℕ → List (List ℕ) → List (List ℕ)
+names_after (Ok answer) name names = with_name name names
+names_after (Err why.Failed) name names = with_name name names
+names_after (Err why.NoMemory) name names = names

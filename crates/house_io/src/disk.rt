@@ -39,7 +39,8 @@ pub trait Disk {
         ensures moments { IsTrue (tells self.new) → moments self.new ≡ moments self.old }
         ensures cause { HasCause (faults self.old) (faults self.new) result };
 
-    /// Writes the whole piece, or fails and may have written anything in its range.
+    /// Writes the whole piece, or fails and may have written anything in its range. A gap behind the file's end is filled with
+    /// zeros, also before a piece of no bytes.
     fn write_at(&mut self, at: u64, from: &[u8]) -> Result<(), Failed>
         ensures written { OnOk result (IsTrue (tells self.new)
             → moments self.new ≡ wrote at from.now (moments self.old)) }

@@ -1,5 +1,6 @@
 //! A disk over a real file. It counts its faults and tells no content.
-ghost use Rattle.std.specs.Prelude.{false, ◌≡◌, ◌≤◌, ◌↔◌, [], ℕ, length, IfOk, IsOk};
+ghost use Rattle.std.specs.Prelude.{false, ◌≡◌, ◌<◌, ◌≤◌, ◌↔◌, [], ℕ, length, take, IfOk, IsOk};
+ghost use Rattle.std.specs.Io.KnownBytes.{Consumes, IsAtEnd};
 ghost use Rattle.house_io.specs.Faults.{HasCause, faults_after};
 ghost use Rattle.house_io.specs.Moments.{opened};
 
@@ -75,17 +76,28 @@ fn counted<T: Drop>(outcome: io::Result<T>, faults: &mut u64) -> Result<T, Faile
 
 /// Fills a front of the buffer, all of it but at the file's end.
 fn read_front<F: Read>(file: &mut F, into: &mut [u8]) -> io::Result<usize>
-    ensures { IfOk result (λ n. n ≤ length into.old) }
+    ensures within { IfOk result (λ n. n ≤ length into.old) }
+    // Of a file whose bytes are known.
+    ensures bytes { IfOk result (λ n. Consumes (F.remaining file.old) (F.remaining file.new) (take n into.new)) }
+    ensures whole { IfOk result (λ n. n < length into.old → IsAtEnd (F.remaining file.new)) }
 {
     let mut done = 0;
-    for _ in 0..into.len() {
+    'reads: while done < into.len() {
         let count = file.read(&mut into[done..])?;
         if count == 0 {
-            break;
+            return Ok(done);
         }
         done += count;
     }
     Ok(done)
+}
+
+/// Lengthens a file that is shorter, as a write of no bytes behind its end does.
+fn lengthen<F: Seek + OpenFile>(file: &mut F, end: u64) -> io::Result<()> {
+    if file.seek(SeekFrom::End(0))? < end {
+        file.set_len(end)?;
+    }
+    Ok(())
 }
 
 impl<F: Read + Write + Seek + OpenFile> Disk for FileDisk<F> {
@@ -124,6 +136,9 @@ impl<F: Read + Write + Seek + OpenFile> Disk for FileDisk<F> {
     fn write_at(&mut self, at: u64, from: &[u8]) -> Result<(), Failed>
         ensures { self.new ≡ faults_after result self.old }
     {
+        if from.is_empty() {
+            return counted(lengthen(&mut self.file, at), &mut self.faults);
+        }
         counted(self.file.seek(SeekFrom::Start(at)), &mut self.faults)?;
         counted(self.file.write_all(from), &mut self.faults)
     }

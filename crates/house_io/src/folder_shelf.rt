@@ -1,7 +1,7 @@
 //! The files of the folder in which the program runs.
 ghost use Rattle.std.specs.Prelude.{◌≡◌, ◌<◌, ◌^◌, None, ℕ, List, [], IfOk, IfErr, OnOk, OnErr, Contains};
 ghost use Rattle.house_io.specs.Counts.{NamedCount, count_of, names_of};
-ghost use Rattle.house_io.specs.Shelves.{IfTells, ChangesNoFile, CountsOpening, RisesOnly, IsRefused, KeepsNames};
+ghost use Rattle.house_io.specs.Shelves.{IfTells, ChangesNoFile, CountsOpening, RisesOnly, IsRefused, KeepsNames, names_after};
 ghost use Rattle.house_io.specs.declared.shelves.Refusal.TheVariants as why;
 
 use crate::file_disk::{FileDisk, open_file};
@@ -55,10 +55,12 @@ impl<'a, R: Files> Shelf for FolderShelf<'a, R> {
         ensures bytes { IfOk result (λ _. IfTells None (λ _. ⊥)) }
         ensures fresh { IfOk result (λ source. source.faults ≡ 0) }
         ensures counting { CountsOpening name.now result (count_of self.old) (count_of self.new) }
+        ensures steady { OnOk result ((other : List ℕ) → count_of self.new other ≡ count_of self.old other) }
         ensures memory { result ≡ Err why.NoMemory → self.new ≡ self.old }
         ensures counts { RisesOnly name.now (count_of self.old) (count_of self.new) }
         ensures refused { IfErr result (λ refusal. IsRefused refusal (count_of self.old name.now) (count_of self.new name.now)) }
         ensures opened { OnOk result (Contains (names_of self.new) name.now) }
+        ensures names { names_of self.new ≡ names_after result name.now (names_of self.old) }
         ensures kept { KeepsNames (names_of self.old) (names_of self.new) }
     {
         if let Err(_) = self.tallies.begin(alloc, name) {
@@ -83,10 +85,12 @@ impl<'a, R: Files> Shelf for FolderShelf<'a, R> {
         ensures unchanged { OnErr result (ChangesNoFile None None) }
         ensures fresh { IfOk result (λ disk. disk ≡ 0) }
         ensures counting { CountsOpening name.now result (count_of self.old) (count_of self.new) }
+        ensures steady { OnOk result ((other : List ℕ) → count_of self.new other ≡ count_of self.old other) }
         ensures memory { result ≡ Err why.NoMemory → self.new ≡ self.old }
         ensures counts { RisesOnly name.now (count_of self.old) (count_of self.new) }
         ensures refused { IfErr result (λ refusal. IsRefused refusal (count_of self.old name.now) (count_of self.new name.now)) }
         ensures opened { OnOk result (Contains (names_of self.new) name.now) }
+        ensures names { names_of self.new ≡ names_after result name.now (names_of self.old) }
         ensures kept { KeepsNames (names_of self.old) (names_of self.new) }
     {
         if let Err(_) = self.tallies.begin(alloc, name) {

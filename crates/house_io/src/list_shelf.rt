@@ -1,9 +1,9 @@
 //! Files in memory of which chosen calls fail.
-ghost use Rattle.std.specs.Prelude.{◌≡◌, ◌↔◌, [], ◌∷◌, ◌++◌, ℕ, List, Option, Some, None, true, IfOk, IfErr, OnOk, OnErr, IsTrue, IsSome, Contains, MatchOption, string_bytes, option_map};
+ghost use Rattle.std.specs.Prelude.{◌≡◌, ◌↔◌, [], ◌∷◌, ◌++◌, ℕ, List, Option, Some, None, Err, true, IfOk, IfErr, OnOk, OnErr, IsTrue, IsSome, Contains, MatchOption, string_bytes, option_map};
 ghost use Rattle.house_io.specs.Recorded.{moments_of, room_of};
 ghost use Rattle.house_io.specs.Places.{HasNone, IsFirstAt};
 ghost use Rattle.house_io.specs.declared.shelves.Refusal.TheVariants as why;
-ghost use Rattle.house_io.specs.Shelves.{Adds, CountsOpening, KeepsNames, RisesOnly, IsRefused, bytes_of, file_of, moments_at};
+ghost use Rattle.house_io.specs.Shelves.{Adds, CountsOpening, KeepsNames, names_after, RisesOnly, IsRefused, bytes_of, file_of, moments_at};
 ghost use Rattle.house_io.specs.Counts.{count_of, names_of};
 ghost use Rattle.house_io.specs.ListShelves.{Answers, fresh_shelf, listed_file, source_on, shown_file, shown_files, disk_on, disk_at, bare, file_opened, with_closed, plan_after};
 ghost use Rattle.house_io.specs.ListForms.{IsToFail};
@@ -171,6 +171,7 @@ impl Shelf for ListShelf {
         ensures answer { Answers self.old name.now result self.new }
         ensures bytes { IfOk result (λ source. bytes_of (shown_files self.old.files) name.now ≡ Some source.left) }
         ensures opened { OnOk result (Contains (names_of self.new.counts) name.now) }
+        ensures names { names_of self.new.counts ≡ names_after result name.now (names_of self.old.counts) }
         ensures kept { KeepsNames (names_of self.old.counts) (names_of self.new.counts) }
     {
         let source = match source_named(alloc, &self.files, name) {
@@ -197,7 +198,7 @@ impl Shelf for ListShelf {
         requires { Contains (names_of self.old.counts) name.now }
         ensures added { Adds name.now source.faults (count_of self.old.counts) (count_of self.new.counts) }
         ensures rest { self.new ≡ record self.old { counts = self.new.counts } }
-        ensures kept { KeepsNames (names_of self.old.counts) (names_of self.new.counts) }
+        ensures names { names_of self.new.counts ≡ names_of self.old.counts }
     {
         self.tallies.raise(name, source.faults());
     }
@@ -209,6 +210,7 @@ impl Shelf for ListShelf {
         ensures failed { result ≡ Err why.Failed → IsToFail self.old.plan }
         ensures planned { OnOk result (IsToFail self.old.plan → ⊥) }
         ensures plan { self.new.plan ≡ plan_after result self.old.plan }
+        ensures memory { result ≡ Err why.NoMemory → self.new ≡ self.old }
         ensures unchanged { OnErr result ((other : List ℕ) → listed_file self.new.files other ≡ listed_file self.old.files other) }
         ensures others { (other : List ℕ) → (other ≡ name.now → ⊥) → listed_file self.new.files other ≡ listed_file self.old.files other }
         ensures counting { CountsOpening name.now result (count_of self.old.counts) (count_of self.new.counts) }
@@ -220,8 +222,10 @@ impl Shelf for ListShelf {
         ensures refused { IfErr result (λ refusal. IsRefused refusal (count_of self.old.counts name.now) (count_of self.new.counts name.now)) }
         ensures rest { (self.new.room ≡ self.old.room) × (self.new.told ≡ self.old.told) }
         ensures opened { OnOk result (Contains (names_of self.new.counts) name.now) }
+        ensures names { names_of self.new.counts ≡ names_after result name.now (names_of self.old.counts) }
         ensures kept { KeepsNames (names_of self.old.counts) (names_of self.new.counts) }
     {
+        let names = self.tallies.len();
         if let Err(_) = self.tallies.begin(alloc, name) {
             return Err(Refusal::NoMemory);
         }
@@ -235,7 +239,10 @@ impl Shelf for ListShelf {
                 let _ = self.plan.next_fails();
                 Ok(disk)
             }
-            Err(NoMemory) => Err(Refusal::NoMemory),
+            Err(NoMemory) => {
+                self.tallies.cut(names);
+                Err(Refusal::NoMemory)
+            }
         }
     }
 
@@ -249,7 +256,7 @@ impl Shelf for ListShelf {
         ensures left { IsTrue self.new.told → IsTrue disk.file.told × (option_map (λ file. file.moments) (file_of (shown_files self.new.files) name.now) ≡ Some (moments_of disk.file)) }
         ensures others_shown { (other : List ℕ) → (other ≡ name.now → ⊥) → file_of (shown_files self.new.files) other ≡ file_of (shown_files self.old.files) other }
         ensures rest { (self.new.room ≡ self.old.room) × (self.new.plan ≡ self.old.plan) }
-        ensures kept { KeepsNames (names_of self.old.counts) (names_of self.new.counts) }
+        ensures names { names_of self.new.counts ≡ names_of self.old.counts }
     {
         let ListDisk { file, plan, faults } = disk;
         self.tallies.raise(name, faults);
@@ -319,7 +326,7 @@ fn disk_of(
     ensures told { IfOk result (λ disk. IsTrue disk.file.told × (disk.faults ≡ 0)) }
     ensures disk { IfOk result (λ disk. disk_as_listed disk ≡ disk_at (entries_as_listed files.old.items) room name.now) }
     ensures taken { OnOk result (listed_file (entries_as_listed files.new.items) name.now ≡ Some (file_opened (entries_as_listed files.old.items) name.now)) }
-    ensures unchanged { OnErr result ((other : List ℕ) → listed_file (entries_as_listed files.new.items) other ≡ listed_file (entries_as_listed files.old.items) other) }
+    ensures unchanged { OnErr result (entries_as_listed files.new.items ≡ entries_as_listed files.old.items) }
     ensures others { (other : List ℕ) → (other ≡ name.now → ⊥) → listed_file (entries_as_listed files.new.items) other ≡ listed_file (entries_as_listed files.old.items) other }
 {
     match place_of(files, name) {

@@ -1,5 +1,5 @@
 //! Files that are opened by their names.
-ghost use Rattle.std.specs.Prelude.{◌≡◌, ℕ, List, Option, IfOk, IfErr, OnOk, OnErr, IsSome, Contains};
+ghost use Rattle.std.specs.Prelude.{◌≡◌, ℕ, List, Option, Err, IfOk, IfErr, OnOk, OnErr, IsSome, Contains};
 
 use crate::{Disk, Source};
 use std::alloc::Global;
@@ -13,7 +13,7 @@ pub enum Refusal {
 
 /// Files that are opened by their names. It counts faults by name, those of closed sources among them.
 pub trait Shelf {
-    ghost use Rattle.house_io.specs.Shelves.{NamedFile, bytes_of, Begins, ChangesNone, ChangesNoFile, ChangesOnly, IfTells, IfWasTold, StandsAs, IsLeftBy, RisesOnly, IsRefused, Adds, KeepsNames};
+    ghost use Rattle.house_io.specs.Shelves.{NamedFile, bytes_of, Begins, ChangesNone, ChangesNoFile, ChangesOnly, IfTells, IfWasTold, StandsAs, IsLeftBy, RisesOnly, IsRefused, Adds, KeepsNames, names_after};
 
     type Source: Source;
 
@@ -35,8 +35,11 @@ pub trait Shelf {
             Begins (bytes_of shelved name.now) (Self.Source.Source.left source))) }
         ensures files { ChangesNone (files self.old) (files self.new) }
         ensures counts { RisesOnly name.now (faults self.old) (faults self.new) }
+        ensures steady { OnOk result ((other : List ℕ) → faults self.new other ≡ faults self.old other) }
         ensures refused { IfErr result (λ refusal.
             IsRefused refusal (faults self.old name.now) (faults self.new name.now)) }
+        ensures memory { result ≡ Err Refusal.NoMemory → files self.new ≡ files self.old }
+        ensures names { opened self.new ≡ names_after result name.now (opened self.old) }
         ensures opened { OnOk result (Contains (opened self.new) name.now) }
         ensures kept { KeepsNames (opened self.old) (opened self.new) };
 
@@ -46,7 +49,7 @@ pub trait Shelf {
         ensures counts { Adds name.now (Self.Source.Source.faults source) (faults self.old) (faults self.new) }
         ensures files { ChangesNone (files self.old) (files self.new) }
         ensures told { IfTells (files self.new) (λ _. IsSome (Self.Source.Source.left source)) }
-        ensures kept { KeepsNames (opened self.old) (opened self.new) };
+        ensures names { opened self.new ≡ opened self.old };
 
     /// Opens a file for reading and writing. The disk stands as the file does; an absent one is opened empty.
     fn disk(&mut self, alloc: Global, name: &str) -> Result<Self::Disk, Refusal>
@@ -56,7 +59,10 @@ pub trait Shelf {
         ensures others { ChangesOnly name.now (files self.old) (files self.new) }
         ensures unchanged { OnErr result (ChangesNoFile (files self.old) (files self.new)) }
         ensures counts { RisesOnly name.now (faults self.old) (faults self.new) }
+        ensures steady { OnOk result ((other : List ℕ) → faults self.new other ≡ faults self.old other) }
         ensures refused { IfErr result (λ refusal. IsRefused refusal (faults self.old name.now) (faults self.new name.now)) }
+        ensures memory { result ≡ Err Refusal.NoMemory → files self.new ≡ files self.old }
+        ensures names { opened self.new ≡ names_after result name.now (opened self.old) }
         ensures opened { OnOk result (Contains (opened self.new) name.now) }
         ensures kept { KeepsNames (opened self.old) (opened self.new) };
 
@@ -66,5 +72,5 @@ pub trait Shelf {
         ensures counts { Adds name.now (Self.Disk.Disk.faults disk) (faults self.old) (faults self.new) }
         ensures left { IfTells (files self.new) (IsLeftBy Self.Disk.Disk.tells Self.Disk.Disk.moments name.now disk) }
         ensures others { ChangesOnly name.now (files self.old) (files self.new) }
-        ensures kept { KeepsNames (opened self.old) (opened self.new) };
+        ensures names { opened self.new ≡ opened self.old };
 }

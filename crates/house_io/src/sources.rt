@@ -2,7 +2,7 @@
 ghost use Rattle.std.specs.Prelude.{◌≡◌, ◌≤◌, ◌<◌, ◌+◌, ◌^◌, ℕ, List, Option, length, Err, IfOk};
 ghost use Rattle.house_io.specs.Faults.{HasCause, Rose};
 ghost use Rattle.house_io.specs.Told.{IfTold};
-ghost use Rattle.house_io.specs.Reading.{Reads};
+ghost use Rattle.house_io.specs.Reading.{Reads, StaysUnlessFailed};
 
 use crate::Failed;
 use std::alloc::{AllocError, Global};
@@ -47,6 +47,7 @@ pub fn read_whole<R: Source>(
     ensures bytes { IfTold (R.left source.old) (R.left source.new) (Reads limit result) }
     ensures later { R.faults source.old ≤ R.faults source.new }
     ensures failed { result ≡ Err ReadWhole.Failed → Rose (R.faults source.old) (R.faults source.new) }
+    ensures steady { StaysUnlessFailed result (R.faults source.old) (R.faults source.new) }
 {
     let mut text = Vec::new(alloc);
     let mut chunk = [0u8; CHUNK];

@@ -1,7 +1,7 @@
 //! Files in memory that never fail.
-ghost use Rattle.std.specs.Prelude.{◌≡◌, ◌<◌, ◌↔◌, [], ℕ, List, Option, Some, None, true, unwrap_or, option_map, ◌∷◌, ◌++◌, IfOk, IfErr, OnOk, OnErr, IsTrue, IsSome, Contains, MatchOption, string_bytes};
+ghost use Rattle.std.specs.Prelude.{◌≡◌, ◌<◌, ◌↔◌, [], ℕ, List, Option, Some, None, true, unwrap_or, option_map, ◌∷◌, ◌++◌, Err, IfOk, IfErr, OnOk, OnErr, IsTrue, IsSome, Contains, MatchOption, string_bytes};
 ghost use Rattle.house_io.specs.Places.{HasNone, IsFirstAt};
-ghost use Rattle.house_io.specs.Shelves.{file_of, bytes_of, moments_at, KeepsNames};
+ghost use Rattle.house_io.specs.Shelves.{file_of, bytes_of, moments_at, KeepsNames, names_after};
 ghost use Rattle.house_io.specs.SureFiles.{fresh_shelf, shelved_file, shown_file, shown_files, disk_on, disk_at, bare, file_opened, with_closed, as_shelved, files_as_shelved, entry_as_shelved, entries_as_shelved};
 ghost use Rattle.house_io.specs.Recorded.{moments_of};
 ghost use Rattle.house_io.specs.declared.shelves.Refusal.TheVariants as why;
@@ -159,7 +159,7 @@ fn disk_of(
     ensures told { IfOk result (λ disk. IsTrue disk.file.told) }
     ensures disk { IfOk result (λ disk. as_shelved disk ≡ disk_at (entries_as_shelved files.old.items) room name.now) }
     ensures taken { OnOk result (shelved_file (entries_as_shelved files.new.items) name.now ≡ Some (file_opened (entries_as_shelved files.old.items) name.now)) }
-    ensures unchanged { OnErr result ((other : List ℕ) → shelved_file (entries_as_shelved files.new.items) other ≡ shelved_file (entries_as_shelved files.old.items) other) }
+    ensures unchanged { OnErr result (entries_as_shelved files.new.items ≡ entries_as_shelved files.old.items) }
     ensures others { (other : List ℕ) → (other ≡ name.now → ⊥) → shelved_file (entries_as_shelved files.new.items) other ≡ shelved_file (entries_as_shelved files.old.items) other }
 {
     match place_of(files, name) {
@@ -209,6 +209,7 @@ impl Shelf for SureShelf {
         ensures unchanged { OnErr result (self.new ≡ self.old) }
         ensures rest { self.new ≡ record self.old { opened = self.new.opened } }
         ensures opened { OnOk result (Contains self.new.opened name.now) }
+        ensures names { self.new.opened ≡ names_after result name.now self.old.opened }
         ensures kept { KeepsNames self.old.opened self.new.opened }
     {
         let bytes = match copy_of(alloc, &self.files, name) {
@@ -230,7 +231,7 @@ impl Shelf for SureShelf {
         ensures disk { IfOk result (λ disk. as_shelved disk ≡ disk_at self.old.files self.old.room name.now) }
         ensures taken { OnOk result (shelved_file self.new.files name.now ≡ Some (file_opened self.old.files name.now)) }
         ensures sure { IfErr result (λ refusal. refusal ≡ why.NoMemory) }
-        ensures unchanged { OnErr result ((other : List ℕ) → shelved_file self.new.files other ≡ shelved_file self.old.files other) }
+        ensures unchanged { OnErr result (self.new ≡ self.old) }
         ensures others { (other : List ℕ) → (other ≡ name.now → ⊥) → shelved_file self.new.files other ≡ shelved_file self.old.files other }
         // And so, of what the shelf tells:
         ensures moments { IfOk result (λ disk. moments_of disk.file ≡ moments_at (shown_files self.old.files) name.now) }
@@ -238,14 +239,19 @@ impl Shelf for SureShelf {
         ensures others_shown { (other : List ℕ) → (other ≡ name.now → ⊥) → file_of (shown_files self.new.files) other ≡ file_of (shown_files self.old.files) other }
         ensures rest { (self.new.room ≡ self.old.room) × (self.new.told ≡ self.old.told) }
         ensures opened { OnOk result (Contains self.new.opened name.now) }
+        ensures names { self.new.opened ≡ names_after result name.now self.old.opened }
         ensures kept { KeepsNames self.old.opened self.new.opened }
     {
+        let names = self.tallies.len();
         if let Err(_) = self.tallies.begin(alloc, name) {
             return Err(Refusal::NoMemory);
         }
         match disk_of(alloc, &mut self.files, name, self.room) {
             Ok(disk) => Ok(disk),
-            Err(NoMemory) => Err(Refusal::NoMemory),
+            Err(NoMemory) => {
+                self.tallies.cut(names);
+                Err(Refusal::NoMemory)
+            }
         }
     }
 

@@ -1,6 +1,6 @@
 //! Counts of faults by name.
-ghost use Rattle.std.specs.Prelude.{◌≡◌, [], ℕ, List, OnOk, OnErr, Contains, MatchOption};
-ghost use Rattle.house_io.specs.Shelves.{Adds, KeepsNames};
+ghost use Rattle.std.specs.Prelude.{◌≡◌, [], ℕ, List, length, take, OnOk, OnErr, Contains, MatchOption};
+ghost use Rattle.house_io.specs.Shelves.{Adds, KeepsNames, with_name};
 ghost use Rattle.house_io.specs.Counts.{NamedCount, count_of, names_of};
 ghost use Rattle.house_io.specs.Tallies.{IsPlace, HasNo};
 
@@ -44,7 +44,9 @@ impl Tallies {
     pub(crate) fn begin(&mut self, alloc: Global, name: &str) -> Result<(), AllocError>
         ensures counts { (other : List ℕ) → count_of self.new other ≡ count_of self.old other }
         ensures named { OnOk result (Contains (names_of self.new) name.now) }
+        ensures names { OnOk result (names_of self.new ≡ with_name name.now (names_of self.old)) }
         ensures kept { KeepsNames (names_of self.old) (names_of self.new) }
+        ensures front { take (length self.old) self.new ≡ self.old }
         ensures unchanged { OnErr result (self.new ≡ self.old) }
     {
         if let Some(_) = place_of(&self.list, name) {
@@ -55,11 +57,25 @@ impl Tallies {
         Ok(())
     }
 
+    /// How many names have a tally.
+    pub(crate) fn len(&self) -> usize
+        ensures { result ≡ length self.now }
+    {
+        self.list.len()
+    }
+
+    /// Lets go of the tallies behind the first so many.
+    pub(crate) fn cut(&mut self, length: usize)
+        ensures { self.new ≡ take length self.old }
+    {
+        self.list.truncate(length);
+    }
+
     /// Adds so many faults to the tally of a name.
     pub(crate) fn raise(&mut self, name: &str, faults: u64)
         requires { Contains (names_of self.old) name.now }
         ensures added { Adds name.now faults (count_of self.old) (count_of self.new) }
-        ensures kept { KeepsNames (names_of self.old) (names_of self.new) }
+        ensures names { names_of self.new ≡ names_of self.old }
     {
         if let Some(place) = place_of(&self.list, name) {
             let tally = &mut self.list[place];

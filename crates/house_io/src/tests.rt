@@ -260,7 +260,7 @@ fn a_read_that_fails_in_mid_stream_is_a_counted_fault(rt: HostRuntime) -> Result
     Ok(())
 }
 
-/// An output that takes so many bytes, one at a time, and then none.
+/// An output that takes so many bytes, one at a time, and then none. A full stop it refuses.
 #[derive(Drop)]
 struct SmallOutput {
     room: Cell<u8>,
@@ -284,6 +284,9 @@ impl Print for SmallOutput {
         if room == 0 || bytes.is_empty() {
             return Ok(0);
         }
+        if bytes[0] == b'.' {
+            return Err(io::ErrorKind::Other.into());
+        }
         self.room.set(room - 1);
         Ok(1)
     }
@@ -293,6 +296,7 @@ impl Print for SmallOutput {
 fn a_write_that_takes_nothing_is_a_fault(rt: HostRuntime) -> Result<(), Fail> {
     let output = SmallOutput { room: Cell::new(4) };
     let mut sink = StdoutSink::new(&output);
+    assert_eq!(rt; sink.push(b"."), Err(Failed));
     assert_eq!(rt; write_whole(&mut sink, b"lots"), Ok(()));
     assert_eq!(rt; write_whole(&mut sink, b"!"), Err(Failed));
     assert_eq!(rt; write_whole(&mut sink, b""), Ok(()));

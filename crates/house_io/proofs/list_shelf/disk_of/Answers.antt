@@ -27,8 +27,8 @@ returns-in-Some-clause-taken c = on_ok_weaker c.disk_in.result (λ bare.
     (found-at (λ (x : ListedFile). x.name) entry_as_listed es c.args.name.now c.in-Some.place c.index_mut.result.now is c.index_mut.ensures.value)))) c.disk_in.ensures.taken
 
 pub returns-in-Some-clause-unchanged : goal.returns-in-Some-clause-unchanged
-returns-in-Some-clause-unchanged c = on_err_weaker c.disk_in.result (λ same other.
-    same-put (λ (x : ListedFile). x.name) entry_as_listed c.args.files.now.items c.in-Some.place c.disk_in.new.entry c.index_mut.result.now same c.index_mut.ensures.value other) c.disk_in.ensures.unchanged
+returns-in-Some-clause-unchanged c = on_err_weaker c.disk_in.result (λ same.
+    same-put (λ (x : ListedFile). x.name) entry_as_listed c.args.files.now.items c.in-Some.place c.disk_in.new.entry c.index_mut.result.now same c.index_mut.ensures.value) c.disk_in.ensures.unchanged
 
 pub returns-in-Some-clause-others : goal.returns-in-Some-clause-others
 returns-in-Some-clause-others c =

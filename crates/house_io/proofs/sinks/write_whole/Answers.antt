@@ -7,7 +7,7 @@ loop-rest-preserved g c =
     let t = c.loop-rest.invariant.text in
     let m = wrote-more (g.S.Sink.written c.args.sink.now) (g.S.Sink.written c.loop-rest.sink) (g.S.Sink.written c.push.new.self) c.args.text.now c.loop-rest.rest.now t.0 c.in-Ok.count t.1 t.2 c.in-Ok.ensures.bytes in
     record {
-      count = omega (arith, c.loop-rest.invariant.count, c.in-Ok.ensures.cause.later);
+      count = c.in-Ok.ensures.cause.steady ∙ c.loop-rest.invariant.count;
       text = (m.0, m.1 ∙ ap (λ xs. m.0 ++ xs) (sym c.split_at.ensures.back), m.2);
     }
 

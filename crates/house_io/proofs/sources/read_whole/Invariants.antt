@@ -6,7 +6,7 @@ use Rattle.house_io.proofs.sources.read_whole.Given as goal
 -- the text is what was taken
 abbrev pub invariant-pulls : goal.invariant-pulls
 invariant-pulls g l = record {
-  count : g.R.Source.faults l.initial.source ≤ g.R.Source.faults l.source;
+  count : g.R.Source.faults l.source ≡ g.R.Source.faults l.initial.source;
   few : vec_len l.text ≤ l.limit + 1;
   size : length l.text.items ≡ vec_len l.text;
   taken : IfTold (g.R.Source.left l.initial.source) (g.R.Source.left l.source) (Took l.text.items);

@@ -18,10 +18,10 @@ returns-in-Some-clause-bytes c =
 pub returns-then-next_fails-clause-kept : goal.returns-then-next_fails-clause-kept
 returns-then-next_fails-clause-kept c name before =
     let P : ListedShelf → Type 0 = λ shelf. Contains (names_of shelf.counts) name in
-    c.raise.ensures.kept name (c.begin.ensures.kept name (subst P (sym c.self.view_is) before))
+    subst (λ names. Contains names name) (sym c.raise.ensures.names) (c.begin.ensures.kept name (subst P (sym c.self.view_is) before))
 
 -- and where the file is absent
 pub returns-in-None-clause-kept : goal.returns-in-None-clause-kept
 returns-in-None-clause-kept c name before =
     let P : ListedShelf → Type 0 = λ shelf. Contains (names_of shelf.counts) name in
-    c.raise-in-None.ensures.kept name (c.begin.ensures.kept name (subst P (sym c.self.view_is) before))
+    subst (λ names. Contains names name) (sym c.raise-in-None.ensures.names) (c.begin.ensures.kept name (subst P (sym c.self.view_is) before))

@@ -17,14 +17,13 @@ returns-in-Some-clause-added c =
     (adds-set c.self.inside.list.items c.args.name.now c.in-Some.place c.args.faults new old (subst P c.deref.ensures.value c.in-Some.ensures) c.index_mut-tally.ensures.value refl c.saturating_add-tally.ensures fits)
 
 -- and keeps its name
-pub returns-in-Some-clause-kept : goal.returns-in-Some-clause-kept
-returns-in-Some-clause-kept c name before =
+pub returns-in-Some-clause-names : goal.returns-in-Some-clause-names
+returns-in-Some-clause-names c =
     let old = c.index_mut-tally.result.now in
     let new : Tally = record { name = old.name; faults = c.saturating_add-tally.result } in
     let P : List Tally → Type 0 = λ tallies. IsPlace tallies c.args.name.now c.in-Some.place in
     let is = subst P c.deref.ensures.value c.in-Some.ensures in
-    let names = names-set c.self.inside.list.items c.in-Some.place new old is.inside (ap (λ tally. string_bytes tally.name) c.index_mut-tally.ensures.value) ∙ ap names_of c.self.view_is in
-    subst (λ all. Contains all name) (sym names) before
+    names-set c.self.inside.list.items c.in-Some.place new old is.inside (ap (λ tally. string_bytes tally.name) c.index_mut-tally.ensures.value) ∙ ap names_of c.self.view_is
 
 -- the name has a tally, so this arm is never taken
 pub returns-in_default-clause-added : goal.returns-in_default-clause-added
