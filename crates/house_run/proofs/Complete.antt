@@ -1,5 +1,5 @@
 -- Where nothing outside failed and the files are good, only two answers are left.
-use Rattle.std.proofs.Common.{◌≡◌, ◌≤◌, ◌<◌, inl, inr, ℕ, ◌-◌, ◌^◌, List, [], ◌∷◌, length, Option, Some, Ok, Err, refl, sym, ◌∙◌, subst, ap, arith, decimal}
+use Rattle.std.proofs.Common.{◌≡◌, ◌<◌, inl, inr, ℕ, ◌-◌, ◌^◌, List, [], ◌∷◌, length, Option, Some, Ok, Err, refl, sym, ◌∙◌, subst, ap, arith, decimal}
 use Rattle.std.specs.Prelude.{codes}
 use Rattle.std.proofs.lemmas.Fmt.{decimal_injective}
 use Rattle.std.proofs.Props.{props}
@@ -9,8 +9,8 @@ use Rattle.lot_base.specs.Goods.{IsSupply, IsRange}
 use Rattle.lot_base.specs.declared.auction_terms.Terms.{Terms}
 use Rattle.auction_file.specs.AuctionFile.{auction_of}
 use Rattle.house_run.specs.Words.{Check, Command, Fold, Spells, IsFold, comma_list}
-use Rattle.house_run.specs.Logs.{IsLogOf, IsFaultyAt}
-use Rattle.house_run.specs.Ends.{ShelfSeen, SinkSeen, CheckJob, FoldJob, Job, Wrote, CommandEnds, RunEnds, NothingFailed, HasGoodFiles, IsGoodAuction, IsGoodLog, IsDoneOrNoMemory, auction_limit, content, log_limit}
+use Rattle.house_run.specs.Logs.{IsFaultyAt}
+use Rattle.house_run.specs.Ends.{ShelfSeen, SinkSeen, CheckJob, FoldJob, Job, Wrote, CommandEnds, RunEnds, IsRead, NothingFailed, HasGoodFiles, IsGoodAuction, IsGoodLog, IsDoneOrNoMemory, auction_limit, content, log_limit}
 use Rattle.house_run.specs.declared.ends.Ended.{Ended}
 use Rattle.house_run.specs.declared.ends.Ended.TheVariants as how
 use Rattle.house_run.specs.declared.ends.File.TheVariants as which
@@ -73,6 +73,10 @@ spelled-once (Check auction) (Check name) words is it =
 still : (before now : ℕ) → now ≡ before → before < 2 ^ 64 - 1 → Rose before now → ⊥
 still before now e room rose = omega arith
 
+-- what was read of a file that is told is the file
+read-told : (shelf : ShelfSeen) (files : List NamedFile) (name : List ℕ) (limit : ℕ) (read : List ℕ) → IsRead shelf name limit read → shelf.files ≡ Some files → read ≡ content files name
+read-told shelf files name limit read is told = let P : Option (List NamedFile) → Type 0 = λ o. IfTells o (λ fs. read ≡ content fs name) in subst P told is.whole
+
 fold-ended : (terms : Terms) (log text : List ℕ) (shelf : ShelfSeen) (sink : SinkSeen) (files : List NamedFile) (end : Ended) → FoldJob terms log shelf end text → shelf.files ≡ Some files
     → IsGoodLog terms (content files log) → NothingFailed shelf sink → IsDoneOrNoMemory end
 fold-ended terms log text shelf sink files how.Done job told good quiet = inl refl
@@ -87,9 +91,8 @@ fold-ended terms log text shelf sink files (how.TooLong which.Log) job told good
     let P : Option (List NamedFile) → Type 0 = λ o. IfTells o (λ fs. log_limit < length (content fs log)) in
     absurd (let long : log_limit < length (content files log) = subst P told job.0 in let short = good.short in omega arith)
 fold-ended terms log text shelf sink files (how.BadLog place) job told good quiet =
-    let P : Option (List NamedFile) → Type 0 = λ o. IfTells o (λ fs. (length (content fs log) ≤ log_limit) × IsFaultyAt terms (content fs log) place) in
-    let bad : (length (content files log) ≤ log_limit) × IsFaultyAt terms (content files log) place = subst P told job.0 in
-    absurd (no-fault terms good.history (content files log) place good.whole bad.1)
+    let P : List ℕ → Type 0 = λ bytes. IsFaultyAt terms bytes place in
+    absurd (no-fault terms good.history (content files log) place good.whole (subst P (read-told shelf files log log_limit job.0 job.1 told) job.2))
 
 check-ended : (auction text : List ℕ) (shelf : ShelfSeen) (sink : SinkSeen) (files : List NamedFile) (end : Ended) → CheckJob auction shelf end text → shelf.files ≡ Some files
     → IsGoodAuction (content files auction) → NothingFailed shelf sink → IsDoneOrNoMemory end
@@ -105,8 +108,7 @@ check-ended auction text shelf sink files (how.TooLong which.Auction) job told g
     let P : Option (List NamedFile) → Type 0 = λ o. IfTells o (λ fs. auction_limit < length (content fs auction)) in
     absurd (let long : auction_limit < length (content files auction) = subst P told job.0 in let short = good.short in omega arith)
 check-ended auction text shelf sink files (how.BadAuction fault) job told good quiet =
-    let P : Option (List NamedFile) → Type 0 = λ o. IfTells o (λ fs. (length (content fs auction) ≤ auction_limit) × (auction_of (content fs auction) ≡ Err fault)) in
-    absurd (let bad : (length (content files auction) ≤ auction_limit) × (auction_of (content files auction) ≡ Err fault) = subst P told job.0 in let e : Ok good.listing ≡ Err fault = sym good.read ∙ bad.1 in cc)
+    absurd (let e : Ok good.listing ≡ Err fault = sym good.read ∙ ap auction_of (sym (read-told shelf files auction auction_limit job.0 job.1 told)) ∙ job.2 in cc)
 
 job-ended : (command : Command) (text : List ℕ) (shelf : ShelfSeen) (sink : SinkSeen) (files : List NamedFile) (end : Ended) → Job command shelf end text → shelf.files ≡ Some files
     → HasGoodFiles command files → NothingFailed shelf sink → IsDoneOrNoMemory end

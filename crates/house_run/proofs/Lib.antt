@@ -17,5 +17,6 @@ pub mod Taking
 pub mod PlainWords
 pub mod NamedWords
 pub mod Lining
+pub mod Closing
 pub mod Telling
 pub mod Complete

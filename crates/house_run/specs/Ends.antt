@@ -1,36 +1,41 @@
 -- How a command ends: what it answers, what it wrote, and why. A job, the command's own work, has an end and a text; then
 -- the text is written, and only that may still fail.
-use Rattle.std.specs.Prelude.{◌≡◌, ◌≢◌, ◌<◌, ◌≤◌, ◌-◌, ◌^◌, ◌⊎◌, ℕ, List, [], ◌∷◌, ◌++◌, length, take, Option, Result, Ok, Err, unwrap_or, codes, decimal, Vec}
+use Rattle.std.specs.Prelude.{◌≡◌, ◌≢◌, ◌<◌, ◌≤◌, ◌-◌, ◌^◌, ◌⊎◌, ⊤, ℕ, List, [], ◌∷◌, ◌++◌, length, take, Option, Result, Ok, Err, unwrap_or, codes, decimal, Vec}
 use Rattle.std.specs.declared.alloc.Global.{Global}
 use Rattle.house_io.specs.Faults.{Rose}
 use Rattle.house_io.specs.Told.{IfTold}
-use Rattle.house_io.specs.Shelves.{NamedFile, IfTells, ChangesNone, RisesOnly, bytes_of}
+use Rattle.house_io.specs.Shelves.{NamedFile, IfTells, ChangesNone, RisesOnly, KeepsNames, bytes_of}
 use Rattle.lot_base.specs.declared.auction_terms.Terms.{Terms}
 use Rattle.clock.specs.Reports.{ClockHistory}
 use Rattle.outcome_text.specs.Lines.{line}
 use Rattle.auction_file.specs.AuctionFile.{Listing, auction_of}
 use Rattle.auction_file.specs.declared.faults.AuctionFault.TheVariants as refused
 use Rattle.house_run.specs.Words.{Command, Fold, Check, Spells, IsNoCommand}
-use Rattle.house_run.specs.Logs.{IsLogOf, IsFaultyAt}
+use Rattle.house_run.specs.Logs.{AreBytes, IsLogOf, IsFaultyAt}
 use Rattle.house_run.specs.Texts.{standing_of, check_text}
 use Rattle.house_run.specs.Status.{number_of}
 use Rattle.house_run.specs.declared.ends.Ended.{Ended}
 use Rattle.house_run.specs.declared.ends.Ended.TheVariants as how
 use Rattle.house_run.specs.declared.ends.File.TheVariants as which
 
--- the shelf of a call: its files, where they are told, and the counts of faults by name as the call began and as it ended
+-- the shelf of a call: its files, where they are told, the counts of faults by name, and the names that it has opened, as the
+-- call began and as it ended
 pub record ShelfSeen : Type 0 where
   pub files_before : Option (List NamedFile)
   pub files : Option (List NamedFile)
   pub faults_before : List ℕ → ℕ
   pub faults : List ℕ → ℕ
+  pub opened_before : List (List ℕ)
+  pub opened : List (List ℕ)
 
-abbrev pub shelf_seen : {H : Type 0} → (H → Option (List NamedFile)) → (H → List ℕ → ℕ) → H → H → ShelfSeen
-shelf_seen files faults before after = record {
+abbrev pub shelf_seen : {H : Type 0} → (H → Option (List NamedFile)) → (H → List ℕ → ℕ) → (H → List (List ℕ)) → H → H → ShelfSeen
+shelf_seen files faults opened before after = record {
   files_before = files before;
   files = files after;
   faults_before = faults before;
   faults = faults after;
+  opened_before = opened before;
+  opened = opened after;
 }
 
 -- the sink of a call: the bytes written, where they are told, and the count of its faults, as the call began and as it ended
@@ -52,15 +57,29 @@ sink_seen written faults before after = record {
 pub record IsUntouched (shelf : ShelfSeen) : Type 0 where
   pub files_same : shelf.files ≡ shelf.files_before
   pub faults_same : (name : List ℕ) → shelf.faults name ≡ shelf.faults_before name
+  pub opened_same : shelf.opened ≡ shelf.opened_before
 
--- no file was changed, and only calls on the file of this name failed
+-- No call on the shelf failed, unless the end tells a fault of it. Of the want of memory nothing is said.
+abbrev pub IsQuiet : Ended → ShelfSeen → Type 0
+IsQuiet how.ReadFault shelf = ⊤
+IsQuiet how.NoMemory shelf = ⊤
+IsQuiet end shelf = (name : List ℕ) → shelf.faults name ≡ shelf.faults_before name
+
+-- no file was changed, only calls on the file of this name failed, and each name that was opened stays so
 pub record OnlyReads (name : List ℕ) (shelf : ShelfSeen) : Type 0 where
   pub unchanged : ChangesNone shelf.files_before shelf.files
   pub counts : RisesOnly name shelf.faults_before shelf.faults
+  pub kept : KeepsNames shelf.opened_before shelf.opened
 
 -- the bytes of a file, none where it is absent
 abbrev pub content : List NamedFile → List ℕ → List ℕ
 content files name = unwrap_or (bytes_of files name) []
+
+-- the bytes that were read of a file: all of it, where it is told, and no more than the limit
+pub record IsRead (shelf : ShelfSeen) (name : List ℕ) (limit : ℕ) (read : List ℕ) : Type 0 where
+  pub whole : IfTells shelf.files (λ files. read ≡ content files name)
+  pub short : length read ≤ limit
+  pub bytes : AreBytes read
 
 -- the greatest number of bytes of a log, and of an auction file
 abbrev pub log_limit : ℕ
@@ -85,13 +104,13 @@ line_of (how.BadAuction fault) = line (codes "bad" ∷ codes "auction" ∷ decim
 -- other end has its cause and its line; the want of memory has none, and writes nothing.
 abbrev pub FoldJob : Terms → List ℕ → ShelfSeen → Ended → List ℕ → Type 0
 FoldJob terms log shelf how.Done text =
-    IfTells shelf.files (λ files. (length (content files log) ≤ log_limit) × ((c : ClockHistory) × IsLogOf terms c (content files log) × (text ≡ standing_of c)))
+    (read : List ℕ) × IsRead shelf log log_limit read × ((c : ClockHistory) × IsLogOf terms c read × (text ≡ standing_of c))
 FoldJob terms log shelf how.NoMemory text = text ≡ []
 FoldJob terms log shelf how.ReadFault text = Rose (shelf.faults_before log) (shelf.faults log) × (text ≡ line_of how.ReadFault)
 FoldJob terms log shelf (how.TooLong which.Log) text =
     IfTells shelf.files (λ files. log_limit < length (content files log)) × (text ≡ line_of (how.TooLong which.Log))
 FoldJob terms log shelf (how.BadLog place) text =
-    IfTells shelf.files (λ files. (length (content files log) ≤ log_limit) × IsFaultyAt terms (content files log) place) × (text ≡ line_of (how.BadLog place))
+    (read : List ℕ) × IsRead shelf log log_limit read × IsFaultyAt terms read place × (text ≡ line_of (how.BadLog place))
 FoldJob terms log shelf how.Usage text = ⊥
 FoldJob terms log shelf how.WriteFault text = ⊥
 FoldJob terms log shelf (how.TooLong which.Auction) text = ⊥
@@ -100,13 +119,13 @@ FoldJob terms log shelf (how.BadAuction fault) text = ⊥
 -- The job of `check`. It is done where the file is one of an auction, and its text tells that auction.
 abbrev pub CheckJob : List ℕ → ShelfSeen → Ended → List ℕ → Type 0
 CheckJob auction shelf how.Done text =
-    IfTells shelf.files (λ files. (length (content files auction) ≤ auction_limit) × ((listing : Listing) × (auction_of (content files auction) ≡ Ok listing) × (text ≡ check_text listing)))
+    (read : List ℕ) × IsRead shelf auction auction_limit read × ((listing : Listing) × (auction_of read ≡ Ok listing) × (text ≡ check_text listing))
 CheckJob auction shelf how.NoMemory text = text ≡ []
 CheckJob auction shelf how.ReadFault text = Rose (shelf.faults_before auction) (shelf.faults auction) × (text ≡ line_of how.ReadFault)
 CheckJob auction shelf (how.TooLong which.Auction) text =
     IfTells shelf.files (λ files. auction_limit < length (content files auction)) × (text ≡ line_of (how.TooLong which.Auction))
 CheckJob auction shelf (how.BadAuction fault) text =
-    IfTells shelf.files (λ files. (length (content files auction) ≤ auction_limit) × (auction_of (content files auction) ≡ Err fault)) × (fault ≢ refused.NoMemory) × (text ≡ line_of (how.BadAuction fault))
+    (read : List ℕ) × IsRead shelf auction auction_limit read × (auction_of read ≡ Err fault) × (fault ≢ refused.NoMemory) × (text ≡ line_of (how.BadAuction fault))
 CheckJob auction shelf how.Usage text = ⊥
 CheckJob auction shelf how.WriteFault text = ⊥
 CheckJob auction shelf (how.TooLong which.Log) text = ⊥
@@ -127,14 +146,20 @@ abbrev pub JobAnswer : Command → ShelfSeen → Result (Vec ℕ Global) Ended �
 JobAnswer command shelf (Ok text) = Job command shelf how.Done text.items
 JobAnswer command shelf (Err end) = Job command shelf end (line_of end)
 
+abbrev pub IsQuietAnswer : ShelfSeen → Result (Vec ℕ Global) Ended → Type 0
+IsQuietAnswer shelf (Ok text) = IsQuiet how.Done shelf
+IsQuietAnswer shelf (Err end) = IsQuiet end shelf
+
 -- The text was appended, and the answer is the job's end; or the sink's count rose, a front of the text was appended, and the
--- answer says so.
+-- answer says so. A fault is passed over by no other answer.
 pub record WroteWhole (sink : SinkSeen) (end : Ended) (text : List ℕ) (answer : Ended) : Type 0 where
   pub answer_is : answer ≡ end
+  pub steady : sink.faults ≡ sink.faults_before
   pub appended : IfTold sink.written_before sink.written (λ before after. after ≡ before ++ text)
 
 pub record WroteFront (sink : SinkSeen) (text : List ℕ) (answer : Ended) : Type 0 where
   pub answer_is : answer ≡ how.WriteFault
+  pub later : sink.faults_before ≤ sink.faults
   pub cause : Rose sink.faults_before sink.faults
   pub appended : IfTold sink.written_before sink.written (λ before after. after ≡ before ++ take (length after - length before) text)
 
@@ -151,6 +176,7 @@ pub record CommandEnds (command : Command) (shelf : ShelfSeen) (sink : SinkSeen)
   pub text : List ℕ
   pub job : Job command shelf end text
   pub reads : OnlyReads (file_name_of command) shelf
+  pub quiet : IsQuiet end shelf
   pub wrote : Wrote sink end text answer
 
 -- How a run ends: the words are no command, and it says so; or they are a command, and that ends; or memory ran out before

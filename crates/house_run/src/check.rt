@@ -1,6 +1,7 @@
 //! The command `check`: what an auction file says.
 ghost use Rattle.std.specs.Prelude.{◌≤◌, length};
-ghost use Rattle.house_run.specs.Ends.{JobAnswer, OnlyReads, shelf_seen};
+ghost use Rattle.house_run.specs.Ends.{JobAnswer, IsQuietAnswer, OnlyReads, shelf_seen};
+ghost use Rattle.house_run.specs.Logs.{AreBytes};
 ghost use Rattle.house_run.specs.Reading.{IsTextOf};
 ghost use Rattle.house_run.specs.Words.{Check};
 
@@ -16,8 +17,9 @@ const AUCTION_LIMIT: u64 = MOST_BYTES as u64;
 
 /// The text of the auction that a file says, or why there is none.
 pub(crate) fn check<H: Shelf>(alloc: Global, auction: &str, shelf: &mut H) -> Result<Vec<u8>, Ended>
-    ensures job { JobAnswer (Check auction.now) (shelf_seen H.files H.faults shelf.old shelf.new) result }
-    ensures reads { OnlyReads auction.now (shelf_seen H.files H.faults shelf.old shelf.new) }
+    ensures job { JobAnswer (Check auction.now) (shelf_seen H.files H.faults H.opened shelf.old shelf.new) result }
+    ensures reads { OnlyReads auction.now (shelf_seen H.files H.faults H.opened shelf.old shelf.new) }
+    ensures quiet { IsQuietAnswer (shelf_seen H.files H.faults H.opened shelf.old shelf.new) result }
 {
     let bytes = match read_file(alloc, shelf, auction, AUCTION_LIMIT) {
         Ok(bytes) => bytes,
@@ -35,7 +37,8 @@ pub(crate) fn check<H: Shelf>(alloc: Global, auction: &str, shelf: &mut H) -> Re
 /// The text of the auction that the bytes say.
 fn auction_text(alloc: Global, bytes: &[u8]) -> Result<Vec<u8>, AuctionFault>
     requires { length bytes.now ≤ MOST_BYTES }
-    ensures { IsTextOf result bytes.now }
+    ensures text { IsTextOf result bytes.now }
+    ensures bytes { AreBytes bytes.now }
 {
     let auction = match read(alloc, bytes) {
         Ok(auction) => auction,

@@ -1,5 +1,5 @@
 //! Reading a file of the shelf.
-ghost use Rattle.std.specs.Prelude.{◌≡◌, ◌≤◌, ◌<◌, length, IfOk, Err};
+ghost use Rattle.std.specs.Prelude.{◌≡◌, ◌≤◌, ◌<◌, ℕ, List, length, IfOk, Err};
 ghost use Rattle.house_io.specs.Faults.{Rose};
 ghost use Rattle.house_io.specs.Shelves.{IfTells};
 ghost use Rattle.house_run.specs.Ends.{OnlyReads, content, shelf_seen};
@@ -17,7 +17,8 @@ pub(crate) fn read_file<H: Shelf>(
     ensures bytes { IfOk result (λ v. IfTells (H.files shelf.new) (λ files. v.items ≡ content files name.now)) }
     ensures short { IfOk result (λ v. length v.items ≤ limit) }
     ensures failed { result ≡ Err ReadWhole.Failed → Rose (H.faults shelf.old name.now) (H.faults shelf.new name.now) }
-    ensures reads { OnlyReads name.now (shelf_seen H.files H.faults shelf.old shelf.new) }
+    ensures quiet { (result ≡ Err ReadWhole.Failed → ⊥) → (other : List ℕ) → H.faults shelf.new other ≡ H.faults shelf.old other }
+    ensures reads { OnlyReads name.now (shelf_seen H.files H.faults H.opened shelf.old shelf.new) }
     ensures long { result ≡ Err ReadWhole.TooLong → IfTells (H.files shelf.new) (λ files. limit < length (content files name.now)) }
 {
     let mut source = match shelf.source(alloc, name) {

@@ -1,6 +1,7 @@
 //! The command `fold`: one clock over a log.
 ghost use Rattle.std.specs.Prelude.{◌≡◌};
-ghost use Rattle.house_run.specs.Ends.{JobAnswer, OnlyReads, shelf_seen};
+ghost use Rattle.house_run.specs.Ends.{JobAnswer, IsQuietAnswer, OnlyReads, shelf_seen};
+ghost use Rattle.house_run.specs.Logs.{AreBytes};
 ghost use Rattle.house_run.specs.Reading.{IsLineOf};
 ghost use Rattle.house_run.specs.Words.{Fold};
 
@@ -22,8 +23,9 @@ pub(crate) fn fold<H: Shelf>(
     log: &str,
     shelf: &mut H,
 ) -> Result<Vec<u8>, Ended>
-    ensures job { JobAnswer (Fold terms.now log.now) (shelf_seen H.files H.faults shelf.old shelf.new) result }
-    ensures reads { OnlyReads log.now (shelf_seen H.files H.faults shelf.old shelf.new) }
+    ensures job { JobAnswer (Fold terms.now log.now) (shelf_seen H.files H.faults H.opened shelf.old shelf.new) result }
+    ensures reads { OnlyReads log.now (shelf_seen H.files H.faults H.opened shelf.old shelf.new) }
+    ensures quiet { IsQuietAnswer (shelf_seen H.files H.faults H.opened shelf.old shelf.new) result }
 {
     let bytes = match read_file(alloc, shelf, log, LOG_LIMIT) {
         Ok(bytes) => bytes,
@@ -40,7 +42,8 @@ pub(crate) fn fold<H: Shelf>(
 
 /// The standing line of the clock of all bidders after the entries of a log.
 fn log_line(alloc: Global, terms: &Terms, bytes: &[u8]) -> Result<Vec<u8>, LogFault>
-    ensures { IsLineOf result terms.now bytes.now }
+    ensures line { IsLineOf result terms.now bytes.now }
+    ensures bytes { AreBytes bytes.now }
 {
     let clock = match replay_log(alloc, terms, bytes) {
         Ok(clock) => clock,

@@ -3,7 +3,7 @@ ghost use Rattle.std.specs.Prelude.{◌≡◌, List, Some};
 ghost use Rattle.house_io.specs.Shelves.{NamedFile};
 ghost use Rattle.house_run.specs.Words.{Command, Spells, words_of};
 ghost use Rattle.house_run.specs.CommandView.{command_as};
-ghost use Rattle.house_run.specs.Ends.{RunEnds, CommandEnds, JobAnswer, OnlyReads, NothingFailed, HasGoodFiles, IsDoneOrNoMemory, file_name_of, shelf_seen, sink_seen};
+ghost use Rattle.house_run.specs.Ends.{RunEnds, CommandEnds, JobAnswer, IsQuietAnswer, OnlyReads, NothingFailed, HasGoodFiles, IsDoneOrNoMemory, file_name_of, shelf_seen, sink_seen};
 
 use crate::check::check;
 use crate::delivery::{deliver, deliver_line};
@@ -24,11 +24,11 @@ pub fn run<T, H: Shelf, S: Sink>(
     shelf: &mut H,
     out: &mut S,
 ) -> Ended
-    ensures ends { RunEnds (words_of words.now) (shelf_seen H.files H.faults shelf.old shelf.new) (sink_seen S.written S.faults out.old out.new) result }
+    ensures ends { RunEnds (words_of words.now) (shelf_seen H.files H.faults H.opened shelf.old shelf.new) (sink_seen S.written S.faults out.old out.new) result }
 
     // A command over good files is done where no call outside fails, or memory runs out.
     ensures complete { (command : Command) (files : List NamedFile) → Spells command (words_of words.now) → H.files shelf.new ≡ Some files → HasGoodFiles command files
-        → NothingFailed (shelf_seen H.files H.faults shelf.old shelf.new) (sink_seen S.written S.faults out.old out.new) → IsDoneOrNoMemory result }
+        → NothingFailed (shelf_seen H.files H.faults H.opened shelf.old shelf.new) (sink_seen S.written S.faults out.old out.new) → IsDoneOrNoMemory result }
 {
     run_words(alloc, words, shelf, out)
 }
@@ -40,7 +40,7 @@ fn run_words<H: Shelf, S: Sink>(
     shelf: &mut H,
     out: &mut S,
 ) -> Ended
-    ensures { RunEnds (words_of words.now) (shelf_seen H.files H.faults shelf.old shelf.new) (sink_seen S.written S.faults out.old out.new) result }
+    ensures { RunEnds (words_of words.now) (shelf_seen H.files H.faults H.opened shelf.old shelf.new) (sink_seen S.written S.faults out.old out.new) result }
 {
     match read_words(alloc, words) {
         Ok(Some(command)) => run_command(alloc, &command, shelf, out),
@@ -56,7 +56,7 @@ fn run_command<H: Shelf, S: Sink>(
     shelf: &mut H,
     out: &mut S,
 ) -> Ended
-    ensures { CommandEnds (command_as command.now) (shelf_seen H.files H.faults shelf.old shelf.new) (sink_seen S.written S.faults out.old out.new) result }
+    ensures { CommandEnds (command_as command.now) (shelf_seen H.files H.faults H.opened shelf.old shelf.new) (sink_seen S.written S.faults out.old out.new) result }
 {
     match job_text(alloc, command, shelf) {
         Ok(text) => deliver(out, &text, Ended::Done),
@@ -70,8 +70,9 @@ fn job_text<H: Shelf>(
     command: &CommandWords,
     shelf: &mut H,
 ) -> Result<Vec<u8>, Ended>
-    ensures job { JobAnswer (command_as command.now) (shelf_seen H.files H.faults shelf.old shelf.new) result }
-    ensures reads { OnlyReads (file_name_of (command_as command.now)) (shelf_seen H.files H.faults shelf.old shelf.new) }
+    ensures job { JobAnswer (command_as command.now) (shelf_seen H.files H.faults H.opened shelf.old shelf.new) result }
+    ensures reads { OnlyReads (file_name_of (command_as command.now)) (shelf_seen H.files H.faults H.opened shelf.old shelf.new) }
+    ensures quiet { IsQuietAnswer (shelf_seen H.files H.faults H.opened shelf.old shelf.new) result }
 {
     match command {
         CommandWords::Fold { terms, log } => fold(alloc, terms, log, shelf),
