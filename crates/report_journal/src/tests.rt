@@ -93,6 +93,39 @@ fn a_scan_finds_the_places_and_the_header(rt: HostRuntime) -> Result<(), Fail> {
     Ok(())
 }
 
+#[test]
+fn a_file_that_stands_is_taken_up_again(rt: HostRuntime) -> Result<(), Fail> {
+    let alloc = rt.alloc();
+    let mut disk = SureDisk::new(alloc, FILE.to_vec(alloc)?, ROOM)?;
+    let Scanned::Formed {
+        clock,
+        digest,
+        records,
+        end,
+    } = scan(alloc, &mut disk)?
+    else {
+        return Err("not formed".into());
+    };
+    let mut journal = Journal::attach(
+        disk,
+        Scanned::Formed {
+            clock,
+            digest,
+            records,
+            end,
+        },
+    );
+    assert_eq!(rt; journal.count(), 1);
+    assert_eq!(rt; journal.append(alloc, &[])?, 2);
+    assert_eq!(rt; journal.payload(alloc, 1)?.as_slice(), PAYLOAD.as_slice());
+    assert_eq!(rt; journal.payload(alloc, 2)?.len(), 0);
+    let disk = journal.into_disk();
+    let mut expected = FILE[..56].to_vec(alloc)?;
+    expected.extend_from_slice(&[0xa5, 0, 0, 0, 0, 0])?;
+    assert_eq!(rt; disk.bytes(), expected.as_slice());
+    Ok(())
+}
+
 /// The answer to a file that is cut at this length, its first record's gate open or closed.
 fn expected_at(cut: usize, open: bool) -> Seen {
     if cut < 42 {
@@ -207,6 +240,25 @@ fn a_hostile_file_is_read_for_what_it_is(rt: HostRuntime) -> Result<(), Fail> {
         let file = altered(alloc, at, bytes, cut)?;
         assert_eq!(rt; seen_in(alloc, &file)?, expected, "{story}");
     }
+    Ok(())
+}
+
+#[test]
+fn a_header_of_another_name_is_told_as_it_stands(rt: HostRuntime) -> Result<(), Fail> {
+    let alloc = rt.alloc();
+    let file = altered(alloc, 1, b"AHJ2", 57)?;
+    let mut disk = SureDisk::new(alloc, file, ROOM)?;
+    let Scanned::Damaged {
+        clock,
+        digest: found,
+        records,
+        number,
+    } = scan(alloc, &mut disk)?
+    else {
+        return Err("not damaged".into());
+    };
+    assert_eq!(rt; (clock, number, records.as_slice().len()), (3, 0, 0));
+    assert_eq!(rt; found, digest());
     Ok(())
 }
 
