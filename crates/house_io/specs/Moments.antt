@@ -73,9 +73,13 @@ wrote at bytes ms = then ms (written at (length bytes) (overlaid ms.now.read at 
 abbrev pub synced_at : Moments → Moments
 synced_at ms = then ms (settled ms.now.read)
 
--- a write that failed: anything in its range
+-- the bytes from one place up to another are zeros, as far as they are there
+abbrev pub HasZeros : ℕ → ℕ → List ℕ → Type 0
+HasZeros from to file = (i : ℕ) → from ≤ i → i < to → slice_index file i ≡ 0
+
+-- a write that failed: a read gives anything in its range, zeros in a gap before it, and what it gave elsewhere
 abbrev pub HasTorn : ℕ → ℕ → Moments → Moments → Type 0
-HasTorn at n old new = (file : List ℕ) × Torn at n old.now.read file × (new ≡ then old (written at n file old.now))
+HasTorn at n old new = (file : List ℕ) × Torn at n old.now.read file × (new ≡ then old (written at n file old.now)) × HasZeros (length old.now.read) at file
 
 -- what a read gives at the moment, and each image of it, has P
 pub record Leaves (P : List ℕ → Type 0) (m : Moment) : Type 0 where

@@ -1,7 +1,7 @@
 -- Worked examples of what a read of a disk gives, and of what a crash may leave: gaps, writes of no bytes, failed writes and
 -- syncs.
 use Rattle.std.specs.Prelude.{◌≡◌, ◌<◌, ◌≤◌, ◌⊎◌, ◌+◌, ◌-◌, ◌^◌, ℕ, zero, suc, List, [], ◌∷◌, slice_index, refl}
-use Rattle.std.proofs.Common.{inl, inr, arith}
+use Rattle.std.proofs.Common.{inl, inr, ap, ◌∙◌, arith}
 use Rattle.house_io.specs.Moments.{Moment, Moments, IsImage, IsOutside, Torn, IsSettled, overlaid, settled, opened, written, then, wrote, synced_at, HasTorn}
 use Rattle.house_io.specs.Calls.{replay, tore, total, room_for}
 use Rattle.house_io.specs.Fills.{image_of}
@@ -82,6 +82,13 @@ gap_images = (
 -- A failed write of no bytes within a file leaves what a read gives.
 torn_by_nothing : (x y : ℕ) → Torn 1 0 (1 ∷ 2 ∷ []) (x ∷ y ∷ []) → (x ≡ 1) × (y ≡ 2)
 torn_by_nothing x y torn = (torn.same 0 (omega arith) (inl (omega arith)), torn.same 1 (omega arith) (inr (omega arith)))
+
+-- A failed write behind the end of a file of one byte leaves zeros before its range, as far as there is anything.
+torn_behind_a_gap : (new : Moments) → HasTorn 3 1 (opened (1 ∷ [])) new → (slice_index new.now.read 1 ≡ 0) × (slice_index new.now.read 2 ≡ 0)
+torn_behind_a_gap new (file, torn, is, zeros) = (
+  ap (λ (ms : Moments). slice_index ms.now.read 1) is ∙ zeros 1 (omega arith) (omega arith),
+  ap (λ (ms : Moments). slice_index ms.now.read 2) is ∙ zeros 2 (omega arith) (omega arith),
+)
 
 -- What is left of byte 1, and of a failed write behind a gap: the bytes of then, what was written, and one byte throughout.
 fills :

@@ -88,7 +88,7 @@ abbrev pub with_name : List ℕ → List (List ℕ) → List (List ℕ)
 with_name name [] = name ∷ []
 with_name name (first ∷ names) = if bytes_eq first name then first ∷ names else first ∷ with_name name names
 
--- the names after an opening; one that finds no memory opens none
+-- The names after an opening: this one is among them, also where a fault refused it. One that finds no memory opens none.
 abbrev pub names_after : {T : Type 0} → Result T Refusal → List ℕ → List (List ℕ) → List (List ℕ)
 names_after (Ok answer) name names = with_name name names
 names_after (Err why.Failed) name names = with_name name names

@@ -25,7 +25,7 @@ pub trait Shelf {
     /// How often a call on each name has failed.
     ghost faults: { Self → List ℕ → ℕ };
 
-    /// The names that it has opened.
+    /// The names that it has opened, or could not open for a fault: each once, in the order in which they came.
     ghost opened: { Self → List (List ℕ) };
 
     /// Opens a file for reading. An absent one fails, or gives an empty source.
