@@ -2,8 +2,8 @@
 //! call. It ends with the top call's status.
 #![tactic(auto)]
 
-use house_io::{FolderShelf, StdoutSink, write_whole};
-use house_run::{Ended, run};
+use house_io::{FolderShelf, StdoutSink};
+use house_run::{Ended, answer_usage, run};
 use std::process::ExitCode;
 use std::{env, io};
 
@@ -16,10 +16,7 @@ fn main(rt: HostRuntime) -> ExitCode {
         }
         Err(error) if error.kind() == io::ErrorKind::OutOfMemory => Ended::NoMemory,
         // Words that are not UTF-8 are no command.
-        Err(_) => match write_whole(&mut out, b"usage\n") {
-            Ok(()) => Ended::Usage,
-            Err(_) => Ended::WriteFault,
-        },
+        Err(_) => answer_usage(&mut out),
     };
     ExitCode::from(ended.status())
 }

@@ -18,12 +18,19 @@ pub(crate) fn deliver<S: Sink>(out: &mut S, text: &[u8], ended: Ended) -> Ended
     }
 }
 
+/// Answers words that are no command. It takes no memory.
+pub fn answer_usage<S: Sink>(out: &mut S) -> Ended
+    ensures { Wrote (sink_seen S.written S.faults out.old out.new) how.Usage (line_of how.Usage) result }
+{
+    deliver(out, b"usage\n", Ended::Usage)
+}
+
 /// Writes the line of a job that was not done.
 pub(crate) fn deliver_line<S: Sink>(alloc: Global, out: &mut S, ended: Ended) -> Ended
     ensures { WroteLine (sink_seen S.written S.faults out.old out.new) ended result }
 {
     match ended {
-        Ended::Usage => deliver(out, b"usage\n", Ended::Usage),
+        Ended::Usage => answer_usage(out),
         Ended::ReadFault => deliver(out, b"read fault\n", Ended::ReadFault),
         Ended::TooLong(File::Auction) => deliver(out, b"too long auction\n", ended),
         Ended::TooLong(File::Log) => deliver(out, b"too long log\n", ended),

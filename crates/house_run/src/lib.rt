@@ -16,5 +16,6 @@ mod tests;
 mod texts;
 mod words;
 
+pub use delivery::answer_usage;
 pub use ends::{Ended, File};
 pub use runs::run;

@@ -6,7 +6,7 @@ ghost use Rattle.house_run.specs.CommandView.{command_as};
 ghost use Rattle.house_run.specs.Ends.{RunEnds, CommandEnds, JobAnswer, IsQuietAnswer, OnlyReads, NothingFailed, HasGoodFiles, IsDoneOrNoMemory, file_name_of, shelf_seen, sink_seen};
 
 use crate::check::check;
-use crate::delivery::{deliver, deliver_line};
+use crate::delivery::{answer_usage, deliver, deliver_line};
 use crate::ends::Ended;
 use crate::fold::fold;
 use crate::words::{CommandWords, read_words};
@@ -44,7 +44,7 @@ fn run_words<H: Shelf, S: Sink>(
 {
     match read_words(alloc, words) {
         Ok(Some(command)) => run_command(alloc, &command, shelf, out),
-        Ok(None) => deliver(out, b"usage\n", Ended::Usage),
+        Ok(None) => answer_usage(out),
         Err(NoMemory) => deliver(out, b"", Ended::NoMemory),
     }
 }
