@@ -12,7 +12,7 @@ use Rattle.turn_desk.specs.declared.view.Stage.TheVariants.{Rests}
 use Rattle.turn_desk.specs.declared.view.View.{View}
 use Rattle.turn_desk.specs.Histories.{total, one_if, between, times_at, StartsWith, StartsWithAll, StandIn}
 use Rattle.turn_desk.specs.Views.{holding, founder, numbered, reached}
-use Rattle.turn_desk.specs.Rule.{home, Fits, IsCrew, KeepsRule, AtHome, InTurn}
+use Rattle.turn_desk.specs.Rule.{home, Fits, IsCrew, KeepsRule, AreApart, AtHome, InTurn}
 use Rattle.turn_desk.specs.Steps.{Ends}
 use Rattle.turn_desk.proofs.Totals.{total_at, total_two, total_only, total_none}
 use Rattle.turn_desk.proofs.Stages.{out_or_not, hold_le_active, none_of, starts_whole, hold_fits}
@@ -79,6 +79,19 @@ module _ {B E O : Type 0} (history : B → List E) (origin : B → O) (first : B
   the_maker : (views : List (View E O)) (crew : IsCrew views) (j : ℕ) (v : View E O) → get_elem? views j ≡ some v → 0 < v.made → j ≡ crew.maker
   the_maker views crew j v at some_made = dite (ℕ_discrete j crew.maker) (λ is. is) (λ other. absurd (let none = crew.others j v at other in omega arith))
 
+  apart : (s : State (Option B) (View E O)) → KeepsRule history origin first s → AreApart history origin first s.views
+  apart s k = record {
+    numbers = λ i j v w at_i at_j some_v some_w same. dite (ℕ_discrete i j) (λ is. is) (λ ne. absurd (
+        let a = total_two (numbered v.number) s.views i j v w (λ p. ne (sym p)) at_i at_j in
+        let b = one_numbered v.number v some_v refl in let c = one_numbered v.number w some_w same in
+        let d = k.crew.numbers v.number in let e : one_if (ltb v.number (total (λ (u : View E O). u.made) s.views)) ≤ 1 = grind (arith, nat_tests, one_if) in omega arith));
+    below = λ j v at some_v.
+        (let a = total_at (numbered v.number) s.views j v at in let b = one_numbered v.number v some_v refl in let d = k.crew.numbers v.number in
+        let e : 1 ≤ one_if (ltb v.number (total (λ (u : View E O). u.made) s.views)) = omega arith in grind (arith, nat_tests, one_if));
+    origins = λ j v at some_v. ((k.each j v at).origin_is some_v, (k.each j v at).start_is some_v);
+    maker = λ i j v w at_i at_j some_v some_w. the_maker s.views k.crew i v at_i some_v ∙ sym (the_maker s.views k.crew j w at_j some_w);
+  }
+
   pub at_home : (book : B) (s : State (Option B) (View E O)) → KeepsRule history origin first s → s.homes ≡ some (Some book) ∷ [] → AtHome history origin first book s
   at_home book s k lies =
       let free = home_is k.out k.book book (sym k.homes_are ∙ lies) in let has = k.book_is free.0 in
@@ -91,15 +104,7 @@ module _ {B E O : Type 0} (history : B → List E) (origin : B → O) (first : B
         also = λ j v at. subst (λ (z : List E). StartsWithAll z v.also) log_is (k.each j v at).also;
         own = λ j v at. subst (λ (z : List E). StandIn z v.own) log_is (k.each j v at).own;
         places = λ n. k.places n ∙ ap (λ (z : List E). between (length (history first)) (length z) n) log_is;
-        numbers = λ i j v w at_i at_j some_v some_w same. dite (ℕ_discrete i j) (λ is. is) (λ ne. absurd (
-            let a = total_two (numbered v.number) s.views i j v w (λ p. ne (sym p)) at_i at_j in
-            let b = one_numbered v.number v some_v refl in let c = one_numbered v.number w some_w same in
-            let d = k.crew.numbers v.number in let e : one_if (ltb v.number (total (λ (u : View E O). u.made) s.views)) ≤ 1 = grind (arith, nat_tests, one_if) in omega arith));
-        below = λ j v at some_v.
-            (let a = total_at (numbered v.number) s.views j v at in let b = one_numbered v.number v some_v refl in let d = k.crew.numbers v.number in
-            let e : 1 ≤ one_if (ltb v.number (total (λ (u : View E O). u.made) s.views)) = omega arith in grind (arith, nat_tests, one_if));
-        origins = λ j v at some_v. ((k.each j v at).origin_is some_v, (k.each j v at).start_is some_v);
-        maker = λ i j v w at_i at_j some_v some_w. the_maker s.views k.crew i v at_i some_v ∙ sym (the_maker s.views k.crew j w at_j some_w);
+        apart = apart s k;
         queue = let a = ap (λ (ws : List ℕ). slice_index ws 0) k.words_are in let b = ap (λ (ws : List ℕ). slice_index ws 1) k.words_are in let c = k.queue.length_is in omega arith;
         holders = none_holds;
       }
@@ -118,6 +123,7 @@ module _ {B E O : Type 0} (history : B → List E) (origin : B → O) (first : B
         also = λ j v here. subst (λ (z : List E). StartsWithAll z v.also) log_is (k.each j v here).also;
         own = λ j v here. subst (λ (z : List E). StandIn z v.own) log_is (k.each j v here).own;
         places = λ n. k.places n ∙ ap (λ (z : List E). between (length (history first)) (length z) n) log_is;
+        apart = apart s k;
         queue = let a = ap (λ (ws : List ℕ). slice_index ws 0) k.words_are in let b = ap (λ (ws : List ℕ). slice_index ws 1) k.words_are in let c = k.queue.length_is in omega arith;
       }
 

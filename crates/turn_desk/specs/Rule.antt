@@ -68,6 +68,15 @@ module _ {B E O : Type 0} (history : B → List E) (origin : B → O) (first : B
     pub queue : IsQueue serving ticket s.views
     pub crew : IsCrew s.views
 
+  -- what tells views apart, whether the book is out or not
+  pub record AreApart (views : List (View E O)) : Type 0 where
+    -- views that are not spent have different numbers, the first book's origin, and the length of its history
+    pub numbers : (i j : ℕ) (v w : View E O) → get_elem? views i ≡ some v → get_elem? views j ≡ some w → 0 < v.seats → 0 < w.seats → v.number ≡ w.number → i ≡ j
+    pub below : (j : ℕ) (v : View E O) → get_elem? views j ≡ some v → 0 < v.seats → v.number < total (λ (w : View E O). w.made) views
+    pub origins : (j : ℕ) (v : View E O) → get_elem? views j ≡ some v → 0 < v.seats → (v.origin ≡ Some (origin first)) × (v.start ≡ length (history first))
+    -- one view at most keeps how many were made
+    pub maker : (i j : ℕ) (v w : View E O) → get_elem? views i ≡ some v → get_elem? views j ≡ some w → 0 < v.made → 0 < w.made → i ≡ j
+
   -- what is so while the book lies on the desk
   pub record AtHome (book : B) (s : State (Option B) (View E O)) : Type 0 where
     -- the count is that of the book's history, which goes on from the first book's, and the origin is the first book's
@@ -81,12 +90,7 @@ module _ {B E O : Type 0} (history : B → List E) (origin : B → O) (first : B
     pub own : (j : ℕ) (v : View E O) → get_elem? s.views j ≡ some v → StandIn (history book) v.own
     -- each place beyond the first book's history is the own place of exactly one view, and no other place is
     pub places : (k : ℕ) → total (λ (v : View E O). times_at k v.own) s.views ≡ between (length (history first)) (length (history book)) k
-    -- views that are not spent have different numbers, the first book's origin, and the length of its history
-    pub numbers : (i j : ℕ) (v w : View E O) → get_elem? s.views i ≡ some v → get_elem? s.views j ≡ some w → 0 < v.seats → 0 < w.seats → v.number ≡ w.number → i ≡ j
-    pub below : (j : ℕ) (v : View E O) → get_elem? s.views j ≡ some v → 0 < v.seats → v.number < total (λ (w : View E O). w.made) s.views
-    pub origins : (j : ℕ) (v : View E O) → get_elem? s.views j ≡ some v → 0 < v.seats → (v.origin ≡ Some (origin first)) × (v.start ≡ length (history first))
-    -- one view at most keeps how many were made
-    pub maker : (i j : ℕ) (v w : View E O) → get_elem? s.views i ≡ some v → get_elem? s.views j ≡ some w → 0 < v.made → 0 < w.made → i ≡ j
+    pub apart : AreApart s.views
     -- the next ticket is the one that is served and the number of views that wait, since none holds the turn
     pub queue : slice_index s.words 0 ≡ (slice_index s.words 1 + total (λ (v : View E O). active v.stage) s.views) % 2 ^ 64
     pub holders : total (λ (v : View E O). holding v.stage) s.views ≡ 0
@@ -104,5 +108,6 @@ module _ {B E O : Type 0} (history : B → List E) (origin : B → O) (first : B
     pub also : (j : ℕ) (v : View E O) → get_elem? s.views j ≡ some v → StartsWithAll (reached w.stage) v.also
     pub own : (j : ℕ) (v : View E O) → get_elem? s.views j ≡ some v → StandIn (reached w.stage) v.own
     pub places : (k : ℕ) → total (λ (v : View E O). times_at k v.own) s.views ≡ between (length (history first)) (length (reached w.stage)) k
+    pub apart : AreApart s.views
     -- the next ticket is the one that is served and the number of views that wait or have the turn
     pub queue : slice_index s.words 0 ≡ (slice_index s.words 1 + total (λ (v : View E O). active v.stage) s.views) % 2 ^ 64
