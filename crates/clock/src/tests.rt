@@ -155,6 +155,7 @@ fn a_round_begins_when_all_members_have_reported(rt: HostRuntime) -> Result<(), 
 fn a_bidder_is_no_member_of_the_clock_of_its_number(rt: HostRuntime) -> Result<(), Fail> {
     let mut auction = Auction::new(&rt, rt.alloc(), terms_of(&[1], 2, 10)?, 2)?;
     assert_eq!(rt; auction.clock.number(), 2);
+    assert_eq!(rt; auction.report(&rt, 0, 1, &[1])?, Judgement::NotMember);
     assert_eq!(rt; auction.report(&rt, 2, 1, &[1])?, Judgement::NotMember);
     assert_eq!(rt; auction.report(&rt, 1, 1, &[1])?, Judgement::Take);
     assert_stands(&rt, &auction.clock, 1, Phase::Ended, 0, &[0]);

@@ -1,5 +1,4 @@
-use Rattle.std.proofs.Common.{◌≡◌, ℕ, sym}
-use Rattle.clock.specs.Standing.{HasSteps, steps_of}
+use Rattle.std.proofs.Common.{sym}
 use Rattle.clock.proofs.Path.{has_steps, steps-only}
 use Rattle.clock.proofs.laws.steps_law.Goals as goal
 
