@@ -1,16 +1,15 @@
 -- Worked examples of counts of faults, of files and counts by name, of what a source and a sink move, and of the calls that are to
 -- fail.
-use Rattle.std.specs.Prelude.{◌≡◌, ◌<◌, ◌≤◌, ◌↔◌, ◌+◌, ◌-◌, ◌^◌, ℕ, zero, suc, List, [], ◌∷◌, Option, Some, None, Ok, Err, Contains, refl}
+use Rattle.std.specs.Prelude.{◌≡◌, ◌<◌, ◌≤◌, ◌-◌, ◌^◌, ℕ, zero, suc, List, [], ◌∷◌, Some, None, Contains, refl}
 use Rattle.std.proofs.Common.{arith}
-use Rattle.house_io.specs.declared.Failed.{Failed}
 use Rattle.house_io.specs.Faults.{Rose, raised_by}
 use Rattle.house_io.specs.Counts.{NamedCount, count_of, names_of}
 use Rattle.house_io.specs.Moments.{opened}
 use Rattle.house_io.specs.Shelves.{NamedFile, bytes_of, moments_at, Begins}
 use Rattle.house_io.specs.Sources.{Takes}
 use Rattle.house_io.specs.Sinks.{IsPart}
-use Rattle.house_io.specs.SureForms.{Kept, empty_sink, kept_more, passed}
-use Rattle.house_io.specs.ListForms.{CallPlan, IsToFail, begun, counted}
+use Rattle.house_io.specs.SureForms.{empty_sink, kept_more, passed}
+use Rattle.house_io.specs.ListForms.{IsToFail, begun, counted}
 
 -- Faults are added up to the last value of 64 bits.
 added :

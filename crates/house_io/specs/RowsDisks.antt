@@ -1,8 +1,8 @@
 -- Worked examples of what a read of a disk gives, and of what a crash may leave: gaps, writes of no bytes, failed writes and
 -- syncs.
-use Rattle.std.specs.Prelude.{◌≡◌, ◌<◌, ◌≤◌, ◌⊎◌, ◌+◌, ◌-◌, ◌^◌, ℕ, zero, suc, List, [], ◌∷◌, slice_index, refl}
+use Rattle.std.specs.Prelude.{◌≡◌, ◌<◌, ◌≤◌, ℕ, zero, suc, List, [], ◌∷◌, slice_index, refl}
 use Rattle.std.proofs.Common.{inl, inr, ap, ◌∙◌, arith}
-use Rattle.house_io.specs.Moments.{Moment, Moments, IsImage, IsOutside, Torn, IsSettled, overlaid, settled, opened, written, then, wrote, synced_at, HasTorn}
+use Rattle.house_io.specs.Moments.{Moment, Moments, IsImage, IsOutside, Torn, overlaid, settled, opened, written, wrote, synced_at, HasTorn}
 use Rattle.house_io.specs.Calls.{replay, tore, total, room_for}
 use Rattle.house_io.specs.Fills.{image_of}
 use Rattle.house_io.specs.declared.recorded_file.Fill.TheVariants.{Old, New, Byte}

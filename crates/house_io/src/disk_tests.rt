@@ -1,12 +1,10 @@
 //! What no clause says of disks: that the calls succeed with ample memory, and what a real file does.
 use crate::{
-    Disk, Failed, FileDisk, Fill, FolderShelf, ListDisk, ListFile, ListShelf, Refusal, Shelf,
-    SureDisk, SureFile, SureShelf,
+    Disk, Failed, Fill, FolderShelf, ListDisk, ListFile, ListShelf, Refusal, Shelf, SureDisk,
+    SureFile, SureShelf,
 };
 use std::alloc::Global;
-use std::cell::Cell;
-use std::fs::{self, Metadata, OpenFile};
-use std::io::{self, Read, Seek, SeekFrom, Write};
+use std::fs;
 use std::test::Fail;
 
 /// Writes a text at an offset, syncs, and reads the first eight bytes and the length.
@@ -37,8 +35,8 @@ fn a_write_behind_the_end_leaves_zeros(rt: HostRuntime) -> Result<(), Fail> {
 /// What a write of no bytes behind the end leaves: the length, and the last byte.
 fn lengthened<D: Disk>(disk: &mut D) -> Result<(u64, [u8; 1]), Failed> {
     disk.write_at(0, b"lot")?;
-    disk.write_at(2, b"")?;
     disk.write_at(7, b"")?;
+    disk.write_at(2, b"")?;
     let mut last = [1];
     disk.read_at(6, &mut last)?;
     Ok((disk.size()?, last))
@@ -166,128 +164,5 @@ fn a_folder_shelf_makes_a_real_file_and_keeps_it(rt: HostRuntime) -> Result<(), 
         write_named(alloc, &mut shelf, "no_folder/journal", b"x"),
         Err(Refusal::Failed)
     );
-    Ok(())
-}
-
-/// A file of ten bytes that gives one at a time and lets go of what is written. One of its calls fails.
-#[derive(Drop)]
-struct SlowFile {
-    at: u64,
-    calls_before_the_fault: Cell<u64>,
-}
-
-impl SlowFile {
-    fn call(&self) -> io::Result<()> {
-        let left = self.calls_before_the_fault.get();
-        self.calls_before_the_fault.set(left.wrapping_sub(1));
-        if left == 0 {
-            return Err(io::ErrorKind::Other.into());
-        }
-        Ok(())
-    }
-}
-
-impl Read for SlowFile {
-    fn read(&mut self, into: &mut [u8]) -> io::Result<usize> {
-        self.call()?;
-        if into.is_empty() || self.at >= 10 {
-            return Ok(0);
-        }
-        into[0] = self.at as u8;
-        self.at += 1;
-        Ok(1)
-    }
-}
-
-impl Write for SlowFile {
-    fn write(&mut self, from: &[u8]) -> io::Result<usize> {
-        self.call()?;
-        Ok(from.len())
-    }
-
-    fn flush(&mut self) -> io::Result<()> {
-        self.call()
-    }
-}
-
-impl Seek for SlowFile {
-    fn seek(&mut self, to: SeekFrom) -> io::Result<u64> {
-        self.call()?;
-        self.at = match to {
-            SeekFrom::Start(at) => at,
-            _ => 10,
-        };
-        Ok(self.at)
-    }
-}
-
-impl OpenFile for SlowFile {
-    fn metadata(&self) -> io::Result<Metadata> {
-        Err(io::ErrorKind::Unsupported.into())
-    }
-
-    fn set_len(&self, _size: u64) -> io::Result<()> {
-        self.call()
-    }
-
-    fn sync_all(&self) -> io::Result<()> {
-        self.call()
-    }
-
-    fn sync_data(&self) -> io::Result<()> {
-        self.call()
-    }
-}
-
-/// A disk on a file whose calls go well until this one.
-fn slow_disk(calls: u64) -> FileDisk<SlowFile> {
-    FileDisk::new(SlowFile {
-        at: 0,
-        calls_before_the_fault: Cell::new(calls),
-    })
-}
-
-#[test]
-fn a_disk_on_a_file_reads_on_after_a_short_read(rt: HostRuntime) -> Result<(), Fail> {
-    let mut disk = slow_disk(99);
-    let mut front = [0; 4];
-    assert_eq!(rt; disk.read_at(3, &mut front), Ok(4));
-    assert_eq!(rt; front, [3, 4, 5, 6]);
-    assert_eq!(rt; disk.read_at(8, &mut front), Ok(2));
-    assert_eq!(rt; front, [8, 9, 5, 6]);
-    assert_eq!(rt; disk.size(), Ok(10));
-    Ok(())
-}
-
-#[test]
-fn each_call_of_a_file_that_fails_is_a_counted_fault(rt: HostRuntime) -> Result<(), Fail> {
-    for call in 0..4 {
-        let mut disk = slow_disk(call);
-        let mut front = [0; 2];
-        // A seek and two reads, and then a seek.
-        assert_eq!(rt;
-            disk.read_at(0, &mut front).is_err(),
-            call < 3,
-            "at the call {call}"
-        );
-        assert_eq!(rt; disk.size().is_err(), call == 3, "at the call {call}");
-        assert_eq!(rt; disk.faults(), 1, "at the call {call}");
-    }
-    for call in 0..5 {
-        let mut disk = slow_disk(call);
-        // A seek and a write, a seek and a lengthening, and then a sync.
-        assert_eq!(rt;
-            disk.write_at(0, b"lots").is_err(),
-            call < 2,
-            "at the call {call}"
-        );
-        assert_eq!(rt;
-            disk.write_at(40, b"").is_err(),
-            call == 2 || call == 3,
-            "at the call {call}"
-        );
-        assert_eq!(rt; disk.sync().is_err(), call == 4, "at the call {call}");
-        assert_eq!(rt; disk.faults(), 1, "at the call {call}");
-    }
     Ok(())
 }

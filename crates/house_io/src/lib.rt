@@ -42,4 +42,6 @@ pub struct Failed;
 #[cfg(test)]
 mod disk_tests;
 #[cfg(test)]
+mod file_tests;
+#[cfg(test)]
 mod tests;

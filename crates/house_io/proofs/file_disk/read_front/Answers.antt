@@ -1,4 +1,4 @@
-use Rattle.std.proofs.Common.{◌≡◌, ◌-◌, length, take, drop, List, ℕ, subst, sym, rules, arith}
+use Rattle.std.proofs.Common.{◌-◌, length, take, drop, subst, sym, rules}
 use Rattle.std.proofs.KnownBytes.{Consumes-trans}
 use Rattle.std.specs.Io.KnownBytes.{Consumes}
 use Rattle.house_io.proofs.Fronts.{front-put}

@@ -1,4 +1,4 @@
-use Rattle.std.proofs.Common.{◌≡◌, ◌∙◌, ◌+◌, [], ◌∷◌, ◌++◌, List, ℕ, ap, sym, take, get_or, replicate}
+use Rattle.std.proofs.Common.{◌∙◌, [], List, ℕ, ap, sym, take, get_or, replicate}
 use Rattle.std.proofs.lemmas.List.{take_more}
 use Rattle.house_io.specs.Moments.{overlaid}
 use Rattle.house_io.specs.Ranges.{latest_first}

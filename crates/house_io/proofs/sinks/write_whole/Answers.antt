@@ -1,4 +1,4 @@
-use Rattle.std.proofs.Common.{◌∙◌, ◌++◌, sym, ap, arith}
+use Rattle.std.proofs.Common.{◌∙◌, ◌++◌, sym, ap}
 use Rattle.house_io.proofs.Writing.{wrote-more, wrote-front}
 use Rattle.house_io.proofs.sinks.write_whole.Goals as goal
 

@@ -1,4 +1,4 @@
-use Rattle.std.proofs.Common.{◌≡◌, ◌≤◌, ◌++◌, List, ℕ, length}
+use Rattle.std.proofs.Common.{◌≡◌, ◌++◌, List, ℕ, length}
 use Rattle.house_io.specs.Told.{IfTold}
 use Rattle.house_io.proofs.Writing.{Appends}
 use Rattle.house_io.proofs.sinks.write_whole.Given as goal

@@ -1,4 +1,4 @@
-use Rattle.std.proofs.Common.{◌≡◌, ◌∙◌, ap, subst, sym, Contains}
+use Rattle.std.proofs.Common.{◌∙◌, ap, subst, sym, Contains}
 use Rattle.house_io.specs.Counts.{names_of}
 use Rattle.house_io.specs.Shelves.{moments_at}
 use Rattle.house_io.specs.ListShelves.{ListedShelf, listed_file, shown_files}

@@ -1,4 +1,4 @@
-use Rattle.std.proofs.Common.{◌≡◌, [], ◌∙◌, List, ℕ, ap, sym, subst}
+use Rattle.std.proofs.Common.{[], ◌∙◌, List, ℕ, ap, sym, subst}
 use Rattle.std.proofs.lemmas.Result.{IfOk-weaker}
 use Rattle.house_io.specs.Moments.{IsImage, opened}
 use Rattle.house_io.specs.Calls.{replay}

@@ -1,4 +1,4 @@
-use Rattle.std.proofs.Common.{◌≡◌, ◌∙◌, ap, subst, sym, string_bytes, List, ℕ, Option, Some, None, IsSome, IsTrue, slice_set, rules}
+use Rattle.std.proofs.Common.{◌≡◌, ◌∙◌, ap, subst, sym, string_bytes, List, Option, Some, IsSome, IsTrue, slice_set, rules}
 use Rattle.std.specs.Prelude.{option_map}
 use Rattle.house_io.specs.Places.{HasNone, IsFirstAt}
 use Rattle.house_io.specs.SureFiles.{Shelved, ShelvedFile, shelved_file, as_shelved, with_closed, entry_as_shelved, entries_as_shelved}

@@ -1,6 +1,6 @@
-use Rattle.std.proofs.Common.{◌≡◌, ◌∙◌, ap, length, take}
+use Rattle.std.proofs.Common.{◌∙◌, ap, take}
 use Rattle.house_io.specs.Counts.{names_of}
-use Rattle.house_io.specs.Shelves.{file_of, moments_at}
+use Rattle.house_io.specs.Shelves.{moments_at}
 use Rattle.house_io.specs.SureFiles.{Shelved, shelved_file, shown_files, entries_as_shelved}
 use Rattle.house_io.proofs.SureShelving.{moments_at-shown, shown-same}
 use Rattle.house_io.proofs.sure_shelf.SureShelfShelf.disk.Goals as goal
