@@ -1,11 +1,11 @@
 -- Each file is of some kind: its gates are read until one ends the list.
-use Rattle.std.proofs.Common.{◌≡◌, ◌≢◌, ◌⊎◌, inl, inr, ⊎_elim, ℕ, zero, suc, ◌+◌, ◌^◌, ◌<◌, ◌≤◌, List, [], ◌∷◌, ◌++◌, length, get_or, take, drop, refl, sym, ◌∙◌, ap, subst, arith, append_assoc, length-drop, take-append-drop, lit<, lit≤}
+use Rattle.std.proofs.Common.{◌≡◌, ◌⊎◌, inl, inr, ⊎_elim, ℕ, zero, suc, ◌+◌, ◌^◌, ◌<◌, ◌≤◌, List, [], ◌∷◌, ◌++◌, length, get_or, take, drop, refl, sym, ◌∙◌, ap, subst, arith, append_assoc, length-drop, lit<, lit≤}
 use Rattle.std.proofs.lemmas.Bool.{cases_lt, cases_eq}
 use Rattle.std.proofs.lemmas.List.{drop-take, drop-drop, take-take, length-take-le, get_or-take, get_or-drop, get_or_past}
 use Rattle.std.proofs.Math.Seq.{take-add}
 use Rattle.std.proofs.lemmas.Nat.{be_bytes_4}
 use Rattle.std.specs.Int.{w32, to_be_bytes, from_be_bytes}
-use Rattle.report_journal.specs.Format.{Contents, format_name, header, clock_in, digest_in, IsUnformed, length_at, HasNoRecord}
+use Rattle.report_journal.specs.Format.{format_name, header, clock_in, digest_in, length_at, HasNoRecord}
 use Rattle.report_journal.specs.Journals.{said}
 use Rattle.report_journal.specs.Kinds.{Kind, Unformed, Formed, Damaged, Misnamed, IsOfKind, AreBytes, IsJust}
 use Rattle.report_journal.specs.Scans.{IsNext, AreRead}

@@ -1,6 +1,6 @@
 -- What the bytes at a gate say.
-use Rattle.std.proofs.Common.{◌≡◌, ◌≢◌, ⊎_elim, ◌<◌, ◌^◌, inl, inr, ℕ, zero, suc, ◌+◌, ◌-◌, ◌≤◌, min, List, [], ◌∷◌, ◌++◌, length, get_or, take, drop, refl, sym, ◌∙◌, ap, subst, arith, append_assoc, take-append-drop, length-append, length-drop}
-use Rattle.std.proofs.lemmas.List.{take_all, get_or-take, get_or-drop, drop-take, drop-drop, drop_more, length-take-le, append-nil, map_push, take-take, take_at}
+use Rattle.std.proofs.Common.{◌≡◌, ◌≢◌, ⊎_elim, ◌<◌, ◌^◌, ℕ, ◌+◌, ◌-◌, ◌≤◌, min, List, [], ◌∷◌, ◌++◌, length, get_or, take, drop, refl, sym, ◌∙◌, ap, subst, arith, append_assoc, take-append-drop, length-append, length-drop}
+use Rattle.std.proofs.lemmas.List.{get_or-take, get_or-drop, drop-take, drop-drop, drop_more, length-take-le, append-nil, map_push, take-take, take_at}
 use Rattle.std.specs.Int.{w32, to_be_bytes, from_be_bytes}
 use Rattle.std.specs.List.{AllByRecursion}
 use Rattle.report_journal.specs.Format.{Contents, records, body, header, front, format_name, Fits, StandsFor, IsUnformed, IsPayload, clock_in, digest_in, length_at, HasNoRecord, IsDamaged}

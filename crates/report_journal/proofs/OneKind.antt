@@ -1,17 +1,13 @@
 -- A file is of one kind, and of one only.
-use Rattle.std.proofs.Common.{◌≡◌, ◌≢◌, ◌⊎◌, inl, inr, ⊎_elim, ℕ, zero, suc, ◌+◌, ◌-◌, ◌^◌, ◌<◌, ◌≤◌, List, [], ◌∷◌, ◌++◌, length, get_or, take, drop, refl, sym, ◌∙◌, ap, subst, arith, append_assoc, length-append, length-drop, take-append-drop}
-use Rattle.std.proofs.lemmas.Bool.{cases_lt, cases_eq}
-use Rattle.std.proofs.lemmas.List.{take_at, drop_at, take-take, drop-take, drop-drop, length-take-le, get_or-take, get_or-drop, get_or_past, get_or_at, append-nil}
-use Rattle.std.proofs.lemmas.Nat.{from_be_bytes-to_be_bytes_4, be_bytes_4}
+use Rattle.std.proofs.Common.{◌≡◌, ◌≢◌, inl, inr, ⊎_elim, ℕ, ◌+◌, ◌<◌, ◌≤◌, List, ◌∷◌, ◌++◌, length, get_or, take, drop, refl, sym, ◌∙◌, ap, subst, arith, append_assoc, length-append, length-drop, take-append-drop}
+use Rattle.std.proofs.lemmas.Bool.{cases_lt}
+use Rattle.std.proofs.lemmas.List.{take_at, take-take, drop-take, get_or-take, get_or_past, get_or_at}
+use Rattle.std.proofs.lemmas.Nat.{from_be_bytes-to_be_bytes_4}
 use Rattle.std.specs.Int.{w32, to_be_bytes, from_be_bytes}
-use Rattle.std.specs.List.{AllByRecursion}
-use Rattle.report_journal.specs.Format.{Contents, format_name, header, records, front, IsPayload, Fits, StandsFor, IsUnformed, length_at, HasNoRecord, IsDamaged, IsMisnamed}
-use Rattle.report_journal.specs.Journals.{payloads_at, said}
-use Rattle.report_journal.specs.Kinds.{Kind, Unformed, Formed, Damaged, Misnamed, IsOfKind, AreBytes, IsJust}
-use Rattle.report_journal.specs.Scans.{IsNext, AreRead}
-use Rattle.report_journal.specs.declared.places.Place.{Place}
+use Rattle.report_journal.specs.Format.{Contents, format_name, header, records, front, Fits, StandsFor, IsUnformed, IsDamaged}
+use Rattle.report_journal.specs.Kinds.{Kind, Unformed, Formed, Damaged, Misnamed, IsOfKind}
 use Rattle.report_journal.proofs.Chains.{IsEnd, IsChain, chain_of, one_chain}
-use Rattle.report_journal.proofs.Gates.{read_start, read_more, stands, damaged}
+use Rattle.report_journal.proofs.Gates.{stands}
 
 -- The file begins with these contents, and the list of records ends behind them.
 record Begins (x : Contents) (file : List ℕ) : Type 0 where

@@ -1,11 +1,11 @@
 -- What a journal's file stands for while a record is put.
-use Rattle.std.proofs.Common.{◌≡◌, ◌≢◌, ◌⊎◌, inl, inr, ⊎_elim, ℕ, ◌+◌, ◌≤◌, List, [], ◌∷◌, ◌++◌, length, get_or, take, drop, refl, sym, ◌∙◌, ap, subst, arith, append_assoc, length-append}
+use Rattle.std.proofs.Common.{◌≡◌, inl, inr, ℕ, ◌+◌, List, [], ◌∷◌, ◌++◌, length, get_or, drop, sym, ◌∙◌, ap, subst, arith, append_assoc, length-append}
 use Rattle.std.proofs.lemmas.Bool.{cases_eq}
 use Rattle.std.proofs.lemmas.List.{append-nil}
 use Rattle.house_io.specs.Moments.{Moment, Moments, Torn, overlaid, settled, AtEach}
 use Rattle.house_io.proofs.Overlays.{overlaid_behind}
 use Rattle.house_io.proofs.Moments.{at_both, at_weaker}
-use Rattle.report_journal.specs.Format.{Contents, records, body, header, front, StandsFor, Fits}
+use Rattle.report_journal.specs.Format.{Contents, records, body, header, front, StandsFor}
 use Rattle.report_journal.specs.Puts.{with_one_more, IsBeforeOrAfter, Takes}
 use Rattle.report_journal.proofs.Files.{torn_behind, torn_one}
 

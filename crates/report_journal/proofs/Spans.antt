@@ -1,7 +1,7 @@
 -- What two writes within one range change of a file.
 use Rattle.std.proofs.Common.{◌≡◌, ◌⊎◌, inl, inr, ℕ, suc, ◌+◌, ◌<◌, ◌≤◌, List, [], ◌∷◌, ◌++◌, length, get_or, take, drop, refl, sym, ◌∙◌, ap, arith, append_assoc, length-append, take-append-drop}
 use Rattle.std.proofs.lemmas.List.{length-take-le, drop_more, drop-drop}
-use Rattle.house_io.specs.Moments.{Moments, Torn, overlaid, AtEach, IsSettled, Leaves}
+use Rattle.house_io.specs.Moments.{Moments, Torn, overlaid, AtEach, IsSettled}
 use Rattle.house_io.proofs.Moments.{at_start, at_both, at_weaker, at_now, leaves_here, settled_torn}
 use Rattle.house_io.proofs.Overlays.{overlaid_behind}
 

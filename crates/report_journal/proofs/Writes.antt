@@ -1,5 +1,5 @@
 -- The moments of a write and a sync on a settled file.
-use Rattle.std.proofs.Common.{◌≡◌, ℕ, ◌≤◌, List, length, refl, sym, ◌∙◌, ap, subst, arith}
+use Rattle.std.proofs.Common.{◌≡◌, ℕ, ◌≤◌, List, length, refl, sym, ap, subst}
 use Rattle.house_io.specs.Moments.{Moment, Moments, IsSettled, Torn, HasTorn, settled, written, overlaid, then, Leaves, AtEach}
 use Rattle.house_io.proofs.Moments.{at_next, at_both, leaves_settled, leaves_written, settled_torn}
 use Rattle.house_io.proofs.Overlays.{overlaid_torn}

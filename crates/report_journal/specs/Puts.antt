@@ -1,5 +1,5 @@
 -- What the calls of a journal change of the contents that its file stands for.
-use Rattle.std.specs.Prelude.{◌≡◌, ◌≢◌, ◌⊎◌, ℕ, ◌+◌, ◌^◌, ◌<◌, ◌≤◌, List, [], ◌∷◌, ◌++◌, length, slice_index}
+use Rattle.std.specs.Prelude.{◌≡◌, ◌≢◌, ◌⊎◌, ℕ, ◌^◌, ◌<◌, ◌≤◌, List, [], ◌∷◌, ◌++◌, length, slice_index}
 use Rattle.house_io.specs.Moments.{Moments, synced_at}
 use Rattle.report_journal.specs.Format.{Contents, header, body, front, Fits, StandsFor, IsUnformed}
 

@@ -1,5 +1,4 @@
-use Rattle.std.proofs.Common.{◌≡◌, ◌+◌, ◌∙◌, ap, inl, inr, subst, sym, length, take, drop, arith, rules}
-use Rattle.std.specs.Int.{w32, to_be_bytes, from_be_bytes}
+use Rattle.std.proofs.Common.{◌∙◌, inl, inr, sym, arith}
 use Rattle.report_journal.proofs.Gates.{five}
 use Rattle.report_journal.proofs.heads.next_record.Goals as goal
 use Rattle.report_journal.proofs.heads.next_record.Goals.{then-end-gt-GREATEST_END-via-then-end-gt-GREATEST_END, then-end-gt-GREATEST_END-via-else-end-gt-GREATEST_END+then-end-size}

@@ -1,4 +1,4 @@
-use Rattle.std.proofs.Common.{◌≡◌, ◌+◌, ◌++◌, [], ◌∷◌, ℕ, List, refl, sym, ◌∙◌, ap, subst, length, arith, rules, length-append, lit≤, Ok}
+use Rattle.std.proofs.Common.{◌≡◌, ◌+◌, ◌++◌, [], ◌∷◌, refl, sym, ◌∙◌, ap, subst, arith, length-append, lit≤, Ok}
 use Rattle.report_journal.specs.Scans.{IsChunk, AreRead, IsNext}
 use Rattle.report_journal.specs.declared.places.Place.{Place}
 use Rattle.report_journal.specs.declared.heads.Next.TheVariants.{Record}

@@ -1,5 +1,5 @@
-use Rattle.std.proofs.Common.{◌≡◌, ◌+◌, ◌∙◌, ap, subst, sym, refl, inl, inr, length, List, ℕ, arith, rules, IsTrue, true, false, lit≤}
-use Rattle.report_journal.proofs.Kept.{is_true, is_false}
+use Rattle.std.proofs.Common.{◌≡◌, ◌∙◌, ap, sym, refl, inl, inr, length, arith, rules, IsTrue, true, false, lit≤}
+use Rattle.report_journal.proofs.Kept.{is_false}
 use Rattle.report_journal.proofs.Gates.{is_formed, not_named, same_clock, same_digest, size, stands, damaged}
 use Rattle.report_journal.proofs.scanning.scan.Goals as goal
 

@@ -1,6 +1,6 @@
 use Rattle.std.proofs.Common.{◌+◌, [], ◌∷◌, length, refl, inl, ◌∙◌, ap, arith}
 use Rattle.std.proofs.lemmas.Result.{on_ok_weaker}
-use Rattle.house_io.specs.Moments.{overlaid, settled, AtEach}
+use Rattle.house_io.specs.Moments.{overlaid}
 use Rattle.house_io.proofs.Moments.{at_weaker}
 use Rattle.report_journal.specs.Format.{StandsFor}
 use Rattle.report_journal.specs.Puts.{IsBeforeOrAfter}

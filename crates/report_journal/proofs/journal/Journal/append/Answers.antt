@@ -1,4 +1,4 @@
-use Rattle.std.proofs.Common.{◌≡◌, ◌+◌, ◌++◌, [], ◌∷◌, length, None, Some, refl, sym, ◌∙◌, ap, subst, arith, rules, length-append}
+use Rattle.std.proofs.Common.{◌≡◌, ◌+◌, ◌++◌, [], ◌∷◌, length, None, Some, refl, ◌∙◌, ap, arith, rules, length-append}
 use Rattle.std.specs.Option.{option_map}
 use Rattle.house_io.proofs.Moments.{at_now, leaves_here}
 use Rattle.report_journal.proofs.Kept.{nothing_done, nothing_written, takes, put_is, put_kept, doubt_is, doubt_kept}

@@ -1,6 +1,5 @@
-use Rattle.std.proofs.Common.{◌≡◌, ◌+◌, ◌<◌, ◌≤◌, ◌++◌, [], ◌∷◌, ℕ, List, length, vec_len, vec_capacity, Option, None, Some, refl, sym, ◌∙◌, ap, subst, arith, rules, length-append}
+use Rattle.std.proofs.Common.{◌≡◌, ◌+◌, ◌<◌, ◌≤◌, ◌++◌, [], ◌∷◌, length, vec_len, vec_capacity, Some, refl, ap, subst, arith, rules, length-append}
 use Rattle.std.specs.Option.{option_map}
-use Rattle.report_journal.specs.Puts.{with_one_more}
 use Rattle.report_journal.specs.Journals.{said, HasRoom}
 use Rattle.house_io.proofs.Moments.{leaves_here}
 use Rattle.report_journal.proofs.Kept.{Counts, is_false, is_true, mend_moments, still_is, still_kept, dropped, drop_kept, counted, put_is, put_kept}
