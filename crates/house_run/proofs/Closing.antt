@@ -1,7 +1,6 @@
 -- A file that was opened for reading and closed again was only read.
-use Rattle.std.proofs.Common.{◌≡◌, ◌≢◌, ◌≤◌, ◌∙◌, ℕ, List, Option, Some, None, arith, sym, subst}
-use Rattle.std.specs.Prelude.{Contains}
-use Rattle.house_io.specs.Shelves.{NamedFile, IfTells, ChangesNone, RisesOnly, Adds, KeepsNames}
+use Rattle.std.proofs.Common.{◌≡◌, ◌∙◌, ℕ, List, Option, Some, None, arith, inr, subst}
+use Rattle.house_io.specs.Shelves.{NamedFile, IfTells, ChangesNone, RisesOnly, Adds, with_name}
 use Rattle.house_run.specs.Ends.{OnlyReads, ShelfSeen}
 
 none-changed : (before between after : Option (List NamedFile)) → ChangesNone before between → ChangesNone between after → ChangesNone before after
@@ -17,10 +16,10 @@ only-this-one name faults before between after opening closing = record {
 }
 
 pub closed-again : (name : List ℕ) (faults : ℕ) (shelf : ShelfSeen) (files : Option (List NamedFile)) (counts : List ℕ → ℕ) (names : List (List ℕ))
-    → ChangesNone shelf.files_before files → RisesOnly name shelf.faults_before counts → KeepsNames shelf.opened_before names
+    → ChangesNone shelf.files_before files → RisesOnly name shelf.faults_before counts → names ≡ with_name name shelf.opened_before
     → ChangesNone files shelf.files → Adds name faults counts shelf.faults → shelf.opened ≡ names → OnlyReads name shelf
-closed-again name faults shelf files counts names opened rose kept closed added same = record {
+closed-again name faults shelf files counts names opened rose named closed added same = record {
   unchanged = none-changed shelf.files_before files shelf.files opened closed;
   counts = only-this-one name faults shelf.faults_before counts shelf.faults rose added;
-  kept = let P : List (List ℕ) → Type 0 = λ all. KeepsNames shelf.opened_before all in subst P (sym same) kept;
+  names = inr (same ∙ named);
 }

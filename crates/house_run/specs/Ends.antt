@@ -4,7 +4,7 @@ use Rattle.std.specs.Prelude.{◌≡◌, ◌≢◌, ◌<◌, ◌≤◌, ◌-◌,
 use Rattle.std.specs.declared.alloc.Global.{Global}
 use Rattle.house_io.specs.Faults.{Rose}
 use Rattle.house_io.specs.Told.{IfTold}
-use Rattle.house_io.specs.Shelves.{NamedFile, IfTells, ChangesNone, RisesOnly, KeepsNames, bytes_of}
+use Rattle.house_io.specs.Shelves.{NamedFile, IfTells, ChangesNone, RisesOnly, bytes_of, with_name}
 use Rattle.lot_base.specs.declared.auction_terms.Terms.{Terms}
 use Rattle.clock.specs.Reports.{ClockHistory}
 use Rattle.outcome_text.specs.Lines.{line}
@@ -65,11 +65,15 @@ IsQuiet how.ReadFault shelf = ⊤
 IsQuiet how.NoMemory shelf = ⊤
 IsQuiet end shelf = (name : List ℕ) → shelf.faults name ≡ shelf.faults_before name
 
--- no file was changed, only calls on the file of this name failed, and each name that was opened stays so
+-- no name was opened but this one
+abbrev pub OpensOnly : List ℕ → List (List ℕ) → List (List ℕ) → Type 0
+OpensOnly name before now = (now ≡ before) ⊎ (now ≡ with_name name before)
+
+-- no file was changed, only that of this name was opened, and only calls on it failed
 pub record OnlyReads (name : List ℕ) (shelf : ShelfSeen) : Type 0 where
   pub unchanged : ChangesNone shelf.files_before shelf.files
   pub counts : RisesOnly name shelf.faults_before shelf.faults
-  pub kept : KeepsNames shelf.opened_before shelf.opened
+  pub names : OpensOnly name shelf.opened_before shelf.opened
 
 -- the bytes of a file, none where it is absent
 abbrev pub content : List NamedFile → List ℕ → List ℕ
