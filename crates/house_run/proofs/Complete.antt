@@ -10,7 +10,7 @@ use Rattle.lot_base.specs.declared.auction_terms.Terms.{Terms}
 use Rattle.auction_file.specs.AuctionFile.{auction_of}
 use Rattle.house_run.specs.Words.{Check, Command, Fold, Spells, IsFold, comma_list}
 use Rattle.house_run.specs.Logs.{IsFaultyAt}
-use Rattle.house_run.specs.Ends.{ShelfSeen, SinkSeen, CheckJob, FoldJob, Job, Wrote, CommandEnds, RunEnds, IsRead, NothingFailed, HasGoodFiles, IsGoodAuction, IsGoodLog, IsDoneOrNoMemory, auction_limit, content, log_limit}
+use Rattle.house_run.specs.Ends.{ShelfSeen, SinkSeen, CheckJob, FoldJob, Job, Wrote, CommandEnds, RunEnds, IsRead, NothingFailed, HasGoodFiles, IsGoodAuction, IsGoodLog, IsDoneOrNoMemory, auction_limit, content, file_name_of, log_limit}
 use Rattle.house_run.specs.declared.ends.Ended.{Ended}
 use Rattle.house_run.specs.declared.ends.Ended.TheVariants as how
 use Rattle.house_run.specs.declared.ends.File.TheVariants as which
@@ -61,7 +61,7 @@ fold-once t u log name words is it =
     }
 
 -- the words of one command are those of no other
-spelled-once : (one other : Command) (words : List (List ℕ)) → Spells one words → Spells other words → one ≡ other
+pub spelled-once : (one other : Command) (words : List (List ℕ)) → Spells one words → Spells other words → one ≡ other
 spelled-once (Fold t log) (Fold u name) words is it = let same = fold-once t u log name words is it in λ i. Fold (same.same_terms i) (same.same_log i)
 spelled-once (Fold t log) (Check auction) words is it = absurd (let e : codes "fold" ∷ comma_list t.goods ∷ decimal t.bidders ∷ decimal t.ceiling ∷ log ∷ [] ≡ codes "check" ∷ auction ∷ [] = sym is.words_are ∙ it.words_are in cc)
 spelled-once (Check auction) (Fold t log) words is it = absurd (let e : codes "fold" ∷ comma_list t.goods ∷ decimal t.bidders ∷ decimal t.ceiling ∷ log ∷ [] ≡ codes "check" ∷ auction ∷ [] = sym it.words_are ∙ is.words_are in cc)
@@ -78,13 +78,13 @@ read-told : (shelf : ShelfSeen) (files : List NamedFile) (name : List ℕ) (limi
 read-told shelf files name limit read is told = let P : Option (List NamedFile) → Type 0 = λ o. IfTells o (λ fs. read ≡ content fs name) in subst P told is.whole
 
 fold-ended : (terms : Terms) (log text : List ℕ) (shelf : ShelfSeen) (sink : SinkSeen) (files : List NamedFile) (end : Ended) → FoldJob terms log shelf end text → shelf.files ≡ Some files
-    → IsGoodLog terms (content files log) → NothingFailed shelf sink → IsDoneOrNoMemory end
+    → IsGoodLog terms (content files log) → NothingFailed log shelf sink → IsDoneOrNoMemory end
 fold-ended terms log text shelf sink files how.Done job told good quiet = inl refl
 fold-ended terms log text shelf sink files how.NoMemory job told good quiet = inr refl
 fold-ended terms log text shelf sink files how.Usage job told good quiet = absurd job
 fold-ended terms log text shelf sink files (how.BadAuction fault) job told good quiet = absurd job
 fold-ended terms log text shelf sink files how.ReadFault job told good quiet =
-    absurd (still (shelf.faults_before log) (shelf.faults log) (quiet.shelf_same log) (quiet.shelf_room log) job.0)
+    absurd (still (shelf.faults_before log) (shelf.faults log) quiet.shelf_same quiet.shelf_room job.0)
 fold-ended terms log text shelf sink files how.WriteFault job told good quiet = absurd job
 fold-ended terms log text shelf sink files (how.TooLong which.Auction) job told good quiet = absurd job
 fold-ended terms log text shelf sink files (how.TooLong which.Log) job told good quiet =
@@ -95,13 +95,13 @@ fold-ended terms log text shelf sink files (how.BadLog place) job told good quie
     absurd (no-fault terms good.history (content files log) place good.whole (subst P (read-told shelf files log log_limit job.0 job.1 told) job.2))
 
 check-ended : (auction text : List ℕ) (shelf : ShelfSeen) (sink : SinkSeen) (files : List NamedFile) (end : Ended) → CheckJob auction shelf end text → shelf.files ≡ Some files
-    → IsGoodAuction (content files auction) → NothingFailed shelf sink → IsDoneOrNoMemory end
+    → IsGoodAuction (content files auction) → NothingFailed auction shelf sink → IsDoneOrNoMemory end
 check-ended auction text shelf sink files how.Done job told good quiet = inl refl
 check-ended auction text shelf sink files how.NoMemory job told good quiet = inr refl
 check-ended auction text shelf sink files how.Usage job told good quiet = absurd job
 check-ended auction text shelf sink files (how.BadLog place) job told good quiet = absurd job
 check-ended auction text shelf sink files how.ReadFault job told good quiet =
-    absurd (still (shelf.faults_before auction) (shelf.faults auction) (quiet.shelf_same auction) (quiet.shelf_room auction) job.0)
+    absurd (still (shelf.faults_before auction) (shelf.faults auction) quiet.shelf_same quiet.shelf_room job.0)
 check-ended auction text shelf sink files how.WriteFault job told good quiet = absurd job
 check-ended auction text shelf sink files (how.TooLong which.Log) job told good quiet = absurd job
 check-ended auction text shelf sink files (how.TooLong which.Auction) job told good quiet =
@@ -111,7 +111,7 @@ check-ended auction text shelf sink files (how.BadAuction fault) job told good q
     absurd (let e : Ok good.listing ≡ Err fault = sym good.read ∙ ap auction_of (sym (read-told shelf files auction auction_limit job.0 job.1 told)) ∙ job.2 in cc)
 
 job-ended : (command : Command) (text : List ℕ) (shelf : ShelfSeen) (sink : SinkSeen) (files : List NamedFile) (end : Ended) → Job command shelf end text → shelf.files ≡ Some files
-    → HasGoodFiles command files → NothingFailed shelf sink → IsDoneOrNoMemory end
+    → HasGoodFiles command files → NothingFailed (file_name_of command) shelf sink → IsDoneOrNoMemory end
 job-ended (Fold terms log) text shelf sink files end job told good quiet = fold-ended terms log text shelf sink files end job told good quiet
 job-ended (Check auction) text shelf sink files end job told good quiet = check-ended auction text shelf sink files end job told good quiet
 
@@ -121,12 +121,12 @@ delivered sink end answer text (inl whole) good same room = subst IsDoneOrNoMemo
 delivered sink end answer text (inr front) good same room = absurd (still sink.faults_before sink.faults same room front.cause)
 
 command-done : (command : Command) (shelf : ShelfSeen) (sink : SinkSeen) (files : List NamedFile) (answer : Ended) → CommandEnds command shelf sink answer → shelf.files ≡ Some files
-    → HasGoodFiles command files → NothingFailed shelf sink → IsDoneOrNoMemory answer
+    → HasGoodFiles command files → NothingFailed (file_name_of command) shelf sink → IsDoneOrNoMemory answer
 command-done command shelf sink files answer ends told good quiet =
     delivered sink ends.end answer ends.text ends.wrote (job-ended command ends.text shelf sink files ends.end ends.job told good quiet) quiet.sink_same quiet.sink_room
 
 pub completes : (words : List (List ℕ)) (shelf : ShelfSeen) (sink : SinkSeen) (answer : Ended) → RunEnds words shelf sink answer → (command : Command) (files : List NamedFile) → Spells command words → shelf.files ≡ Some files
-    → HasGoodFiles command files → NothingFailed shelf sink → IsDoneOrNoMemory answer
+    → HasGoodFiles command files → NothingFailed (file_name_of command) shelf sink → IsDoneOrNoMemory answer
 completes words shelf sink answer (inl usage) command files is told good quiet = absurd (usage.none command is)
 completes words shelf sink answer (inr (inl some)) command files is told good quiet =
     let P : Command → Type 0 = λ c. CommandEnds c shelf sink answer in

@@ -13,7 +13,7 @@ use Rattle.house_run.specs.declared.entries.LogFault.{LogFault}
 use Rattle.house_run.specs.declared.entries.LogFault.TheVariants as fault
 use Rattle.house_run.proofs.WrittenLogs.{faulty-log}
 use Rattle.house_run.specs.Texts.{standing_of, check_text}
-use Rattle.house_run.specs.Ends.{ShelfSeen, SinkSeen, FoldJob, CheckJob, Job, OnlyReads, Wrote, WroteLine, CommandEnds, RunEnds, IsQuiet, IsRead, auction_limit, content, file_name_of, log_limit, line_of}
+use Rattle.house_run.specs.Ends.{ShelfSeen, SinkSeen, FoldJob, CheckJob, Job, OnlyReads, HasNumber, Wrote, WroteLine, CommandEnds, RunEnds, IsQuiet, IsRead, auction_limit, content, file_name_of, log_limit, line_of}
 use Rattle.house_run.specs.Words.{Check, Command, Fold, Spells}
 use Rattle.house_run.specs.declared.ends.Ended.{Ended}
 use Rattle.house_run.specs.declared.ends.Ended.TheVariants as how
@@ -63,11 +63,23 @@ no-text : (command : Command) (shelf : ShelfSeen) → Job command shelf how.NoMe
 no-text (Fold terms log) shelf = refl
 no-text (Check auction) shelf = refl
 
+-- an end that has a number tells no fault of the shelf
+numbered-quiet : (end : Ended) (shelf : ShelfSeen) → HasNumber end → IsQuiet end shelf → IsQuiet how.NoMemory shelf
+numbered-quiet (how.BadLog place) shelf numbered quiet = quiet
+numbered-quiet (how.BadAuction fault) shelf numbered quiet = quiet
+numbered-quiet (how.TooLong file) shelf numbered quiet = absurd numbered
+numbered-quiet how.Done shelf numbered quiet = absurd numbered
+numbered-quiet how.NoMemory shelf numbered quiet = absurd numbered
+numbered-quiet how.Usage shelf numbered quiet = absurd numbered
+numbered-quiet how.ReadFault shelf numbered quiet = absurd numbered
+numbered-quiet how.WriteFault shelf numbered quiet = absurd numbered
+
 -- the line of another end is written, or memory for it ran out
 pub job-ends : (command : Command) (shelf : ShelfSeen) (sink : SinkSeen) (end answer : Ended) → Job command shelf end (line_of end) → OnlyReads (file_name_of command) shelf
     → IsQuiet end shelf → WroteLine sink end answer → CommandEnds command shelf sink answer
 job-ends command shelf sink end answer job reads quiet (inl wrote) = record { end = end; text = line_of end; job = job; reads = reads; quiet = quiet; wrote = wrote }
-job-ends command shelf sink end answer job reads quiet (inr wrote) = record { end = how.NoMemory; text = []; job = no-text command shelf; reads = reads; quiet = tt; wrote = wrote }
+job-ends command shelf sink end answer job reads quiet (inr none) =
+    record { end = how.NoMemory; text = []; job = no-text command shelf; reads = reads; quiet = numbered-quiet end shelf none.0 quiet; wrote = none.1 }
 
 -- the words are this command, and it ends
 pub command-ends : (command : Command) (words : List (List ℕ)) (shelf : ShelfSeen) (sink : SinkSeen) (answer : Ended) → Spells command words → CommandEnds command shelf sink answer → RunEnds words shelf sink answer

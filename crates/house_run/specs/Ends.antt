@@ -59,10 +59,9 @@ pub record IsUntouched (shelf : ShelfSeen) : Type 0 where
   pub faults_same : (name : List ℕ) → shelf.faults name ≡ shelf.faults_before name
   pub opened_same : shelf.opened ≡ shelf.opened_before
 
--- No call on the shelf failed, unless the end tells a fault of it. Of the want of memory nothing is said.
+-- no call on the shelf failed, unless the end tells a fault of it
 abbrev pub IsQuiet : Ended → ShelfSeen → Type 0
 IsQuiet how.ReadFault shelf = ⊤
-IsQuiet how.NoMemory shelf = ⊤
 IsQuiet end shelf = (name : List ℕ) → shelf.faults name ≡ shelf.faults_before name
 
 -- no name was opened but this one
@@ -170,9 +169,15 @@ pub record WroteFront (sink : SinkSeen) (text : List ℕ) (answer : Ended) : Typ
 abbrev pub Wrote : SinkSeen → Ended → List ℕ → Ended → Type 0
 Wrote sink end text answer = WroteWhole sink end text answer ⊎ WroteFront sink text answer
 
--- the line of an end was written, or memory for it ran out and nothing was
+-- the line of the end has a number, so that it takes memory
+abbrev pub HasNumber : Ended → Type 0
+HasNumber (how.BadLog place) = ⊤
+HasNumber (how.BadAuction fault) = ⊤
+HasNumber end = ⊥
+
+-- the line of an end was written; or memory for one with a number ran out, and nothing was written
 abbrev pub WroteLine : SinkSeen → Ended → Ended → Type 0
-WroteLine sink end answer = Wrote sink end (line_of end) answer ⊎ Wrote sink how.NoMemory [] answer
+WroteLine sink end answer = Wrote sink end (line_of end) answer ⊎ (HasNumber end × Wrote sink how.NoMemory [] answer)
 
 -- a command's job had an end and a text, it only read the command's file, and the text was written
 pub record CommandEnds (command : Command) (shelf : ShelfSeen) (sink : SinkSeen) (answer : Ended) : Type 0 where
@@ -202,10 +207,10 @@ pub record NoMemoryEnds (shelf : ShelfSeen) (sink : SinkSeen) (answer : Ended) :
 abbrev pub RunEnds : List (List ℕ) → ShelfSeen → SinkSeen → Ended → Type 0
 RunEnds words shelf sink answer = UsageEnds words shelf sink answer ⊎ (SomeCommandEnds words shelf sink answer ⊎ NoMemoryEnds shelf sink answer)
 
--- no call outside failed, and no count stands at its last value
-pub record NothingFailed (shelf : ShelfSeen) (sink : SinkSeen) : Type 0 where
-  pub shelf_same : (name : List ℕ) → shelf.faults name ≡ shelf.faults_before name
-  pub shelf_room : (name : List ℕ) → shelf.faults_before name < 2 ^ 64 - 1
+-- no call on the file of this name or on the sink failed, and neither count stands at its last value
+pub record NothingFailed (name : List ℕ) (shelf : ShelfSeen) (sink : SinkSeen) : Type 0 where
+  pub shelf_same : shelf.faults name ≡ shelf.faults_before name
+  pub shelf_room : shelf.faults_before name < 2 ^ 64 - 1
   pub sink_same : sink.faults ≡ sink.faults_before
   pub sink_room : sink.faults_before < 2 ^ 64 - 1
 

@@ -1,7 +1,7 @@
 //! Writing the one text of a run.
 ghost use Rattle.std.specs.Prelude.{◌≡◌, ◌≢◌, string_bytes};
 ghost use Rattle.std.specs.Result.{ForOk};
-ghost use Rattle.house_run.specs.Ends.{Wrote, WroteLine, line_of, sink_seen};
+ghost use Rattle.house_run.specs.Ends.{HasNumber, Wrote, WroteLine, line_of, sink_seen};
 ghost use Rattle.house_run.specs.declared.ends.Ended.TheVariants as how;
 
 use crate::ends::{Ended, File, fault_number};
@@ -47,9 +47,10 @@ pub(crate) fn deliver_line<S: Sink>(alloc: Global, out: &mut S, ended: Ended) ->
     }
 }
 
-/// Writes the line of a job that was not done, if memory sufficed to make it.
+/// Writes a line that has a number, if memory sufficed to make it.
 fn deliver_made<S: Sink>(out: &mut S, line: Result<String, AllocError>, ended: Ended) -> Ended
-    requires { ForOk line (λ text. string_bytes text ≡ line_of ended) }
+    requires line { ForOk line (λ text. string_bytes text ≡ line_of ended) }
+    requires numbered { HasNumber ended }
     ensures { WroteLine (sink_seen S.written S.faults out.old out.new) ended result }
 {
     match line {

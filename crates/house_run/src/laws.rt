@@ -1,9 +1,15 @@
-//! Laws of logs.
+//! Laws of words and logs.
 ghost use Rattle.std.specs.Prelude.{◌≡◌, ◌⊎◌, ℕ, List, [], ◌∷◌, Ok, Err};
 ghost use Rattle.lot_base.specs.declared.auction_terms.Terms.{Terms};
 ghost use Rattle.clock.specs.Reports.{ClockHistory};
 ghost use Rattle.house_run.specs.Entries.{log_of};
 ghost use Rattle.house_run.specs.Logs.{AreBytes, IsLogOf, IsFaultyAt, entry_of};
+ghost use Rattle.house_run.specs.Words.{Command, Spells};
+
+/// Words are one command at most. So what `run` says of a command says which one it did.
+pub fn words_law()
+    ensures one { (words : List (List ℕ)) (command other : Command) → Spells command words → Spells other words → command ≡ other }
+{}
 
 /// Bytes are a log of one history, or they have one first faulty entry, and not both. So what `run` says of a log says which
 /// answer it gives.

@@ -26,9 +26,9 @@ pub fn run<T, H: Shelf, S: Sink>(
 ) -> Ended
     ensures ends { RunEnds (words_of words.now) (shelf_seen H.files H.faults H.opened shelf.old shelf.new) (sink_seen S.written S.faults out.old out.new) result }
 
-    // A command over good files is done where no call outside fails, or memory runs out.
+    // A command over good files is done where no call on them or on the sink fails, or memory runs out.
     ensures complete { (command : Command) (files : List NamedFile) → Spells command (words_of words.now) → H.files shelf.new ≡ Some files → HasGoodFiles command files
-        → NothingFailed (shelf_seen H.files H.faults H.opened shelf.old shelf.new) (sink_seen S.written S.faults out.old out.new) → IsDoneOrNoMemory result }
+        → NothingFailed (file_name_of command) (shelf_seen H.files H.faults H.opened shelf.old shelf.new) (sink_seen S.written S.faults out.old out.new) → IsDoneOrNoMemory result }
 {
     run_words(alloc, words, shelf, out)
 }
