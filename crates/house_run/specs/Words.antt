@@ -1,6 +1,7 @@
 -- The words of the command line, without the program's name, and the command that they are. Words are lists of bytes.
 -- The first word is the command's name. A number is its decimal digits, without a leading zero. No word behind the name
--- is empty, and none begins with `-` that is not an option of its command.
+-- is empty, and none begins with `-` that is not an option of its command. The limits of supplies, bidders and ceilings are those of
+-- `Terms`, which has no value outside them.
 use Rattle.std.specs.Prelude.{◌≡◌, ◌≢◌, ℕ, List, [], ◌∷◌, codes, decimal, map, String, string_bytes}
 use Rattle.std.specs.declared.alloc.Global.{Global}
 use Rattle.std.specs.List.{join_with_byte}
