@@ -1,13 +1,13 @@
 -- Words none of which is empty or begins as an option does.
 use Rattle.std.proofs.Common.{◌≡◌, ◌<◌, ◌^◌, ◌++◌, ℕ, suc, true, List, [], ◌∷◌, length, drop, String, Global, refl, sym, subst, arith}
-use Rattle.std.specs.Prelude.{All, decimal, string_bytes}
+use Rattle.std.specs.Prelude.{All, codes, decimal, slice_index_or, string_bytes, Result, Ok, Err, IfErr, ◌⊎◌}
 use Rattle.std.specs.Char.{is_ascii_digit}
 use Rattle.std.specs.List.{AllByRecursion, list_all}
 use Rattle.std.proofs.lemmas.Fmt.{decimal_nonempty}
 use Rattle.std.proofs.lemmas.List.Elements.{All-nil, All-cons}
 use Rattle.lot_base.specs.Goods.{IsSupply}
 use Rattle.lot_base.specs.declared.auction_terms.Terms.{Terms}
-use Rattle.house_run.specs.Words.{Check, Command, Fold, IsCheck, IsFold, IsPlainWord, Spells, comma_list, words_of}
+use Rattle.house_run.specs.Words.{Check, Command, Fold, IsCheck, IsFold, IsPlainWord, MayBeCommand, Spells, comma_list, words_of}
 use Rattle.house_run.proofs.Commas.{supplies-few}
 use Rattle.house_run.proofs.Decimals.{both, decimal-digits, digit-range}
 
@@ -64,3 +64,16 @@ pub behind-plain : (command : Command) (words : List (String Global)) → Spells
 behind-plain command words is =
     let P : List (List ℕ) → Type 0 = λ ws. AllByRecursion IsPlainWord ws in
     all-words (drop 1 words) (subst P (words-behind words) (command-plain command (words_of words) is))
+
+pub if-err : {A B : Type 0} (r : Result A B) (P : Type 0) → P → IfErr r (λ _. P)
+if-err (Ok value) P p = tt
+if-err (Err error) P p = p
+
+-- words of which the first has this name, and the others are plain
+pub named : (words : List (String Global)) (first : String Global) → 0 < length words → first ≡ slice_index_or words 0 first → ((string_bytes first ≡ codes "fold") ⊎ (string_bytes first ≡ codes "check")) → All (λ word. IsPlainWord (string_bytes word)) (drop 1 words)
+    → MayBeCommand (words_of words)
+named [] first some e name plain = absurd (omega arith)
+named (word ∷ words) first some e name plain =
+    let same : first ≡ word = e in
+    let P : String Global → Type 0 = λ w. (string_bytes w ≡ codes "fold") ⊎ (string_bytes w ≡ codes "check") in
+    (subst P same name, plain-words words plain)

@@ -10,7 +10,7 @@ use Rattle.clock.specs.Reports.{ClockHistory}
 use Rattle.outcome_text.specs.Lines.{line}
 use Rattle.auction_file.specs.AuctionFile.{Listing, auction_of}
 use Rattle.auction_file.specs.declared.faults.AuctionFault.TheVariants as refused
-use Rattle.house_run.specs.Words.{Command, Fold, Check, Spells, IsNoCommand}
+use Rattle.house_run.specs.Words.{Command, Fold, Check, Spells, IsNoCommand, MayBeCommand}
 use Rattle.house_run.specs.Logs.{AreBytes, IsLogOf, IsFaultyAt}
 use Rattle.house_run.specs.Texts.{standing_of, check_text}
 use Rattle.house_run.specs.Status.{number_of}
@@ -188,8 +188,8 @@ pub record CommandEnds (command : Command) (shelf : ShelfSeen) (sink : SinkSeen)
   pub quiet : IsQuiet end shelf
   pub wrote : Wrote sink end text answer
 
--- How a run ends: the words are no command, and it says so; or they are a command, and that ends; or memory ran out before
--- they were read, and nothing was written. No run changes a file, and only that of a command is read.
+-- How a run ends: the words are no command, and it says so; or they are a command, and that ends; or memory ran out
+-- before words that may be one were read, and nothing was written. No run changes a file, and only that of a command is read.
 pub record UsageEnds (words : List (List ℕ)) (shelf : ShelfSeen) (sink : SinkSeen) (answer : Ended) : Type 0 where
   pub none : IsNoCommand words
   pub untouched : IsUntouched shelf
@@ -200,12 +200,13 @@ pub record SomeCommandEnds (words : List (List ℕ)) (shelf : ShelfSeen) (sink :
   pub spelled : Spells command words
   pub ends : CommandEnds command shelf sink answer
 
-pub record NoMemoryEnds (shelf : ShelfSeen) (sink : SinkSeen) (answer : Ended) : Type 0 where
+pub record NoMemoryEnds (words : List (List ℕ)) (shelf : ShelfSeen) (sink : SinkSeen) (answer : Ended) : Type 0 where
+  pub named : MayBeCommand words
   pub untouched : IsUntouched shelf
   pub wrote : Wrote sink how.NoMemory [] answer
 
 abbrev pub RunEnds : List (List ℕ) → ShelfSeen → SinkSeen → Ended → Type 0
-RunEnds words shelf sink answer = UsageEnds words shelf sink answer ⊎ (SomeCommandEnds words shelf sink answer ⊎ NoMemoryEnds shelf sink answer)
+RunEnds words shelf sink answer = UsageEnds words shelf sink answer ⊎ (SomeCommandEnds words shelf sink answer ⊎ NoMemoryEnds words shelf sink answer)
 
 -- no call on the file of this name or on the sink failed, and neither count stands at its last value
 pub record NothingFailed (name : List ℕ) (shelf : ShelfSeen) (sink : SinkSeen) : Type 0 where

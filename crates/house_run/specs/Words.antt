@@ -2,9 +2,9 @@
 -- The first word is the command's name. A number is its decimal digits, without a leading zero. No word behind the name
 -- is empty, and none begins with `-` that is not an option of its command. The limits of supplies, bidders and ceilings are those of
 -- `Terms`, which has no value outside them.
-use Rattle.std.specs.Prelude.{◌≡◌, ◌≢◌, ℕ, List, [], ◌∷◌, codes, decimal, map, String, string_bytes}
+use Rattle.std.specs.Prelude.{◌≡◌, ◌≢◌, ◌⊎◌, ℕ, List, [], ◌∷◌, codes, decimal, map, String, string_bytes}
 use Rattle.std.specs.declared.alloc.Global.{Global}
-use Rattle.std.specs.List.{join_with_byte}
+use Rattle.std.specs.List.{AllByRecursion, join_with_byte}
 use Rattle.lot_base.specs.declared.auction_terms.Terms.{Terms}
 
 -- words as lists of bytes
@@ -48,3 +48,8 @@ Spells (Check auction) words = IsCheck auction words
 -- the words are no command
 abbrev pub IsNoCommand : List (List ℕ) → Type 0
 IsNoCommand words = (command : Command) → Spells command words → ⊥
+
+-- the first word is the name of a command, and each word behind it is one that no command takes for an option
+abbrev pub MayBeCommand : List (List ℕ) → Type 0
+MayBeCommand [] = ⊥
+MayBeCommand (name ∷ behind) = ((name ≡ codes "fold") ⊎ (name ≡ codes "check")) × AllByRecursion IsPlainWord behind

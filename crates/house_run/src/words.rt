@@ -1,7 +1,7 @@
 //! Reading the words of the command line.
-ghost use Rattle.std.specs.Prelude.{◌≡◌, ◌<◌, ◌≤◌, ◌∷◌, ◌++◌, ◌⊎◌, ◌==◌, false, [], ℕ, List, codes, decimal, map, length, IfOk, IfSome, IfNone, IsTrue, ◌↔◌, All, string_bytes};
+ghost use Rattle.std.specs.Prelude.{◌≡◌, ◌<◌, ◌≤◌, ◌∷◌, ◌++◌, ◌⊎◌, ◌==◌, false, [], ℕ, List, codes, decimal, map, length, IfOk, IfErr, IfSome, IfNone, IsTrue, ◌↔◌, All, string_bytes};
 ghost use Rattle.std.specs.List.{list_all, slice_split, AllByRecursion};
-ghost use Rattle.house_run.specs.Words.{IsNoCommand, Spells, IsPlainWord, AreTermWords, comma_list, words_of};
+ghost use Rattle.house_run.specs.Words.{IsNoCommand, MayBeCommand, Spells, IsPlainWord, AreTermWords, comma_list, words_of};
 ghost use Rattle.house_run.specs.CommandView.{command_as};
 ghost use Rattle.std.specs.Char.{is_ascii_digit};
 ghost use Rattle.house_run.specs.Numerals.{is_numeral};
@@ -29,6 +29,7 @@ pub(crate) fn read_words(
 ) -> Result<Option<CommandWords<'_>>, NoMemory>
     ensures some { IfOk result (λ o. IfSome o (λ command. Spells (command_as command) (words_of words.now))) }
     ensures none { IfOk result (λ o. IfNone o (IsNoCommand (words_of words.now))) }
+    ensures memory { IfErr result (λ _. MayBeCommand (words_of words.now)) }
 {
     let [name, behind @ ..] = words else {
         return Ok(None);
@@ -158,6 +159,7 @@ fn read_supply(supplies: &mut Supplies, piece: &str) -> bool
     requires { AllByRecursion (λ n. n ≤ 2047) supplies.old }
     ensures read { IsTrue result → (units : ℕ) × (piece.now ≡ decimal units) × (supplies.new ≡ supplies.old ++ units ∷ []) }
     ensures small { AllByRecursion (λ n. n ≤ 2047) supplies.new }
+    ensures kept { result ≡ false → supplies.new ≡ supplies.old }
     ensures refused { result ≡ false → (6 ≤ length supplies.old) ⊎ ((units : ℕ) → 1 ≤ units → units ≤ 2047 → piece.now ≡ decimal units → ⊥) }
 {
     if !supplies.has_room() {
