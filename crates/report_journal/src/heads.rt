@@ -83,6 +83,8 @@ pub fn read_records<D: Disk>(alloc: Global, disk: &mut D, size: u64) -> Result<F
     ensures cause { (result ≡ Err JournalFault.DiskFault) → Rose (D.faults disk.old) (D.faults disk.new) }
     ensures errors { IfErr result (λ e. (e ≡ JournalFault.DiskFault) ⊎ (e ≡ JournalFault.NoMemory)) }
     ensures faults { D.faults disk.old ≤ D.faults disk.new }
+    ensures steady { OnOk result (D.faults disk.new ≡ D.faults disk.old) }
+    ensures memory { result ≡ Err JournalFault.NoMemory → D.faults disk.new ≡ D.faults disk.old }
 {
     let mut chunk = Chunk::new(alloc)?;
     let mut places = Vec::new(alloc);

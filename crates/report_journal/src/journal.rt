@@ -120,6 +120,7 @@ impl<D: Disk> Journal<D> {
             (D.moments self.old.disk) (D.moments self.new.disk) }
         ensures tells { IsTrue (D.tells self.new.disk) → IsTrue (D.tells self.old.disk) }
         ensures faults { D.faults self.old.disk ≤ D.faults self.new.disk }
+        ensures steady { OnOk result (D.faults self.new.disk ≡ D.faults self.old.disk) }
     {
         if self.pending.is_some() {
             return Err(JournalFault::NotMended);
@@ -176,6 +177,7 @@ impl<D: Disk> Journal<D> {
             → AtEach (IsBeforeOrAfter self.old.contents payload) (D.moments self.old.disk) (D.moments self.new.disk) }
         ensures tells { IsTrue (D.tells self.new.disk) → IsTrue (D.tells self.old.disk) }
         ensures faults { D.faults self.old.disk ≤ D.faults self.new.disk }
+        ensures steady { OnOk result (D.faults self.new.disk ≡ D.faults self.old.disk) }
     {
         let length = match &self.pending {
             None => return Ok(Mended::Nothing),
@@ -216,6 +218,8 @@ impl<D: Disk> Journal<D> {
         ensures cause { result ≡ Err JournalFault.DiskFault → Rose (D.faults self.old.disk) (D.faults self.new.disk) }
         ensures errors { IfErr result (λ e. (e ≡ JournalFault.DiskFault) ⊎ (e ≡ JournalFault.NoMemory)) }
         ensures faults { D.faults self.old.disk ≤ D.faults self.new.disk }
+        ensures steady { OnOk result (D.faults self.new.disk ≡ D.faults self.old.disk) }
+        ensures memory { result ≡ Err JournalFault.NoMemory → D.faults self.new.disk ≡ D.faults self.old.disk }
     {
         let place = self.places[number as usize - 1];
         read_place(alloc, &mut self.disk, place)
@@ -275,7 +279,7 @@ impl<D: Disk> Journal<D> {
         ensures err_range { IfErr result (λ e. IsTrue (D.tells e.disk)
             → AtEach (Torn 0 42 (D.moments disk).now.read) (D.moments disk) (D.moments e.disk)) }
         ensures tells { IfOk result (λ j. IsTrue (D.tells j.disk) → IsTrue (D.tells disk)) }
-        ensures faults { IfOk result (λ j. D.faults disk ≤ D.faults j.disk) }
+        ensures steady { IfOk result (λ j. D.faults j.disk ≡ D.faults disk) }
         ensures err { IfErr result (λ e. (IsTrue (D.tells e.disk) → AtEach (IsUnformedOrEmpty clock digest) (D.moments disk) (D.moments e.disk))
             × (IsTrue (D.tells e.disk) → IsTrue (D.tells disk)) × (D.faults disk ≤ D.faults e.disk)
             × (((e.fault ≡ JournalFault.NoMemory) × (e.disk ≡ disk)) ⊎ ((e.fault ≡ JournalFault.DiskFault) × Rose (D.faults disk) (D.faults e.disk)))) }
@@ -323,6 +327,8 @@ fn read_place<D: Disk>(alloc: Global, disk: &mut D, place: Place) -> Result<Vec<
     ensures cause { result ≡ Err JournalFault.DiskFault → Rose (D.faults disk.old) (D.faults disk.new) }
     ensures errors { IfErr result (λ e. (e ≡ JournalFault.DiskFault) ⊎ (e ≡ JournalFault.NoMemory)) }
     ensures faults { D.faults disk.old ≤ D.faults disk.new }
+    ensures steady { OnOk result (D.faults disk.new ≡ D.faults disk.old) }
+    ensures memory { result ≡ Err JournalFault.NoMemory → D.faults disk.new ≡ D.faults disk.old }
 {
     let mut payload = vec![in alloc; 0; place.length as usize]?;
     disk.read_at(place.at as u64, &mut payload)?;

@@ -62,6 +62,8 @@ pub fn scan<D: Disk>(alloc: Global, disk: &mut D) -> Result<Scanned, JournalFaul
     ensures cause { (result ≡ Err JournalFault.DiskFault) → Rose (D.faults disk.old) (D.faults disk.new) }
     ensures errors { IfErr result (λ e. (e ≡ JournalFault.DiskFault) ⊎ (e ≡ JournalFault.NoMemory)) }
     ensures faults { D.faults disk.old ≤ D.faults disk.new }
+    ensures steady { OnOk result (D.faults disk.new ≡ D.faults disk.old) }
+    ensures memory { result ≡ Err JournalFault.NoMemory → D.faults disk.new ≡ D.faults disk.old }
 {
     disk.sync()?;
     let size = disk.size()?;

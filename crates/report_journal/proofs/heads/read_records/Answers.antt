@@ -17,7 +17,7 @@ records-init g c = rw c.new-places.ensures.items (record {
   chunk = λ told. chunk_none c.in_ok-chunk.chunk.bytes.items _ c.in_ok-chunk.chunk.at c.in_ok-chunk.chunk.filled c.in_ok-chunk.ensures;
   follow = tt;
   behind = refl;
-  faults = omega arith;
+  faults = refl;
 })
 
 pub records-preserved : goal.records-preserved
@@ -43,7 +43,7 @@ records-preserved g c =
           subst (λ ms. IsChunk c.next_record.new.chunk.bytes.items c.next_record.new.chunk.at c.next_record.new.chunk.filled ms.now.read) (before.moments told_before) (c.in_ok-next_record.ensures.chunk told);
       follow = follow_push c.records.places.items place 41 before.follow (omega (arith, before.behind)) limits.0;
       behind = omega (arith, behind_push c.records.places.items place 41, before.behind);
-      faults = omega (arith, before.faults, c.next_record.ensures.cause.later);
+      faults = c.in_ok-next_record.ensures.cause.steady ∙ before.faults;
     })
 
 pub next_record-requires-clause-chunk : goal.next_record-requires-clause-chunk

@@ -12,7 +12,7 @@ invariant-records g l = record {
   chunk : IsTrue (g.D.Disk.tells l.disk) → IsChunk l.chunk.bytes.items l.chunk.at l.chunk.filled (g.D.Disk.moments l.initial.disk).now.read;
   follow : FollowFrom 41 l.places.items;
   behind : gate_behind 41 l.places.items ≡ l.gate;
-  faults : g.D.Disk.faults l.initial.disk ≤ g.D.Disk.faults l.disk;
+  faults : g.D.Disk.faults l.disk ≡ g.D.Disk.faults l.initial.disk;
 }
 
 abbrev pub decreases-records : goal.decreases-records
