@@ -3,7 +3,7 @@ use Rattle.std.proofs.Common.{◌≡◌, ◌≤◌, ℕ, ◌-◌, List, ◌++◌
 use Rattle.std.proofs.Math.Seq.{take-append_seam, drop-append_seam}
 use Rattle.std.proofs.lemmas.List.{drop-replicate}
 use Rattle.lot_base.specs.Padded.{padded, IsPadded}
-use Rattle.lot_base.specs.Goods.{IsSupply, raised}
+use Rattle.lot_base.specs.Goods.{raised}
 
 pub take-padded : (xs : List ℕ) → take (length xs) (padded xs) ≡ xs
 take-padded xs = take-append_seam xs (replicate (6 - length xs) 0)
@@ -12,9 +12,6 @@ pub padded-is : (xs cells : List ℕ) → cells ≡ padded xs → 1 ≤ length x
 padded-is xs cells e some few =
     let front : take (length xs) cells ≡ xs = ap (take (length xs)) e ∙ take-padded xs in
     record { some = some; few = few; count_is = ap length front; zeros = ap padded front ∙ sym e }
-
-pub supply-is : (xs cells : List ℕ) → cells ≡ padded xs → IsSupply xs → IsSupply (take (length xs) cells)
-supply-is xs cells e supply = let front : xs ≡ take (length xs) cells = sym (ap (take (length xs)) e ∙ take-padded xs) in subst IsSupply front supply
 
 pub length-raised : (ps : List ℕ) (set : ℕ) → length (raised ps set) ≡ length ps
 length-raised [] set = refl

@@ -16,3 +16,6 @@ pub mod Meet
 pub mod Loops
 pub mod Steps
 pub mod Sets
+pub mod StepOrder
+pub mod StepSet
+pub mod Openings

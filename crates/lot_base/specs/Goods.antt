@@ -4,6 +4,7 @@
 -- on mean nothing.
 use Rattle.std.specs.Prelude.{◌≡◌, ◌≤◌, ◌<◌, ℕ, ◌+◌, ◌-◌, ◌*◌, ◌/◌, ◌%◌, ◌==◌, nat_le, if◌then◌else◌, Bool, ◌&&◌, List, [], ◌∷◌, length, replicate, position, None, zero, suc, slice_index, slice_set, zip}
 use Rattle.std.specs.List.{AllZip, list_all}
+use Rattle.lot_base.specs.declared.limits.TheConstants.{MOST_GOODS, MOST_BUNDLES}
 
 -- the units of the goods of the set, x(E)
 abbrev pub quantity_in : List ℕ → ℕ → ℕ
@@ -68,9 +69,14 @@ box_size (s ∷ supply) = (s + 1) * box_size supply
 -- a supply that can be sold: 1 to 6 goods, no good without a unit, and at most 2,048 bundles in its box
 pub record IsSupply (supply : List ℕ) : Type 0 where
   pub some_good : 1 ≤ length supply
-  pub few_goods : length supply ≤ 6
+  pub few_goods : length supply ≤ MOST_GOODS
   pub units : position (λ s. s == 0) supply ≡ None
-  pub small : box_size supply ≤ 2048
+  pub small : box_size supply ≤ MOST_BUNDLES
+
+-- prices from which an ascending auction can start: one for each good, and each below the ceiling
+pub record IsOpening (supply : List ℕ) (ceiling : ℕ) (opening : List ℕ) : Type 0 where
+  pub goods : length opening ≡ length supply
+  pub below : position (λ price. nat_le ceiling price) opening ≡ None
 
 -- each price of the set is below the limit
 abbrev pub AllBelow : ℕ → List ℕ → ℕ → Type 0

@@ -7,7 +7,8 @@ ghost use Rattle.lot_base.specs.Goods.{quantity_in, cost, is_within, box_size, A
 ghost use Rattle.lot_base.specs.Padded.{padded};
 ghost use Rattle.lot_base.specs.Box.{index_of, bundle_at};
 
-use crate::supply::{GoodSet, box_product, six_cells, sum_in};
+use crate::limits::MOST_GOODS;
+use crate::supply::{GoodSet, box_product, sum_in};
 use std::cmp::Ordering;
 use std::marker::Model;
 
@@ -39,13 +40,31 @@ impl Bundle {
         ensures some { IfSome result (λ x. (x ≡ quantities.now) × (1 ≤ length quantities.now) × (length quantities.now ≤ 6)) }
         ensures none { IfNone result ((length quantities.now ≡ 0) ⊎ (6 < length quantities.now)) }
     {
-        if quantities.is_empty() || quantities.len() > 6 {
+        if quantities.is_empty() || quantities.len() > MOST_GOODS {
             return None;
         }
-        Some(Bundle {
+        Some(Bundle::of(quantities))
+    }
+
+    /// The bundle of these quantities.
+    pub(crate) fn of(quantities: &[u16]) -> Bundle
+        requires some { 1 ≤ length quantities.now }
+        requires few { length quantities.now ≤ 6 }
+        ensures { result ≡ quantities.now }
+    {
+        Bundle {
             cells: six_cells(quantities),
             count: quantities.len() as u8,
-        })
+        }
+    }
+
+    /// The quantities, good 0 first.
+    pub fn as_slice(&self) -> &[u16]
+        ensures value { result.now ≡ self.now }
+        ensures some { 1 ≤ length self.now }
+        ensures few { length self.now ≤ 6 }
+    {
+        &self.cells[..self.count as usize]
     }
 
     /// The quantity of a good.
@@ -67,7 +86,7 @@ impl Bundle {
     pub(crate) fn is_within(&self, supply: &[u16]) -> bool
         ensures { result ≡ is_within supply.now self.now }
     {
-        within(supply, &self.cells[..self.count as usize])
+        within(supply, self.as_slice())
     }
 
     /// What the bundle costs at the prices.
@@ -75,7 +94,7 @@ impl Bundle {
         requires { length prices.now ≤ 6 }
         ensures { result ≡ cost prices.now self.now }
     {
-        cost_of(prices, &self.cells[..self.count as usize])
+        cost_of(prices, self.as_slice())
     }
 
     /// The place among the bundles of the supply.
@@ -84,7 +103,7 @@ impl Bundle {
         requires small { box_size supply.now ≤ 2048 }
         ensures { result ≡ index_of supply.now self.now }
     {
-        place_of(supply, &self.cells[..self.count as usize])
+        place_of(supply, self.as_slice())
     }
 
     /// The bundle at a place among the bundles of the supply.
@@ -98,6 +117,16 @@ impl Bundle {
             count: supply.len() as u8,
         }
     }
+}
+
+/// The numbers, and zeros after them.
+fn six_cells(numbers: &[u16]) -> [u16; 6]
+    requires { length numbers.now ≤ 6 }
+    ensures { result ≡ padded numbers.now }
+{
+    let mut cells = [0u16; 6];
+    cells[..numbers.len()].copy_from_slice(numbers);
+    cells
 }
 
 /// Whether there is a quantity for each good, and each is at most the supply.
@@ -173,12 +202,12 @@ fn take_digits(units: &mut [u16], place: u32)
 pub fn quantity_in(x: &Bundle, set: GoodSet) -> u32
     ensures { result ≡ quantity_in x.now set.0 }
 {
-    sum_in(&x.cells[..x.count as usize], set.0)
+    sum_in(x.as_slice(), set.0)
 }
 
 /// The lexicographic order, good 0 first.
 pub fn compare(x: &Bundle, y: &Bundle) -> Ordering
     ensures { result ≡ slice_cmp nat_cmp x.now y.now }
 {
-    x.cells[..x.count as usize].cmp(&y.cells[..y.count as usize])
+    x.as_slice().cmp(y.as_slice())
 }

@@ -1,9 +1,10 @@
 //! Prices.
-ghost use Rattle.std.specs.Prelude.{◌≡◌, ◌⊎◌, ℕ, ◌<◌, ◌≤◌, ◌^◌, ◌%◌, ◌/◌, ◌-◌, ◌+◌, ◌*◌, List, length, slice_index, IfSome, IfNone};
+ghost use Rattle.std.specs.Prelude.{◌≡◌, ◌⊎◌, ℕ, nat_le, position, ◌<◌, ◌≤◌, ◌^◌, ◌%◌, ◌/◌, ◌-◌, ◌+◌, ◌*◌, List, length, slice_index, IfSome, IfNone};
 ghost use Rattle.lot_base.specs.Goods.{cost, raised, zeros, AllBelow};
 ghost use Rattle.lot_base.specs.Padded.{padded};
 
 use crate::bundles::Bundle;
+use crate::limits::MOST_GOODS;
 use crate::supply::{GoodSet, Goods};
 use std::marker::Model;
 
@@ -45,7 +46,7 @@ impl Prices {
         ensures some { IfSome result (λ p. (p ≡ prices.now) × (1 ≤ length prices.now) × (length prices.now ≤ 6)) }
         ensures none { IfNone result ((length prices.now ≡ 0) ⊎ (6 < length prices.now)) }
     {
-        if prices.is_empty() || prices.len() > 6 {
+        if prices.is_empty() || prices.len() > MOST_GOODS {
             return None;
         }
         Some(Prices {
@@ -54,11 +55,30 @@ impl Prices {
         })
     }
 
+    /// The prices, good 0 first.
+    pub fn as_slice(&self) -> &[u32]
+        ensures value { result.now ≡ self.now }
+        ensures some { 1 ≤ length self.now }
+        ensures few { length self.now ≤ 6 }
+    {
+        &self.cells[..self.count as usize]
+    }
+
     /// How many prices there are.
     pub fn count(&self) -> u8
         ensures { result ≡ length self.now }
     {
         self.count
+    }
+
+    /// The first good whose price is at least the limit.
+    pub fn first_from(&self, limit: u32) -> Option<u8>
+        ensures { result ≡ position (λ price. nat_le limit price) self.now }
+    {
+        match first_from(self.as_slice(), limit) {
+            Some(good) => Some(good as u8),
+            None => None,
+        }
     }
 
     /// The price of a good.
@@ -75,7 +95,7 @@ impl Prices {
         ensures { result ≡ raised self.now set.0 }
     {
         Prices {
-            cells: six_raised(&self.cells[..self.count as usize], set.0),
+            cells: six_raised(self.as_slice(), set.0),
             count: self.count,
         }
     }
@@ -85,10 +105,18 @@ impl Prices {
 pub fn cost(p: &Prices, x: &Bundle) -> u64
     ensures { result ≡ cost p.now x.now }
 {
-    x.cost_at(&p.cells[..p.count as usize])
+    x.cost_at(p.as_slice())
 }
 
-/// The prices, and zeros behind them.
+/// The first place of a price that is at least the limit.
+fn first_from(prices: &[u32], limit: u32) -> Option<usize>
+    ensures value { result ≡ position (λ price. nat_le limit price) prices.now }
+    ensures within { IfSome result (λ place. place < length prices.now) }
+{
+    prices.iter().position(|price| *price >= limit)
+}
+
+/// The prices, and zeros after them.
 fn six_prices(prices: &[u32]) -> [u32; 6]
     requires { length prices.now ≤ 6 }
     ensures { result ≡ padded prices.now }

@@ -1,11 +1,11 @@
 //! The goods on sale.
 ghost use Rattle.std.specs.Prelude.{◌≡◌, ◌↔◌, ℕ, ◌+◌, ◌-◌, ◌*◌, ◌^◌, ◌<◌, ◌≤◌, List, length, slice_index, slice_get, Some, IsTrue, ◌==◌, position};
 ghost use Rattle.lot_base.specs.Goods.{quantity_in, box_size, is_within, AtMost, IsSupply};
-ghost use Rattle.lot_base.specs.Padded.{padded};
 ghost use Rattle.lot_base.specs.Box.{box, index_of, bundle_at};
 ghost use Rattle.lot_base.specs.Limits.{supply_of};
 
-use crate::bundles::Bundle;
+use crate::bundles::{Bundle, quantity_in};
+use crate::limits::{MOST_BUNDLES, MOST_GOODS};
 use std::marker::Model;
 
 /// Why a list of supplies is refused.
@@ -27,24 +27,21 @@ pub struct GoodSet(pub u8);
 /// The goods on sale, seen as the list of their supplies.
 #[derive(Clone, Copy, Debug)]
 pub struct Goods {
-    cells: [u16; 6],
-    count: u8,
+    /// The bundle of all units.
+    supply: Bundle,
 }
 
 impl Model for Goods {
-    ghost use Rattle.std.specs.Prelude.{ℕ, List, length, take};
-    ghost use Rattle.lot_base.specs.Padded.{padded, IsPadded};
+    ghost use Rattle.std.specs.Prelude.{ℕ, List};
     ghost use Rattle.lot_base.specs.Goods.{IsSupply};
 
     ghost Value = { List ℕ };
 
-    ghost view = { λ g. take g.count g.cells };
+    ghost view = { λ g. g.supply };
 
-    ghost invariant = { λ g. IsPadded g.cells g.count × IsSupply (take g.count g.cells) };
+    ghost invariant = { λ g. IsSupply g.supply };
 
-    ghost inverse = { λ supply. record { cells = padded supply; count = length supply } };
-
-    ghost inverse_ok = { λ g h i. record { cells = h.0.zeros i; count = h.0.count_is i } };
+    ghost inverse = { λ supply. record { supply = supply } };
 }
 
 impl Goods {
@@ -55,19 +52,18 @@ impl Goods {
         if supply.is_empty() {
             return Err(GoodsFault::NoGoods);
         }
-        if supply.len() > 6 {
+        if supply.len() > MOST_GOODS {
             return Err(GoodsFault::TooManyGoods(supply.len() as u64));
         }
         if let Some(good) = first_without_unit(supply) {
             return Err(GoodsFault::ZeroSupply(good as u8));
         }
         let bundles = box_product(supply);
-        if bundles > 2048 {
+        if bundles > MOST_BUNDLES {
             return Err(GoodsFault::BoxTooLarge(bundles));
         }
         Ok(Goods {
-            cells: six_cells(supply),
-            count: supply.len() as u8,
+            supply: Bundle::of(supply),
         })
     }
 
@@ -76,7 +72,7 @@ impl Goods {
         ensures length { result ≡ length self.now }
         ensures supply { IsSupply self.now }
     {
-        self.count
+        self.supply.count()
     }
 
     /// The supply of a good.
@@ -84,14 +80,14 @@ impl Goods {
         requires { good < length self.now }
         ensures { result ≡ slice_index self.now good }
     {
-        self.cells[good as usize]
+        self.supply.quantity(good)
     }
 
     /// The units of the goods of a set.
     pub fn units(&self, set: GoodSet) -> u32
         ensures { result ≡ quantity_in self.now set.0 }
     {
-        sum_in(&self.cells[..self.count as usize], set.0)
+        quantity_in(&self.supply, set)
     }
 
     /// The number of sets of goods.
@@ -100,14 +96,14 @@ impl Goods {
         ensures small { result ≤ 64 }
         ensures supply { IsSupply self.now }
     {
-        1 << self.count
+        1 << self.supply.count()
     }
 
     /// The number of bundles.
     pub fn box_size(&self) -> u32
         ensures { result ≡ box_size self.now }
     {
-        box_product(&self.cells[..self.count as usize]) as u32
+        box_product(self.supply.as_slice()) as u32
     }
 
     /// Whether it is a bundle of these goods, of no more units than there are.
@@ -115,7 +111,7 @@ impl Goods {
         ensures fits { IsTrue result ↔ AtMost x.now self.now }
         ensures test { result ≡ is_within self.now x.now }
     {
-        x.is_within(&self.cells[..self.count as usize])
+        x.is_within(self.supply.as_slice())
     }
 
     /// The place of a bundle among all bundles in lexicographic order, from 0.
@@ -125,7 +121,7 @@ impl Goods {
         ensures digits { result ≡ index_of self.now x.now }
         ensures inverse { bundle_at self.now result ≡ x.now }
     {
-        x.index_within(&self.cells[..self.count as usize])
+        x.index_within(self.supply.as_slice())
     }
 
     /// The bundle at a place among all bundles in lexicographic order.
@@ -136,7 +132,7 @@ impl Goods {
         ensures inverse { index_of self.now result ≡ index }
         ensures within { AtMost result self.now }
     {
-        Bundle::at_index(&self.cells[..self.count as usize], index)
+        Bundle::at_index(self.supply.as_slice(), index)
     }
 }
 
@@ -157,16 +153,6 @@ pub(crate) fn box_product(supply: &[u16]) -> u128
         product *= *units as u128 + 1;
     }
     product
-}
-
-/// The numbers, and zeros behind them.
-pub(crate) fn six_cells(numbers: &[u16]) -> [u16; 6]
-    requires { length numbers.now ≤ 6 }
-    ensures { result ≡ padded numbers.now }
-{
-    let mut cells = [0u16; 6];
-    cells[..numbers.len()].copy_from_slice(numbers);
-    cells
 }
 
 #[tactic(auto, using(crate::proofs::Sums::quantity_in_drop))]

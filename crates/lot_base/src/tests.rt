@@ -47,6 +47,39 @@ fn terms_at_their_limits(rt: HostRuntime) -> Result<(), Fail> {
     Ok(())
 }
 
+/// The fault of terms for two goods that open at these prices.
+fn opening_fault(
+    bidders: u8,
+    ceiling: u32,
+    opening: [u32; 2],
+) -> Result<Option<TermsFault>, GoodsFault> {
+    let goods = Goods::new(&[1, 1])?;
+    match Prices::read(&opening) {
+        Some(opening) if opening.count() == goods.count() => {
+            Ok(Terms::with_opening(goods, bidders, ceiling, opening).err())
+        }
+        _ => Ok(None),
+    }
+}
+
+#[test]
+fn openings_at_their_limits(rt: HostRuntime) -> Result<(), Fail> {
+    let second = TermsFault::Opening { good: 1, value: 10 };
+    let first = TermsFault::Opening { good: 0, value: 11 };
+    let cases = [
+        (12, 10, [0, 0], None),
+        (12, 10, [9, 9], None),
+        (12, 10, [9, 10], Some(second)),
+        (12, 10, [11, 10], Some(first)),
+        (12, 1, [11, 10], Some(TermsFault::Ceiling(1))),
+        (13, 1, [11, 10], Some(TermsFault::Bidders(13))),
+    ];
+    for (bidders, ceiling, opening, fault) in cases {
+        assert_eq!(rt; opening_fault(bidders, ceiling, opening)?, fault);
+    }
+    Ok(())
+}
+
 #[test]
 fn one_to_six_numbers_are_read(rt: HostRuntime) {
     for (length, count) in [(0, None), (1, Some(1)), (6, Some(6)), (7, None)] {
@@ -164,5 +197,13 @@ fn prices_rise_on_a_set(rt: HostRuntime) -> Result<(), Fail> {
     let goods = Goods::new(&[1, 1, 1])?;
     let p = Prices::zero(&goods).raise(GoodSet(5));
     assert_eq!(rt; [p.get(0), p.get(1), p.get(2)], [1, 0, 1]);
+    Ok(())
+}
+
+#[test]
+fn a_sequence_gives_back_its_elements(rt: HostRuntime) -> Result<(), Fail> {
+    let steps = Sequence::from_vec([6u32, 3, 4, 4].to_vec(rt.alloc())?);
+    assert_eq!(rt; steps.as_slice(), [6u32, 3, 4, 4].as_slice());
+    assert_eq!(rt; steps.into_vec().as_slice(), [6u32, 3, 4, 4].as_slice());
     Ok(())
 }
