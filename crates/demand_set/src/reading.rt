@@ -50,17 +50,18 @@ impl Demand {
 
     /// The demand of these quantities, if they are bundles of these goods in ascending order.
     pub fn read(alloc: Global, goods: &Goods, raw: &RawDemand) -> Result<Demand, DemandFault>
-        requires { AreWhole raw.now.goods raw.now.quantities.items }
+        requires { AreWhole raw.now.goods raw.now.quantities }
         ensures fits { IfOk result (λ d. IsDemand goods.now d) }
-        ensures value { IsOrNoMemory result (demand_of goods.now raw.now.goods (bundles_of raw.now.goods raw.now.quantities.items)) }
+        ensures value { IsOrNoMemory result (demand_of goods.now raw.now.goods (bundles_of raw.now.goods raw.now.quantities)) }
     {
         if raw.goods != goods.count() {
             return Err(DemandFault::WrongGoods(raw.goods));
         }
-        if raw.quantities.is_empty() {
+        let quantities = raw.quantities.as_slice();
+        if quantities.is_empty() {
             return Err(DemandFault::Empty);
         }
-        let bundles = read_bundles(alloc, goods, &raw.quantities)?;
+        let bundles = read_bundles(alloc, goods, quantities)?;
         Ok(Demand { bundles })
     }
 

@@ -3,7 +3,7 @@ ghost use Rattle.std.specs.Prelude.{IfOk};
 ghost use Rattle.lot_base.specs.Demands.{IsDemand};
 
 use crate::reading::{Demand, DemandFault};
-use lot_base::{Goods, RawDemand};
+use lot_base::{Goods, RawDemand, Sequence};
 use std::alloc::Global;
 use std::process::Abort;
 use std::test::Fail;
@@ -29,7 +29,7 @@ fn read(
     assert_eq!(rt; quantities.len() % count as usize, 0);
     let raw = RawDemand {
         goods: count,
-        quantities,
+        quantities: Sequence::from_vec(quantities),
     };
     Demand::read(alloc, goods, &raw)
 }

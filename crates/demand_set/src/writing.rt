@@ -3,7 +3,7 @@ ghost use Rattle.std.specs.Prelude.{◌≡◌, ◌≤◌, ◌++◌, ℕ, List, l
 ghost use Rattle.std.specs.List.{AllByRecursion, concat};
 
 use crate::reading::Demand;
-use lot_base::{Bundle, NoMemory, RawDemand};
+use lot_base::{Bundle, NoMemory, RawDemand, Sequence};
 use std::alloc::{AllocError, Global};
 
 impl Demand {
@@ -13,17 +13,20 @@ impl Demand {
     /// The number of goods, and the quantities of one bundle after another.
     pub fn raw(&self, alloc: Global) -> Result<RawDemand, NoMemory>
         ensures goods { IfOk result (λ r. AllByRecursion (λ x. length x ≡ r.goods) self.now) }
-        ensures quantities { IfOk result (λ r. r.quantities.items ≡ concat self.now) }
+        ensures quantities { IfOk result (λ r. r.quantities ≡ concat self.now) }
 
         // So it may be read again, and that gives the same demand.
-        ensures whole { IfOk result (λ r. AreWhole r.goods r.quantities.items) }
-        ensures bundles { IfOk result (λ r. bundles_of r.goods r.quantities.items ≡ self.now) }
-        ensures read_back { IfOk result (λ r. (supply : List ℕ) → IsDemand supply self.now → demand_of supply r.goods (bundles_of r.goods r.quantities.items) ≡ Ok self.now) }
+        ensures whole { IfOk result (λ r. AreWhole r.goods r.quantities) }
+        ensures bundles { IfOk result (λ r. bundles_of r.goods r.quantities ≡ self.now) }
+        ensures read_back { IfOk result (λ r. (supply : List ℕ) → IsDemand supply self.now → demand_of supply r.goods (bundles_of r.goods r.quantities) ≡ Ok self.now) }
     {
         let bundles = self.bundles();
         let goods = bundles[0].count();
         match joined(alloc, bundles, goods) {
-            Ok(quantities) => Ok(RawDemand { goods, quantities }),
+            Ok(quantities) => Ok(RawDemand {
+                goods,
+                quantities: Sequence::from_vec(quantities),
+            }),
             Err(_) => Err(NoMemory),
         }
     }
