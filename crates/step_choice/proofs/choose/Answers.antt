@@ -1,8 +1,8 @@
 use Rattle.std.proofs.Common.{◌∙◌, sym, arith, length}
 use Rattle.step_choice.specs.Table.{excess_in}
 use Rattle.std.proofs.lemmas.Nat.{pow_pos}
-use Rattle.step_choice.proofs.Order.{first_set-is, first-changed, first-kept}
-use Rattle.step_choice.proofs.StepSet.{first-is_step_set}
+use Rattle.lot_base.proofs.StepOrder.{first_set-is, first-changed, first-kept}
+use Rattle.lot_base.proofs.StepSet.{first-is_step_set}
 use Rattle.step_choice.proofs.choose.Goals as goal
 use Rattle.step_choice.proofs.choose.Goals.{then-comes_before, else-comes_before}
 

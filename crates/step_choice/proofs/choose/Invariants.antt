@@ -1,6 +1,6 @@
 use Rattle.std.proofs.Common.{length}
 use Rattle.step_choice.specs.Table.{excess_in}
-use Rattle.step_choice.proofs.Order.{IsFirstBelow}
+use Rattle.lot_base.proofs.StepOrder.{IsFirstBelow}
 use Rattle.step_choice.proofs.choose.Given as goal
 
 abbrev pub invariant-loop-set : goal.invariant-loop-set

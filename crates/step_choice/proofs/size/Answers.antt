@@ -1,5 +1,5 @@
 use Rattle.std.proofs.Common.{arith}
-use Rattle.step_choice.proofs.Order.{size-next}
+use Rattle.lot_base.proofs.StepOrder.{size-next}
 use Rattle.step_choice.proofs.size.Goals as goal
 
 pub loop-preserved : goal.loop-preserved

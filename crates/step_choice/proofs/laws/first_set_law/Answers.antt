@@ -1,4 +1,4 @@
-use Rattle.step_choice.proofs.StepSet.{first_set-step_set, step_set-unique}
+use Rattle.lot_base.proofs.StepSet.{first_set-step_set, step_set-unique}
 use Rattle.step_choice.proofs.laws.first_set_law.Goals as goal
 
 pub returns-clause-exists : goal.returns-clause-exists
