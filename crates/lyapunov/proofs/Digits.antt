@@ -8,7 +8,7 @@ use Rattle.lot_base.specs.Steps.{IsStepSet, excess, step_set}
 use Rattle.lot_base.proofs.Vectors.{set_of, total}
 use Rattle.lot_base.proofs.Loops.{Bits-set_of}
 use Rattle.lot_base.proofs.Sets.{numbered, length-set_of, size_of-total, size_of-some}
-use Rattle.step_choice.proofs.StepSet.{first_set-step_set}
+use Rattle.lot_base.proofs.StepSet.{first_set-step_set}
 use Rattle.lyapunov.specs.Paths.{true_step, prices_along, AllSteps}
 use Rattle.lyapunov.proofs.Descent.{lyapunov-plus, excess-digits, raised-digits}
 use Rattle.lyapunov.proofs.Chosen.{IsSet, Chosen, prices_over, NoneEmpty, AllChosen}
