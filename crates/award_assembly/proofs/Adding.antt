@@ -81,30 +81,31 @@ bundle_at-0 (s ∷ ss) =
     (λ i. q i ∷ bundle_at ss (r i)) ∙ ap (λ xs. 0 ∷ xs) (bundle_at-0 ss)
 
 -- the test whether a total clears
-clears-each : (s p t : List ℕ) → length p ≡ length s → AtMost t s → ((k : ℕ) → k < length s → 0 < slice_index p k → slice_index t k ≡ slice_index s k) → Clears (zeros s) p t s
-clears-each [] [] [] same within each = tt
-clears-each [] [] (t ∷ ts) same within each = absurd within
-clears-each [] (p ∷ ps) t same within each = absurd (omega arith)
-clears-each (s ∷ ss) [] t same within each = absurd (omega arith)
-clears-each (s ∷ ss) (p ∷ ps) [] same within each = absurd within
-clears-each (s ∷ ss) (p ∷ ps) (t ∷ ts) same within each =
-    (within.0, (λ some. each 0 (omega arith) some), clears-each ss ps ts (omega arith) within.1 (λ k lt some. each (suc k) (omega arith) some))
+clears-each : (s o p t : List ℕ) → length o ≡ length s → length p ≡ length s → AtMost t s → ((k : ℕ) → k < length s → slice_index o k < slice_index p k → slice_index t k ≡ slice_index s k) → Clears o p t s
+clears-each [] [] [] [] opens same within each = tt
+clears-each (s ∷ ss) (o ∷ os) (p ∷ ps) (t ∷ ts) opens same within each =
+    (within.0, (λ some. each 0 (omega arith) some), clears-each ss os ps ts (omega arith) (omega arith) within.1 (λ k lt some. each (suc k) (omega arith) some))
+clears-each [] o p (t ∷ ts) opens same within each = absurd within
+clears-each (s ∷ ss) o p [] opens same within each = absurd within
+clears-each s o p t opens same within each = absurd (omega arith)
 
-each-clears : (s p t : List ℕ) (k : ℕ) → Clears (zeros s) p t s → 0 < slice_index p k → slice_index t k ≡ slice_index s k
-each-clears [] [] [] k c some = refl
-each-clears [] [] (t ∷ ts) k c some = absurd c
-each-clears [] (p ∷ ps) t k c some = absurd c
-each-clears (s ∷ ss) [] t k c some = absurd c
-each-clears (s ∷ ss) (p ∷ ps) [] k c some = absurd c
-each-clears (s ∷ ss) (p ∷ ps) (t ∷ ts) zero c some = c.1 some
-each-clears (s ∷ ss) (p ∷ ps) (t ∷ ts) (suc k) c some = each-clears ss ps ts k c.2 some
+each-clears : (s o p t : List ℕ) (k : ℕ) → Clears o p t s → slice_index o k < slice_index p k → slice_index t k ≡ slice_index s k
+each-clears [] [] [] [] k c some = refl
+each-clears (s ∷ ss) (o ∷ os) (p ∷ ps) (t ∷ ts) zero c some = c.1 some
+each-clears (s ∷ ss) (o ∷ os) (p ∷ ps) (t ∷ ts) (suc k) c some = each-clears ss os ps ts k c.2 some
+each-clears (s ∷ ss) [] [] [] k c some = absurd c
+each-clears s [] [] (t ∷ ts) k c some = absurd c
+each-clears s [] (p ∷ ps) t k c some = absurd c
+each-clears s (o ∷ os) [] t k c some = absurd c
+each-clears s (o ∷ os) (p ∷ ps) [] k c some = absurd c
+each-clears [] (o ∷ os) (p ∷ ps) (t ∷ ts) k c some = absurd c
 
-pub sold-clears : (s p t : List ℕ) → length p ≡ length s → AtMost t s → ((k : ℕ) → k < length s → 0 < slice_index p k → slice_index t k ≡ slice_index s k) → clears (zeros s) p t s ≡ true
-sold-clears s p t same within each = clears-true (zeros s) p t s (clears-each s p t same within each)
+pub sold-clears : (s o p t : List ℕ) → length o ≡ length s → length p ≡ length s → AtMost t s → ((k : ℕ) → k < length s → slice_index o k < slice_index p k → slice_index t k ≡ slice_index s k) → clears o p t s ≡ true
+sold-clears s o p t opens same within each = clears-true o p t s (clears-each s o p t opens same within each)
 
-pub unsold-clears : (s p t : List ℕ) (k : ℕ) → 0 < slice_index p k → slice_index t k ≢ slice_index s k → clears (zeros s) p t s ≡ false
-unsold-clears s p t k some differ = by (clears (zeros s) p t s) refl
+pub unsold-clears : (s o p t : List ℕ) (k : ℕ) → slice_index o k < slice_index p k → slice_index t k ≢ slice_index s k → clears o p t s ≡ false
+unsold-clears s o p t k some differ = by (clears o p t s) refl
   where
-    by : (b : Bool) → clears (zeros s) p t s ≡ b → b ≡ false
-    by true e = absurd (differ (each-clears s p t k (clears-says (zeros s) p t s e) some))
+    by : (b : Bool) → clears o p t s ≡ b → b ≡ false
+    by true e = absurd (differ (each-clears s o p t k (clears-says o p t s e) some))
     by false e = refl

@@ -1,6 +1,6 @@
 //! What the demands behind can still make clear.
 ghost use Rattle.std.specs.Prelude.{◌≡◌, ◌<◌, ℕ, List, [], ◌∷◌, false, find, length, slice_index_or, IfOk};
-ghost use Rattle.lot_base.specs.Goods.{plus, zeros, is_within, box_size, AtMost};
+ghost use Rattle.lot_base.specs.Goods.{plus, is_within, box_size, AtMost};
 ghost use Rattle.lot_base.specs.Box.{bundle_at, index_of};
 ghost use Rattle.lot_base.specs.Choices.{clears};
 ghost use Rattle.lot_base.specs.Demands.{IsDemand};
@@ -29,13 +29,19 @@ impl Reach {
     ghost use Rattle.award_assembly.specs.Remaining.{IsReach, has_total};
 
     /// With no demand behind, the totals that clear.
-    pub(crate) fn last(alloc: Global, goods: &Goods, prices: &Prices) -> Result<Reach, AllocError>
-        requires { length prices.now ≡ length goods.now }
-        ensures { IfOk result (IsReach goods.now (zeros goods.now) prices.now []) }
+    pub(crate) fn last(
+        alloc: Global,
+        goods: &Goods,
+        opening: &Prices,
+        prices: &Prices,
+    ) -> Result<Reach, AllocError>
+        requires opening { length opening.now ≡ length goods.now }
+        requires prices { length prices.now ≡ length goods.now }
+        ensures { IfOk result (IsReach goods.now opening.now prices.now []) }
     {
         let mut totals = Vec::new(alloc);
         for place in 0..goods.box_size() {
-            totals.push(clears(goods, prices, &goods.bundle(place)))?;
+            totals.push(clears(goods, opening, prices, &goods.bundle(place)))?;
         }
         Ok(Reach { totals })
     }
@@ -49,8 +55,8 @@ impl Reach {
     ) -> Result<Reach, AllocError>
         requires size { length self.now ≡ box_size goods.now }
         requires demand { IsDemand goods.now demand.now }
-        ensures { (p : List ℕ) (behind : List (List (List ℕ))) → IsReach goods.now (zeros goods.now) p behind self.now →
-            IfOk result (IsReach goods.now (zeros goods.now) p (demand.now ∷ behind)) }
+        ensures { (opening p : List ℕ) (behind : List (List (List ℕ))) → IsReach goods.now opening p behind self.now →
+            IfOk result (IsReach goods.now opening p (demand.now ∷ behind)) }
     {
         let mut totals = Vec::new(alloc);
         for place in 0..goods.box_size() {
@@ -132,14 +138,15 @@ fn place_of_sum(goods: &Goods, x: &Bundle, y: &Bundle) -> u32
     goods.index(x) + goods.index(y)
 }
 
-/// Whether a total within the supply is all of it on each good with a price.
-fn clears(goods: &Goods, prices: &Prices, total: &Bundle) -> bool
+/// Whether a total within the supply is all of it on each good with a price above its opening.
+fn clears(goods: &Goods, opening: &Prices, prices: &Prices, total: &Bundle) -> bool
+    requires opening { length opening.now ≡ length goods.now }
     requires prices { length prices.now ≡ length goods.now }
     requires total { AtMost total.now goods.now }
-    ensures { result ≡ clears (zeros goods.now) prices.now total.now goods.now }
+    ensures { result ≡ clears opening.now prices.now total.now goods.now }
 {
     for good in 0..goods.count() {
-        if prices.get(good) > 0 && total.quantity(good) != goods.supply(good) {
+        if prices.get(good) > opening.get(good) && total.quantity(good) != goods.supply(good) {
             return false;
         }
     }

@@ -2,7 +2,6 @@
 //! first demand, the first bundle from which the demands behind can.
 ghost use Rattle.std.specs.Prelude.{◌≡◌, length, IfOk};
 ghost use Rattle.std.specs.List.{AllByRecursion};
-ghost use Rattle.lot_base.specs.Goods.{zeros};
 ghost use Rattle.lot_base.specs.Choices.{first_choice};
 ghost use Rattle.lot_base.specs.Demands.{IsDemand};
 ghost use Rattle.award_assembly.specs.Remaining.{AreReaches};
@@ -17,14 +16,16 @@ use std::alloc::{AllocError, Global};
 pub(crate) fn first_clearing(
     alloc: Global,
     goods: &Goods,
+    opening: &Prices,
     prices: &Prices,
     demands: &[Demand],
 ) -> Result<Option<Choice>, AllocError>
+    requires opening { length opening.now ≡ length goods.now }
     requires prices { length prices.now ≡ length goods.now }
     requires demands { AllByRecursion (λ d. IsDemand goods.now d) demands.now }
-    ensures { IfOk result (λ choice. choice ≡ first_choice goods.now (zeros goods.now) prices.now demands.now) }
+    ensures { IfOk result (λ choice. choice ≡ first_choice goods.now opening.now prices.now demands.now) }
 {
-    let reaches = reaches(alloc, goods, prices, demands)?;
+    let reaches = reaches(alloc, goods, opening, prices, demands)?;
     if !reaches[demands.len()].has(0) {
         return Ok(None);
     }
@@ -47,15 +48,17 @@ pub(crate) fn first_clearing(
 fn reaches(
     alloc: Global,
     goods: &Goods,
+    opening: &Prices,
     prices: &Prices,
     demands: &[Demand],
 ) -> Result<Vec<Reach>, AllocError>
+    requires opening { length opening.now ≡ length goods.now }
     requires prices { length prices.now ≡ length goods.now }
     requires demands { AllByRecursion (λ d. IsDemand goods.now d) demands.now }
-    ensures { IfOk result (λ v. AreReaches goods.now (zeros goods.now) prices.now demands.now (length demands.now) v.items) }
+    ensures { IfOk result (λ v. AreReaches goods.now opening.now prices.now demands.now (length demands.now) v.items) }
 {
     let mut reaches = Vec::new(alloc);
-    reaches.push(Reach::last(alloc, goods, prices)?)?;
+    reaches.push(Reach::last(alloc, goods, opening, prices)?)?;
     for done in 0..demands.len() {
         let demand = &demands[demands.len() - 1 - done];
         let reach = reaches[done].before(alloc, goods, demand)?;

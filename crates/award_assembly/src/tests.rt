@@ -5,7 +5,7 @@ ghost use Rattle.lot_base.specs.Demands.{IsDemand};
 
 use crate::{Assembly, Choice, assemble};
 use demand_set::{Demand, DemandFault};
-use lot_base::{Bundle, Goods, Prices, RawDemand, compare};
+use lot_base::{Bundle, Goods, Prices, RawDemand, Sequence, compare};
 use std::alloc::Global;
 use std::cmp::Ordering;
 use std::process::Abort;
@@ -25,7 +25,7 @@ fn read(
     assert_eq!(rt; quantities.len() % count as usize, 0);
     let raw = RawDemand {
         goods: count,
-        quantities,
+        quantities: Sequence::from_vec(quantities),
     };
     Demand::read(alloc, goods, &raw)
 }
@@ -52,15 +52,20 @@ fn choice_of(
     rt: &impl Abort,
     alloc: Global,
     supply: &[u16],
+    opening: &[u32],
     prices: &[u32],
     demands: [&[u16]; 2],
 ) -> Result<Option<Choice>, Fail> {
     let goods = Goods::new(supply)?;
+    let opening = Prices::read(opening).ok_or("opening")?;
     let prices = Prices::read(prices).ok_or("prices")?;
-    assert_eq!(rt; prices.count(), goods.count());
+    assert_eq!(rt;
+        (opening.count(), prices.count()),
+        (goods.count(), goods.count())
+    );
     let first = read(rt, alloc, &goods, demands[0])?;
     let second = read(rt, alloc, &goods, demands[1])?;
-    match assemble(alloc, &goods, &prices, &[first, second])? {
+    match assemble(alloc, &goods, &opening, &prices, &[first, second])? {
         Assembly::Award(choice) => Ok(Some(choice)),
         Assembly::NoChoice => Ok(None),
     }
@@ -75,15 +80,19 @@ fn is_bundle(bundle: &Bundle, quantities: &[u16]) -> Result<bool, Fail> {
 fn awards_the_first_choice_that_clears(rt: HostRuntime) -> Result<(), Fail> {
     let both = [0, 1].as_slice();
     let upto_two = [0, 1, 2].as_slice();
-    for (supply, price, demands, first, second) in [
+    for (supply, opening, price, demands, first, second) in [
         // A unit with a price must be sold, and the first bundles do not sell it.
-        ([1], [4], [both, both], [0], [1]),
-        // Without a price it need not be.
-        ([1], [0], [both, both], [0], [0]),
+        ([1], [0], [4], [both, both], [0], [1]),
+        // Without a price, or at its opening, it need not be.
+        ([1], [0], [0], [both, both], [0], [0]),
+        ([1], [4], [4], [both, both], [0], [0]),
+        ([1], [3], [4], [both, both], [0], [1]),
         // Of several choices the one at the first places.
-        ([2], [1], [upto_two, upto_two], [0], [2]),
+        ([2], [0], [1], [upto_two, upto_two], [0], [2]),
     ] {
-        let choice = choice_of(&rt, rt.alloc(), &supply, &price, demands)?.ok_or("no choice")?;
+        let choice = choice_of(&rt, rt.alloc(), &supply, &opening, &price, demands)?.ok_or(
+            "no choice",
+        )?;
         assert_eq!(rt; choice.len(), 2);
         assert!(rt; is_bundle(&choice.get(0), &first)?, "at {price:?}");
         assert!(rt; is_bundle(&choice.get(1), &second)?, "at {price:?}");
@@ -94,7 +103,14 @@ fn awards_the_first_choice_that_clears(rt: HostRuntime) -> Result<(), Fail> {
 #[test]
 fn keeps_the_goods_apart(rt: HostRuntime) -> Result<(), Fail> {
     // (0,2) and (0,1) are three units of good 1, of which there are two; as places they add up to that of (1,0).
-    let choice = choice_of(&rt, rt.alloc(), &[1, 2], &[1, 0], [&[0, 2], &[0, 1, 1, 0]])?;
+    let choice = choice_of(
+        &rt,
+        rt.alloc(),
+        &[1, 2],
+        &[0, 0],
+        &[1, 0],
+        [&[0, 2], &[0, 1, 1, 0]],
+    )?;
     let bundles = choice.ok_or("no choice")?.into_vec();
     assert_eq!(rt; bundles.len(), 2);
     assert!(rt; is_bundle(&bundles[0], &[0, 2])?);
@@ -109,12 +125,13 @@ fn finds_no_choice(rt: HostRuntime) -> Result<(), Fail> {
         &rt,
         rt.alloc(),
         &[1, 1],
+        &[0, 1],
         &[2, 2],
         [&[0, 0], &[0, 0, 0, 1, 1, 0]],
     )?;
     assert!(rt; none.is_none());
     // Two units each of two.
-    let none = choice_of(&rt, rt.alloc(), &[2], &[0], [&[2], &[2]])?;
+    let none = choice_of(&rt, rt.alloc(), &[2], &[0], &[0], [&[2], &[2]])?;
     assert!(rt; none.is_none());
     Ok(())
 }
@@ -127,7 +144,7 @@ fn shares_a_large_supply_among_twelve(rt: HostRuntime) -> Result<(), Fail> {
     let prices = Prices::read(&[1]).ok_or("prices")?;
     assert_eq!(rt; prices.count(), goods.count());
     let demands = twelve(&rt, alloc, &goods, &[170, 177])?;
-    match assemble(alloc, &goods, &prices, &demands)? {
+    match assemble(alloc, &goods, &Prices::zero(&goods), &prices, &demands)? {
         Assembly::NoChoice => panic!(&rt; "no choice"),
         Assembly::Award(choice) => {
             assert_eq!(rt; choice.len(), 12);
@@ -141,12 +158,19 @@ fn shares_a_large_supply_among_twelve(rt: HostRuntime) -> Result<(), Fail> {
 }
 
 #[test]
-fn clears_without_demands_where_nothing_has_a_price(rt: HostRuntime) -> Result<(), Fail> {
+fn clears_without_demands_where_no_price_has_risen(rt: HostRuntime) -> Result<(), Fail> {
     let goods = Goods::new(&[1, 1])?;
-    for (prices, clears) in [([0, 0], true), ([0, 1], false)] {
+    for (opening, prices, clears) in [
+        ([0, 0], [0, 0], true),
+        ([0, 0], [0, 1], false),
+        ([3, 5], [3, 5], true),
+        ([3, 4], [3, 5], false),
+    ] {
+        let opening = Prices::read(&opening).ok_or("opening")?;
+        assert_eq!(rt; opening.count(), goods.count());
         let prices = Prices::read(&prices).ok_or("prices")?;
         assert_eq!(rt; prices.count(), goods.count());
-        match assemble(rt.alloc(), &goods, &prices, &[])? {
+        match assemble(rt.alloc(), &goods, &opening, &prices, &[])? {
             Assembly::Award(choice) => assert!(rt; clears && choice.len() == 0),
             Assembly::NoChoice => assert!(rt; !clears),
         }

@@ -1,8 +1,7 @@
-use Rattle.lot_base.specs.Goods.{zeros}
 use Rattle.lot_base.specs.Box.{bundle_at}
 use Rattle.lot_base.specs.Choices.{clears}
 use Rattle.award_assembly.proofs.Filling.{IsFilled}
 use Rattle.award_assembly.proofs.reach.Reach.last.Given as goal
 
 abbrev pub invariant-loop-place : goal.invariant-loop-place
-invariant-loop-place l = IsFilled (λ place. clears (zeros l.goods) l.prices (bundle_at l.goods place) l.goods) l.place l.totals.items
+invariant-loop-place l = IsFilled (λ place. clears l.opening l.prices (bundle_at l.goods place) l.goods) l.place l.totals.items
