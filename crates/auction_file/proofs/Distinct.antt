@@ -1,5 +1,5 @@
 -- No two goods, and no two bidders, of a file that is read have one name.
-use Rattle.std.proofs.Common.{◌≡◌, ◌≢◌, ℕ, ◌+◌, Bool, true, false, not, nat_le, ◌&&◌, List, [], ◌∷◌, ◌++◌, length, map, take, Ok, Err, Result, Option, Some, None, codes, refl, sym, ap, ◌∙◌, subst, append_assoc, length-append, inl, inr}
+use Rattle.std.proofs.Common.{◌≡◌, ◌≢◌, ℕ, ◌+◌, Bool, true, false, not, nat_le, ◌&&◌, List, [], ◌∷◌, ◌++◌, length, map, take, Ok, Err, Result, Some, None, codes, refl, sym, ap, ◌∙◌, subst, append_assoc, length-append, inl, inr}
 use Rattle.std.specs.List.{list_any, enumerate_from, AllByRecursion}
 use Rattle.std.specs.Option.{ok_or}
 use Rattle.std.specs.Str.{bytes_eq}
@@ -15,23 +15,12 @@ use Rattle.auction_file.specs.declared.goods_list.Good.{Good}
 use Rattle.auction_file.specs.declared.bidders_list.Bidder.{Bidder}
 use Rattle.auction_file.specs.Names.{is_name, name_of, AreDistinct}
 use Rattle.auction_file.specs.Tree.{◌>>=◌, all_of, check, value_at, string_at, array_at, table_of, known_keys}
-use Rattle.auction_file.specs.AuctionFile.{has_name, name_after, each, good_number, supply_at, digest_at, good_at, bidder_at, goods_of, bidders_of, sold, document_of, version_of, ceiling_of, auction_of, Listing}
+use Rattle.auction_file.specs.AuctionFile.{has_name, name_after, each, good_number, good_keys, supply_at, opening_at, digest_at, good_at, bidder_at, goods_of, bidders_of, sold, document_of, version_of, ceiling_of, auction_of, Listing}
 use Rattle.lot_base.specs.Limits.{supply_of}
+use Rattle.auction_file.proofs.Passed.{bind_ok, some_from_ok_or, same_Ok}
 use Rattle.auction_file.proofs.Turns.{Reader}
 
--- ---- what an answer without a fault shows
-
--- the first step had none, and the rest had none at its value
-bind_ok : {A B : Type 0} (r : Result A AuctionFault) (f : A → Result B AuctionFault) (y : B) → (r >>= f) ≡ Ok y → (x : A) × (r ≡ Ok x) × (f x ≡ Ok y)
-bind_ok (Ok x) f y h = (x, refl, h)
-bind_ok (Err refusal) f y h = cc h
-
-some_from_ok_or : {A : Type 0} (o : Option A) (refusal : AuctionFault) (x : A) → ok_or o refusal ≡ Ok x → o ≡ Some x
-some_from_ok_or (Some y) refusal x h = cc h
-some_from_ok_or None refusal x h = cc h
-
-same_Ok : {A : Type 0} (x y : A) → ◌≡◌ {A = Result A AuctionFault} (Ok x) (Ok y) → x ≡ y
-same_Ok x y h = cc h
+-- ---- the parts of an element
 
 check_passed : (b : Bool) (refusal : AuctionFault) (u : Unit {0}) → check (not b) refusal ≡ Ok u → b ≡ false
 check_passed true refusal u h = cc h
@@ -102,15 +91,16 @@ name_after-named key earlier t name h =
       fresh = check_passed (list_any (has_name text.0) earlier) _ untaken.0 untaken.1;
     })
 
-good_at-named : (earlier : List Data) (place : ℕ) (element : Data) (good : Good) → good_at earlier place element ≡ Ok good → IsNamed earlier element good.name
+good_at-named : (version ceiling : ℕ) (earlier : List Data) (place : ℕ) (element : Data) (good : Good) → good_at version ceiling earlier place element ≡ Ok good → IsNamed earlier element good.name
 unfolding good_at
-good_at-named earlier place element good h =
+good_at-named version ceiling earlier place element good h =
     let t = bind_ok (table_of (key.GoodTable (good_number place)) element) _ good h in
-    let keys = bind_ok (known_keys (codes "name" ∷ codes "supply" ∷ []) t.0) _ good t.2 in
+    let keys = bind_ok (known_keys (good_keys version) t.0) _ good t.2 in
     let name = bind_ok (name_after (key.GoodName (good_number place)) earlier t.0) _ good keys.2 in
     let supply = bind_ok (supply_at place t.0) _ good name.2 in
+    let opening = bind_ok (opening_at ceiling place t.0) _ good supply.2 in
     let is : element ≡ table t.0 = table_from_as_table element t.0 (some_from_ok_or (as_table element) _ t.0 t.1) in
-    let same : name.0 ≡ good.name = ap (λ (g : Good). g.name) (same_Ok (record { name = name.0; supply = supply.0 }) good supply.2) in
+    let same : name.0 ≡ good.name = ap (λ (g : Good). g.name) (same_Ok (record { name = name.0; supply = supply.0; opening = opening.0 }) good opening.2) in
     named-same earlier element (table t.0) name.0 good.name is same (name_after-named (key.GoodName (good_number place)) earlier t.0 name.0 name.1)
 
 bidder_at-named : (earlier : List Data) (place : ℕ) (element : Data) (bidder : Bidder) → bidder_at earlier place element ≡ Ok bidder → IsNamed earlier element bidder.name
@@ -188,11 +178,11 @@ module _ {A : Type 0} (f : Reader A) (name : A → List ℕ)
 
 -- ---- the names of a file
 
-goods_of-distinct : (file : Members) (goods : List Good) → goods_of file ≡ Ok goods → AreDistinct (map (λ good. good.name) goods)
+goods_of-distinct : (version ceiling : ℕ) (file : Members) (goods : List Good) → goods_of version ceiling file ≡ Ok goods → AreDistinct (map (λ good. good.name) goods)
 unfolding goods_of
-goods_of-distinct file goods h =
-    let elements = bind_ok (array_at key.Goods (codes "goods") file) (each good_at) goods h in
-    each-distinct good_at (λ good. good.name) good_at-named elements.0 goods elements.2
+goods_of-distinct version ceiling file goods h =
+    let elements = bind_ok (array_at key.Goods (codes "goods") file) (each (good_at version ceiling)) goods h in
+    each-distinct (good_at version ceiling) (λ good. good.name) (good_at-named version ceiling) elements.0 goods elements.2
 
 -- what follows the array of the bidders
 abbrev counted_bidders : List Data → Result (List Bidder) AuctionFault
@@ -221,9 +211,9 @@ auction_of-distinct bytes listing h =
     let keys = bind_ok (known_keys (codes "version" ∷ codes "ceiling" ∷ codes "goods" ∷ codes "bidders" ∷ []) file.0) _ listing file.2 in
     let version = bind_ok (version_of file.0) _ listing keys.2 in
     let ceiling = bind_ok (ceiling_of file.0) _ listing version.2 in
-    let goods = bind_ok (goods_of file.0) _ listing ceiling.2 in
+    let goods = bind_ok (goods_of version.0 ceiling.0 file.0) _ listing ceiling.2 in
     let supply = bind_ok (sold (supply_of (map (λ good. good.supply) goods.0))) _ listing goods.2 in
     let bidders = bind_ok (bidders_of file.0) _ listing supply.2 in
     let good_names : map (λ good. good.name) goods.0 ≡ listing.good_names = ap names_of_goods bidders.2 in
     let bidder_names : map (λ bidder. bidder.name) bidders.0 ≡ listing.bidder_names = ap names_of_bidders bidders.2 in
-    (subst AreDistinct good_names (goods_of-distinct file.0 goods.0 goods.1), subst AreDistinct bidder_names (bidders_of-distinct file.0 bidders.0 bidders.1))
+    (subst AreDistinct good_names (goods_of-distinct version.0 ceiling.0 file.0 goods.0 goods.1), subst AreDistinct bidder_names (bidders_of-distinct file.0 bidders.0 bidders.1))

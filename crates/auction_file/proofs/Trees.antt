@@ -1,22 +1,20 @@
 -- The tree of a table beside the map and the vectors that hold it.
-use Rattle.std.proofs.Common.{◌≡◌, ℕ, Bool, not, List, [], ◌∷◌, map, Option, Some, None, option_map, find, Less, String, Global, string_bytes, nat_cmp, refl, ap, ◌∙◌, sym, Bor, Vec, Ok, inl, inr}
+use Rattle.std.proofs.Common.{◌≡◌, ℕ, Bool, not, List, [], ◌∷◌, map, Option, Some, None, option_map, find, Less, String, Global, string_bytes, refl, ap, ◌∙◌, sym, Bor, Vec, Ok, inl, inr}
 use Rattle.std.specs.List.{list_any, AllByRecursion}
-use Rattle.std.specs.Map.{keys_of, lookup}
-use Rattle.std.specs.BTreeMap.{is_at}
+use Rattle.std.specs.Map.{keys_of}
 use Rattle.std.specs.Option.{ok_or}
 use Rattle.std.specs.Str.{bytes_eq}
 use Rattle.std.specs.String.{string_cmp}
-use Rattle.std.specs.Cmp.Lexicographic.{slice_cmp}
 use Rattle.std.specs.List.Sorted.{IsStrictlySortedBy}
 use Rattle.std.proofs.lemmas.Bool.{cases_Bool}
-use Rattle.toml.specs.Data.{Members, array}
+use Rattle.toml.specs.Data.{Members, array, get_member}
 use Rattle.toml.specs.View.{view, items_view, members_view}
 use Rattle.toml.specs.declared.value.Value.{Value, Array}
 use Rattle.auction_file.specs.Tree.{elements, least_unknown, lesser, value_at, array_at}
 use Rattle.auction_file.specs.Seen.{Gives}
 use Rattle.auction_file.specs.declared.faults.Key.{Key}
 use Rattle.auction_file.specs.declared.faults.AuctionFault.TheVariants.{Missing}
-use Rattle.toml.proofs.Views.{table_get, view-Array}
+use Rattle.toml.proofs.Views.{view-Array}
 
 pub elements-items_view : (vs : List Value) → elements (items_view vs) ≡ map view vs
 elements-items_view [] = refl
@@ -62,12 +60,11 @@ pub least_unknown-found : (r : Option (Bor (String Global))) (known : List (Bor 
     → option_map (λ k. string_bytes k.now) r ≡ least_unknown (map (λ k. k.now) known) (members_view es)
 least_unknown-found r known es ordered found = text_of_ref r ∙ ap (option_map string_bytes) found ∙ find-least_unknown known es ordered
 
--- what the map of a table has at a key, as a value that has to be there
-pub value_at-get : (r : Option (Bor Value)) (name : List ℕ) (es : List (String Global × Value)) (key : Key)
-    → option_map (λ x. x.now) r ≡ lookup (is_at (λ x. slice_cmp nat_cmp name (string_bytes x))) es
-    → Gives (λ v. view v.now) (ok_or r (Missing key)) (value_at key name (members_view es))
-value_at-get None name es key h = rw (← table_get None name es h)
-value_at-get (Some v) name es key h = rw (← table_get (Some v) name es h)
+-- a value that has to be there
+pub value_at-member : (r : Option (Bor Value)) (name : List ℕ) (table : Members) (key : Key) → option_map (λ v. view v.now) r ≡ get_member name table
+    → Gives (λ v. view v.now) (ok_or r (Missing key)) (value_at key name table)
+value_at-member None name table key h = rw (← h)
+value_at-member (Some v) name table key h = rw (← h)
 
 pub array_at-Array : (key : Key) (name : List ℕ) (table : Members) (v : Value) (vs : Vec Value Global) (items : List Value) → value_at key name table ≡ Ok (view v) → v ≡ Array vs → items ≡ vs.items
     → array_at key name table ≡ Ok (map view items)

@@ -20,16 +20,16 @@ abbrev pub rest_of : {A : Type 0} → Reader A → List Data → ℕ → Result 
 rest_of f ds k = all_of (map (λ e. f (take e.0 ds) e.0 e.1) (enumerate_from k (drop k ds)))
 
 -- what was read, before what the rest gives
-abbrev pub behind : {A : Type 0} → List A → Result (List A) AuctionFault → Result (List A) AuctionFault
-behind front read = read >>= (λ xs. Ok (front ++ xs))
+abbrev pub after : {A : Type 0} → List A → Result (List A) AuctionFault → Result (List A) AuctionFault
+after front read = read >>= (λ xs. Ok (front ++ xs))
 
-behind-one : {A : Type 0} (front : List A) (x : A) (read : Result (List A) AuctionFault) → behind front (read >>= (λ xs. Ok (x ∷ xs))) ≡ behind (front ++ x ∷ []) read
-behind-one front x (Ok xs) = ap Ok (sym (append_assoc front (x ∷ []) xs))
-behind-one front x (Err refusal) = refl
+after-one : {A : Type 0} (front : List A) (x : A) (read : Result (List A) AuctionFault) → after front (read >>= (λ xs. Ok (x ∷ xs))) ≡ after (front ++ x ∷ []) read
+after-one front x (Ok xs) = ap Ok (sym (append_assoc front (x ∷ []) xs))
+after-one front x (Err refusal) = refl
 
-behind-none : {A : Type 0} (read : Result (List A) AuctionFault) → behind [] read ≡ read
-behind-none (Ok xs) = refl
-behind-none (Err refusal) = refl
+after-none : {A : Type 0} (read : Result (List A) AuctionFault) → after [] read ≡ read
+after-none (Ok xs) = refl
+after-none (Err refusal) = refl
 
 rest_of-step : {A : Type 0} (f : Reader A) (ds : List Data) (k : ℕ) (d : Data) → k < length ds
     → rest_of f ds k ≡ (f (take k ds) k (get_or ds k d) >>= (λ x. rest_of f ds (k + 1) >>= (λ xs. Ok (x ∷ xs))))
@@ -37,8 +37,8 @@ rest_of-step f ds k d within =
     let one : k + 1 ≡ suc k = omega arith in
     rw (drop-cons ds k d within, one)
 
-pub rest_of-start : {A : Type 0} (f : Reader A) (ds : List Data) → behind [] (rest_of f ds 0) ≡ each f ds
-rest_of-start f ds = behind-none (rest_of f ds 0)
+pub rest_of-start : {A : Type 0} (f : Reader A) (ds : List Data) → after [] (rest_of f ds 0) ≡ each f ds
+rest_of-start f ds = after-none (rest_of f ds 0)
 
 rest_of-end : {A : Type 0} (f : Reader A) (ds : List Data) (k : ℕ) → length ds ≡ k → rest_of f ds k ≡ Ok []
 rest_of-end f ds k e = rw (← e, drop-length ds)
@@ -55,23 +55,23 @@ rest_of-view f vs k v within at =
 
 -- one element more, which was read
 pub each-turn : {A : Type 0} (f : Reader A) (vs : List Value) (k : ℕ) (v : Value) (front : List A) (x : A) → k < length vs → v ≡ get_or vs k v
-    → f (map view (take k vs)) k (view v) ≡ Ok x → behind front (rest_of f (map view vs) k) ≡ each f (map view vs)
-    → behind (front ++ x ∷ []) (rest_of f (map view vs) (k + 1)) ≡ each f (map view vs)
+    → f (map view (take k vs)) k (view v) ≡ Ok x → after front (rest_of f (map view vs) k) ≡ each f (map view vs)
+    → after (front ++ x ∷ []) (rest_of f (map view vs) (k + 1)) ≡ each f (map view vs)
 each-turn f vs k v front x within at read so_far =
     let step = rest_of-view f vs k v within at in
-    sym (behind-one front x (rest_of f (map view vs) (k + 1))) ∙ ap (behind front) (sym (rw read at step)) ∙ so_far
+    sym (after-one front x (rest_of f (map view vs) (k + 1))) ∙ ap (after front) (sym (rw read at step)) ∙ so_far
 
 -- one element more, which is refused
 pub each-refused : {A : Type 0} (f : Reader A) (vs : List Value) (k : ℕ) (v : Value) (front : List A) (refusal : AuctionFault) → k < length vs → v ≡ get_or vs k v
-    → f (map view (take k vs)) k (view v) ≡ Err refusal → behind front (rest_of f (map view vs) k) ≡ each f (map view vs)
+    → f (map view (take k vs)) k (view v) ≡ Err refusal → after front (rest_of f (map view vs) k) ≡ each f (map view vs)
     → each f (map view vs) ≡ Err refusal
 each-refused f vs k v front refusal within at read so_far =
     let step = rest_of-view f vs k v within at in
-    sym so_far ∙ ap (behind front) (rw read at step)
+    sym so_far ∙ ap (after front) (rw read at step)
 
 -- no element more
 pub each-done : {A : Type 0} (f : Reader A) (vs : List Value) (k : ℕ) (front : List A) → length vs ≡ k
-    → behind front (rest_of f (map view vs) k) ≡ each f (map view vs) → each f (map view vs) ≡ Ok front
+    → after front (rest_of f (map view vs) k) ≡ each f (map view vs) → each f (map view vs) ≡ Ok front
 each-done f vs k front end so_far =
     let none = rest_of-end f (map view vs) k (length-map vs view ∙ end) in
-    sym so_far ∙ ap (behind front) none ∙ ap Ok (append-nil front)
+    sym so_far ∙ ap (after front) none ∙ ap Ok (append-nil front)

@@ -1,24 +1,26 @@
 -- What an auction file says, or the first fault of it. The file is a TOML table with these keys, looked at in this order:
 --
---     version    1
+--     version    1 or 2
 --     ceiling    2 to 10,000
---     goods      an array of tables, each with a name, and a supply of 0 to 65,535
+--     goods      an array of tables, each with a name, a supply of 0 to 65,535, and in version 2, where it is named, an opening
+--                of 0 to the ceiling less 1
 --     bidders    an array of 1 to 12 tables, each with a name, and the SHA-256 of its token as 64 hexadecimal digits
 --
 -- Sources: TOML 1.1 (https://toml.io/en/v1.1.0) as `toml` reads it, SHA-256 of FIPS 180-4 as `sha2` computes it,
 -- hexadecimal digits of either case as `hex` reads them.
 -- Odd cases: bytes that are not UTF-8 are no TOML. An array of inline tables is the same tree as an array of tables. An empty
 -- `goods` has the fault of no goods, and an empty `bidders` that of 0 bidders. A name is taken where an earlier element of its
--- array has it. Goods are counted from 0 and bidders from 1; a number that its type cannot hold stands at the type's end,
--- 4,294,967,295 in a key and 255 in the fault of a supply.
-use Rattle.std.specs.Prelude.{ℕ, ◌+◌, ◌-◌, ◌^◌, nat_le, min, codes, Bool, ◌&&◌, not, false, List, [], ◌∷◌, length, map, take, Result, Ok, Err, option_and_then}
+-- array has it. A good without an opening opens at 0, and in version 1 an opening is an unknown key. Goods are counted from 0
+-- and bidders from 1; a number that its type cannot hold stands at the type's end, 4,294,967,295 in a key and in the fault of an
+-- opening, and 255 in the fault of a supply.
+use Rattle.std.specs.Prelude.{ℕ, ◌+◌, ◌-◌, ◌^◌, nat_le, min, codes, Bool, ◌&&◌, ◌==◌, if◌then◌else◌, not, false, List, [], ◌∷◌, length, map, take, Option, Some, None, Result, Ok, Err, option_and_then}
 use Rattle.std.specs.List.{list_any, enumerate_from}
 use Rattle.std.specs.Option.{ok_or, option_map_or}
 use Rattle.std.specs.Result.{result_ok}
 use Rattle.std.specs.Str.{bytes_eq, is_utf8}
 use Rattle.lot_base.specs.Limits.{supply_of}
 use Rattle.lot_base.specs.declared.supply.GoodsFault.{GoodsFault}
-use Rattle.toml.specs.Data.{Data, Members, get, as_str}
+use Rattle.toml.specs.Data.{Data, Members, get, get_member, as_integer, as_str}
 use Rattle.toml.specs.Parse.{parse_document}
 use Rattle.sha2.specs.Sha256.{sha256}
 use Rattle.hex.specs.Hex.{decode_sized}
@@ -31,10 +33,12 @@ use Rattle.auction_file.specs.declared.bidders_list.Bidder.{Bidder}
 use Rattle.auction_file.specs.Names.{name_of}
 use Rattle.auction_file.specs.Tree.{◌>>=◌, all_of, check, integer_at, string_at, array_at, table_of, known_keys, ranged}
 
--- what a seller offers, to whom and up to which price
+-- what a seller offers, to whom, and from which price up to which
 pub record Listing : Type 0 where
+  pub version : ℕ
   pub supply : List ℕ
   pub ceiling : ℕ
+  pub opening : List ℕ
   pub good_names : List (List ℕ)
   pub bidder_names : List (List ℕ)
   pub token_digests : List (List ℕ)
@@ -47,7 +51,7 @@ document_of bytes = do
   ok_or (parse_document bytes) fault.NotToml
 
 unfoldable pub version_of : Members → Result ℕ AuctionFault
-version_of file = integer_at key.Version (codes "version") file >>= ranged 1 1 fault.Version
+version_of file = integer_at key.Version (codes "version") file >>= ranged 1 2 fault.Version
 
 unfoldable pub ceiling_of : Members → Result ℕ AuctionFault
 ceiling_of file = integer_at key.Ceiling (codes "ceiling") file >>= ranged 2 10000 fault.Ceiling
@@ -56,7 +60,7 @@ ceiling_of file = integer_at key.Ceiling (codes "ceiling") file >>= ranged 2 100
 abbrev pub has_name : List ℕ → Data → Bool
 has_name name element = option_map_or (bytes_eq name) (option_and_then as_str (get (codes "name") element)) false
 
--- the name of an element that stands behind these
+-- the name of an element that stands after these
 unfoldable pub name_after : Key → List Data → Members → Result (List ℕ) AuctionFault
 name_after key earlier table = do
   text ← string_at key (codes "name") table
@@ -68,7 +72,7 @@ name_after key earlier table = do
 abbrev pub each : {A : Type 0} → (List Data → ℕ → Data → Result A AuctionFault) → List Data → Result (List A) AuctionFault
 each f elements = all_of (map (λ e. f (take e.0 elements) e.0 e.1) (enumerate_from 0 elements))
 
--- a good's number in a key, and in the fault of its supply
+-- a good's number in a key and in the fault of its opening, and in the fault of its supply
 abbrev pub good_number : ℕ → ℕ
 good_number place = min place (2 ^ 32 - 1)
 
@@ -79,16 +83,30 @@ unfoldable pub supply_at : ℕ → Members → Result ℕ AuctionFault
 supply_at place table =
     integer_at (key.Supply (good_number place)) (codes "supply") table >>= ranged 0 65535 (fault.BadSupply (short_number place))
 
-unfoldable pub good_at : List Data → ℕ → Data → Result Good AuctionFault
-good_at earlier place element = do
+-- the keys of a good
+abbrev pub good_keys : ℕ → List (List ℕ)
+good_keys version = if version == 2 then codes "name" ∷ codes "supply" ∷ codes "opening" ∷ [] else codes "name" ∷ codes "supply" ∷ []
+
+-- the price at which a good opens: what its key holds, and 0 where the key is absent
+abbrev pub opening_in : (ceiling place : ℕ) → Option Data → Result ℕ AuctionFault
+opening_in ceiling place None = Ok 0
+opening_in ceiling place (Some value) =
+    ok_or (as_integer value) (fault.WrongKind (key.Opening (good_number place))) >>= ranged 0 (ceiling - 1) (fault.Opening (good_number place))
+
+unfoldable pub opening_at : (ceiling place : ℕ) → Members → Result ℕ AuctionFault
+opening_at ceiling place table = opening_in ceiling place (get_member (codes "opening") table)
+
+unfoldable pub good_at : (version ceiling : ℕ) → List Data → ℕ → Data → Result Good AuctionFault
+good_at version ceiling earlier place element = do
   table ← table_of (key.GoodTable (good_number place)) element
-  _ ← known_keys (codes "name" ∷ codes "supply" ∷ []) table
+  _ ← known_keys (good_keys version) table
   name ← name_after (key.GoodName (good_number place)) earlier table
   supply ← supply_at place table
-  Ok (record { name = name; supply = supply })
+  opening ← opening_at ceiling place table
+  Ok (record { name = name; supply = supply; opening = opening })
 
-unfoldable pub goods_of : Members → Result (List Good) AuctionFault
-goods_of file = array_at key.Goods (codes "goods") file >>= each good_at
+unfoldable pub goods_of : (version ceiling : ℕ) → Members → Result (List Good) AuctionFault
+goods_of version ceiling file = array_at key.Goods (codes "goods") file >>= each (good_at version ceiling)
 
 -- the supplies, if they can be sold
 abbrev pub sold : Result (List ℕ) GoodsFault → Result (List ℕ) AuctionFault
@@ -119,14 +137,16 @@ unfoldable pub auction_of : List ℕ → Result Listing AuctionFault
 auction_of bytes = do
   file ← document_of bytes
   _ ← known_keys (codes "version" ∷ codes "ceiling" ∷ codes "goods" ∷ codes "bidders" ∷ []) file
-  _ ← version_of file
+  version ← version_of file
   ceiling ← ceiling_of file
-  goods ← goods_of file
+  goods ← goods_of version ceiling file
   supply ← sold (supply_of (map (λ good. good.supply) goods))
   bidders ← bidders_of file
   Ok (record {
+    version = version;
     supply = supply;
     ceiling = ceiling;
+    opening = map (λ good. good.opening) goods;
     good_names = map (λ good. good.name) goods;
     bidder_names = map (λ bidder. bidder.name) bidders;
     token_digests = map (λ bidder. bidder.digest) bidders;

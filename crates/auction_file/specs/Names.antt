@@ -1,5 +1,5 @@
 -- The names of goods and bidders: 1 to 32 bytes, each a lower-case ASCII letter, a digit or a hyphen. No byte and 33 bytes
--- are no name. A name is kept in 32 cells, with zeros behind its bytes.
+-- are no name. A name is kept in 32 cells, with zeros after its bytes.
 use Rattle.std.specs.Prelude.{◌≡◌, ◌≢◌, ◌≤◌, ℕ, ◌-◌, ◌==◌, nat_le, Bool, true, ◌&&◌, ◌||◌, if◌then◌else◌, List, [], ◌∷◌, ◌++◌, length, take, replicate, Option, Some, None}
 use Rattle.std.specs.List.{list_all, AllByRecursion}
 

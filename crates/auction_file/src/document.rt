@@ -2,6 +2,7 @@
 ghost use Rattle.std.specs.Prelude.{◌≡◌, ◌≢◌, map, option_map, string_bytes};
 ghost use Rattle.std.specs.List.{list_any};
 ghost use Rattle.std.specs.Str.{bytes_eq};
+ghost use Rattle.toml.specs.Data.{get_member};
 ghost use Rattle.toml.specs.View.{view, table_view};
 ghost use Rattle.auction_file.specs.Tree.{value_at, integer_at, string_at, array_at, table_of, least_unknown, known_keys, within};
 ghost use Rattle.auction_file.specs.Seen.{Gives, GivesIfRoom};
@@ -10,11 +11,18 @@ use crate::faults::{AuctionFault, Key, KeyText};
 use std::alloc::Global;
 use toml::{Table, Value};
 
+/// The value at a key, if it is there.
+pub(crate) fn member<'a>(table: &'a Table, name: &str) -> Option<&'a Value>
+    ensures { option_map (λ v. view v.now) result ≡ get_member name.now (table_view table.now) }
+{
+    table.get(name)
+}
+
 /// The value at a key that has to be there.
 fn value_at<'a>(table: &'a Table, name: &str, key: Key) -> Result<&'a Value, AuctionFault>
     ensures { Gives (λ v. view v.now) result (value_at key name.now (table_view table.now)) }
 {
-    table.get(name).ok_or(AuctionFault::Missing(key))
+    member(table, name).ok_or(AuctionFault::Missing(key))
 }
 
 /// The integer at a key.

@@ -9,7 +9,7 @@ use crate::faults::{AuctionFault, Key};
 use crate::naming::Name;
 use toml::{Table, Value};
 
-/// The name of an element that stands behind these.
+/// The name of an element that stands after these.
 #[tactic(auto, unfolding(crate::specs::AuctionFile::name_after))]
 pub(crate) fn name_after(earlier: &[Value], table: &Table, key: Key) -> Result<Name, AuctionFault>
     ensures { result ≡ name_after key (map view earlier.now) (table_view table.now) }

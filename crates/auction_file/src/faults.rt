@@ -18,6 +18,7 @@ pub enum Key {
     GoodTable(u32),
     GoodName(u32),
     Supply(u32),
+    Opening(u32),
     BidderTable(u32),
     BidderName(u32),
     Token(u32),
@@ -82,13 +83,15 @@ pub enum AuctionFault {
     Repeated(Key),
     /// The least key, in byte order, that the format does not know in its table.
     UnknownKey(KeyText),
-    /// The version is not 1.
+    /// The version is neither 1 nor 2.
     Version(i64),
     /// The string is no name.
     BadName(Key),
     /// The supply is not 0 to 65,535. `good` is 255 where the good's place is larger.
     BadSupply { good: u8, value: i64 },
-    /// Want of memory.
+    /// The opening price is not 0 to the ceiling less 1. The good is counted as in a key.
+    Opening { good: u32, value: i64 },
+    /// Out of memory.
     NoMemory,
 }
 

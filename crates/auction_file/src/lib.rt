@@ -1,4 +1,4 @@
-//! The auction file: what a seller offers, to whom and up to which price, read from TOML.
+//! The auction file: what a seller offers, to whom, and from which price up to which, read from TOML.
 #![tactic(auto)]
 
 mod bidders_list;
@@ -14,6 +14,6 @@ pub mod reader;
 mod tests;
 
 pub use faults::{AuctionFault, Key, KeyText};
-pub use listing::{Auction, TokenDigests};
-pub use naming::{Name, Names};
+pub use listing::Auction;
+pub use naming::Name;
 pub use reader::{MOST_BYTES, read};

@@ -71,7 +71,7 @@ fn is_name_byte(byte: u8) -> bool
     matches!(byte, b'a'..=b'z' | b'0'..=b'9' | b'-')
 }
 
-/// The bytes, and zeros behind them.
+/// The bytes, and zeros after them.
 fn name_cells(bytes: &[u8]) -> [u8; 32]
     requires { length bytes.now ≤ 32 }
     ensures { result ≡ padded bytes.now }
@@ -79,41 +79,4 @@ fn name_cells(bytes: &[u8]) -> [u8; 32]
     let mut cells = [0u8; 32];
     cells[..bytes.len()].copy_from_slice(bytes);
     cells
-}
-
-/// Names in order, seen as the list of the names.
-#[derive(Debug, Drop)]
-pub struct Names {
-    items: Vec<Name>,
-}
-
-impl Model for Names {
-    ghost use Rattle.std.specs.Prelude.{ℕ, List};
-
-    ghost Value = { List (List ℕ) };
-
-    ghost view = { λ names. names.items.items };
-}
-
-impl Names {
-    /// The names of the vector.
-    pub fn new(items: Vec<Name>) -> Names
-        ensures { result ≡ items.items }
-    {
-        Names { items }
-    }
-
-    /// All of the names.
-    pub fn as_slice(&self) -> &[Name]
-        ensures { result.now ≡ self.now }
-    {
-        self.items.as_slice()
-    }
-
-    /// The names as a vector.
-    pub fn into_vec(self) -> Vec<Name>
-        ensures { result.items ≡ self }
-    {
-        self.items
-    }
 }

@@ -1,18 +1,20 @@
 //! Reading an auction file.
 ghost use Rattle.std.specs.Prelude.{◌≡◌, ◌≢◌, ◌≤◌, length, map, IfOk, IfErr, Ok, Err};
+ghost use Rattle.sha2.specs.Sha256.{sha256};
 ghost use Rattle.toml.specs.View.{table_view};
+ghost use Rattle.std.specs.List.{AllByRecursion};
+ghost use Rattle.lot_base.specs.Goods.{IsRange};
 ghost use Rattle.lot_base.specs.Limits.{supply_of};
 ghost use Rattle.auction_file.specs.AuctionFile.{document_of, version_of, ceiling_of, sold, auction_of};
-ghost use Rattle.auction_file.specs.Listing.{listing_of, listing};
+ghost use Rattle.auction_file.specs.Listing.{IsOpened, IsTermsFor, listing_of, listing};
 ghost use Rattle.auction_file.specs.Seen.{GivesIfRoom};
 
 use crate::bidders_list::{Bidder, bidder_names, bidders_of, token_digests};
 use crate::document::{integer_at, known_keys, within};
 use crate::faults::{AuctionFault, Key};
-use crate::goods_list::{Good, good_names, goods_of};
-use crate::listing::{Auction, TokenDigests};
-use crate::naming::Names;
-use lot_base::{Goods, Terms};
+use crate::goods_list::{Good, good_names, goods_of, opening_prices};
+use crate::listing::Auction;
+use lot_base::{Goods, Prices, Sequence, Terms};
 use sha2::{Digest, Sha256};
 use std::alloc::{AllocError, Global};
 use toml::Table;
@@ -32,13 +34,14 @@ fn document_of(alloc: Global, bytes: &[u8]) -> Result<Table, AuctionFault>
     }
 }
 
-/// The version of the format, which is 1.
+/// The version of the format, which is 1 or 2.
 #[tactic(auto, unfolding(crate::specs::AuctionFile::version_of))]
 fn version_of(file: &Table) -> Result<u16, AuctionFault>
-    ensures { result ≡ version_of (table_view file.now) }
+    ensures version { result ≡ version_of (table_view file.now) }
+    ensures range { IfOk result (λ version. IsRange 1 2 version) }
 {
     let value = integer_at(file, "version", Key::Version)?;
-    within(value, 1, 1).ok_or(AuctionFault::Version(value))
+    within(value, 1, 2).ok_or(AuctionFault::Version(value))
 }
 
 /// The ceiling of the prices.
@@ -64,6 +67,49 @@ fn sold(alloc: Global, goods: &[Good]) -> Result<Goods, AuctionFault>
     }
 }
 
+/// The opening prices of 1 to 6 goods.
+fn opening_of(alloc: Global, goods: &[Good]) -> Result<Prices, AllocError>
+    requires some { 1 ≤ length goods.now }
+    requires few { length goods.now ≤ 6 }
+    ensures { IfOk result (λ prices. prices ≡ map (λ good. good.opening) goods.now) }
+{
+    let opening = opening_prices(alloc, goods)?;
+    let Some(prices) = Prices::read(opening.as_slice()) else {
+        unreachable!()
+    };
+    Ok(prices)
+}
+
+/// The terms on which these goods are sold.
+fn terms_of(
+    alloc: Global,
+    version: u16,
+    ceiling: u16,
+    goods: &[Good],
+    supply: Goods,
+    bidders: u8,
+) -> Result<Terms, AllocError>
+    requires version { IsRange 1 2 version }
+    requires ceiling { IsRange 2 10000 ceiling }
+    requires opened { AllByRecursion (IsOpened version ceiling) goods.now }
+    requires goods { length supply ≡ length goods.now }
+    requires bidders { IsRange 1 12 bidders }
+    ensures { IfOk result (λ terms. IsTermsFor version ceiling goods.now supply bidders terms) }
+{
+    if version == 1 {
+        let Ok(terms) = Terms::new(supply, bidders, u32::from(ceiling)) else {
+            unreachable!()
+        };
+        return Ok(terms);
+    }
+    let _goods = supply.count();
+    let opening = opening_of(alloc, goods)?;
+    let Ok(terms) = Terms::with_opening(supply, bidders, u32::from(ceiling), opening) else {
+        unreachable!()
+    };
+    Ok(terms)
+}
+
 /// The auction of these goods and bidders.
 fn auction_from(
     alloc: Global,
@@ -78,30 +124,36 @@ fn auction_from(
 {
     Ok(Auction {
         terms,
-        good_names: Names::new(good_names(alloc, goods)?),
-        bidder_names: Names::new(bidder_names(alloc, bidders)?),
-        token_digests: TokenDigests::new(token_digests(alloc, bidders)?),
+        good_names: Sequence::from_vec(good_names(alloc, goods)?),
+        bidder_names: Sequence::from_vec(bidder_names(alloc, bidders)?),
+        token_digests: Sequence::from_vec(token_digests(alloc, bidders)?),
         digest,
     })
+}
+
+/// The SHA-256 of the bytes.
+fn file_digest(bytes: &[u8]) -> [u8; 32]
+    ensures { result ≡ sha256 bytes.now }
+{
+    Sha256::digest(bytes)
 }
 
 /// The auction that the bytes of an auction file say, or the first fault in the order of the format.
 #[tactic(auto, unfolding(crate::specs::AuctionFile::auction_of))]
 pub fn read(alloc: Global, bytes: &[u8]) -> Result<Auction, AuctionFault>
-    requires { length bytes.now ≤ 65536 }
+    requires { length bytes.now ≤ MOST_BYTES }
     ensures read { IfOk result (λ auction. auction_of bytes.now ≡ Ok (listing_of auction)) }
     ensures refused { IfErr result (λ fault. fault ≢ AuctionFault.NoMemory → auction_of bytes.now ≡ Err fault) }
 {
     let file = document_of(alloc, bytes)?;
     known_keys(alloc, &file, &["version", "ceiling", "goods", "bidders"])?;
-    version_of(&file)?;
+    let version = version_of(&file)?;
     let ceiling = ceiling_of(&file)?;
-    let goods = goods_of(alloc, &file)?;
+    let goods = goods_of(alloc, version, ceiling, &file)?;
     let supply = sold(alloc, goods.as_slice())?;
     let bidders = bidders_of(alloc, &file)?;
-    let Ok(terms) = Terms::new(supply, bidders.len() as u8, u32::from(ceiling)) else {
-        unreachable!()
-    };
-    let digest = Sha256::digest(bytes);
+    let count = bidders.len() as u8;
+    let terms = terms_of(alloc, version, ceiling, goods.as_slice(), supply, count)?;
+    let digest = file_digest(bytes);
     Ok(auction_from(alloc, terms, goods.as_slice(), bidders.as_slice(), digest)?)
 }

@@ -1,7 +1,7 @@
 //! What the clauses do not say: that calls succeed with ample memory, and values from outside. Digests are those of
 //! `sha256sum`; the faults are those of the format, read by hand.
-use crate::{AuctionFault, KeyText, MOST_BYTES, Name, Names, TokenDigests, read};
-use std::alloc::{AllocError, Global};
+use crate::{AuctionFault, KeyText, MOST_BYTES, read};
+use std::alloc::AllocError;
 use std::process::Abort;
 use std::test::Fail;
 
@@ -9,13 +9,33 @@ mod accepted;
 mod faults;
 mod odd;
 mod order;
+mod reserves;
 
 const HEAD: &str = "version = 1\nceiling = 10\n";
+
+const HEAD_2: &str = "version = 2\nceiling = 10\n";
 
 const GOODS: &str = r#"
 [[goods]]
 name = "oil"
 supply = 1
+"#;
+
+/// Goods of version 2.
+const THREE_GOODS: &str = r#"
+[[goods]]
+name = "oil"
+supply = 1
+opening = 9
+
+[[goods]]
+name = "gas"
+supply = 2
+
+[[goods]]
+opening = 0x4
+name = "coal"
+supply = 3
 "#;
 
 const BIDDERS: &str = r#"

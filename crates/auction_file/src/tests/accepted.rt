@@ -1,5 +1,7 @@
 //! Files that are read, with their values.
 use super::*;
+use crate::{Auction, Name};
+use lot_base::{Sequence, Terms};
 
 /// The text of `examples/spectrum.toml`.
 const SPECTRUM: &str =
@@ -38,61 +40,139 @@ name = "upland-link"
 token = "0468b5c359300d77ace154e326fc59c4f0bdb9d6dd0f275ccb855baf46f23973"
 "#;
 
-/// 64 hexadecimal digits as 32 bytes.
-fn digest(digits: &str) -> Option<[u8; 32]> {
-    <[u8; 32] as hex::FromHex>::from_hex(digits).ok()
+/// The text of `examples/reserves.toml`.
+const RESERVES: &str =
+    r#"# Two licences offered to three operators, neither for less than 5. Prices are in thousands per licence.
+#
+# The key `opening` has the reserve price, at which each clock opens. The key `token` has the SHA-256 of the operator's token. The
+# tokens of ada, bob and cyd are reed-5102, mole-3380 and kite-9046.
+version = 2
+ceiling = 100
+
+[[goods]]
+name = "licence"
+supply = 2
+opening = 5
+
+[[bidders]]
+name = "ada"
+token = "fe8287710f16305de549bc7176623b17fbd71bb18e47a759861f52d9b6d5b3a7"
+
+[[bidders]]
+name = "bob"
+token = "186cb3edf481bb94d01b6270ca66191577009644a540cd21dd987c6e09cc0200"
+
+[[bidders]]
+name = "cyd"
+token = "0f52853b8c900975f88874a5c08a6eb81c2b47010c40cb9ff42ccd0b2f1d6170"
+"#;
+
+/// The auction of this text.
+fn auction_of(rt: &(impl AllocGlobal + Abort), text: &str) -> Auction {
+    assert!(rt; text.len() <= MOST_BYTES);
+    match read(rt.alloc(), text.as_bytes()) {
+        Ok(auction) => auction,
+        Err(fault) => panic!(rt; "{fault:?}"),
+    }
+}
+
+/// Whether these are the digits of the digest.
+fn is_digest(found: [u8; 32], digits: &str) -> bool {
+    match <[u8; 32] as hex::FromHex>::from_hex(digits) {
+        Ok(digest) => digest == found,
+        Err(_) => false,
+    }
+}
+
+/// Whether the name at this place, of so many, is this one.
+fn is_name_at(names: &Sequence<Name>, place: usize, count: usize, name: &str) -> bool {
+    match names.as_slice().get(place) {
+        Some(found) => found.as_bytes() == name.as_bytes() && names.as_slice().len() == count,
+        None => false,
+    }
+}
+
+/// Whether the token at this place, of so many, has these digits.
+fn is_token_at(tokens: &Sequence<[u8; 32]>, place: usize, count: usize, digits: &str) -> bool {
+    match tokens.as_slice().get(place) {
+        Some(found) => is_digest(*found, digits) && tokens.as_slice().len() == count,
+        None => false,
+    }
+}
+
+/// The terms in words: the version, the goods and their bundles, the bidders, the ceiling and the opening prices.
+fn words_of(rt: &impl AllocGlobal, terms: &Terms) -> Result<String, AllocError> {
+    let version = terms.version;
+    let goods = terms.goods.count();
+    let bundles = terms.goods.box_size();
+    let bidders = terms.bidders;
+    let ceiling = terms.ceiling;
+    let opening = terms.opening.as_slice();
+    format!(in rt.alloc();
+        "{version}: {goods} goods, {bundles} bundles, {bidders} bidders, {ceiling}, {opening:?}"
+    )
+}
+
+/// The terms of this text in words.
+fn terms_of(rt: &(impl AllocGlobal + Abort), text: &str) -> Result<String, AllocError> {
+    let auction = auction_of(rt, text);
+    words_of(rt, &auction.terms)
 }
 
 #[test]
 fn reads_two_bidders_for_oil(rt: HostRuntime) -> Result<(), Fail> {
     let text = format!(in rt.alloc(); "{HEAD}{GOODS}{BIDDERS}")?;
-    assert!(rt; text.len() <= MOST_BYTES);
-    let auction = match read(rt.alloc(), text.as_bytes()) {
-        Ok(auction) => auction,
-        Err(fault) => panic!(rt; "{fault:?}"),
-    };
-    assert_eq!(rt; auction.terms.goods.count(), 1);
-    assert_eq!(rt; auction.terms.goods.box_size(), 2);
-    assert_eq!(rt; auction.terms.bidders, 2);
-    assert_eq!(rt; auction.terms.ceiling, 10);
-    let goods = auction.good_names.as_slice();
-    assert_eq!(rt; goods.len(), 1);
-    assert_eq!(rt; goods[0].as_bytes(), b"oil".as_slice());
-    let bidders = auction.bidder_names.as_slice();
-    assert_eq!(rt; bidders.len(), 2);
-    assert_eq!(rt; bidders[0].as_bytes(), b"ada".as_slice());
-    assert_eq!(rt; bidders[1].as_bytes(), b"bob".as_slice());
-    let tokens = auction.token_digests.as_slice();
-    assert_eq!(rt; tokens.len(), 2);
-    assert_eq!(rt;
-        Some(tokens[0]),
-        digest("ba7816bf8f01cfea414140de5dae2223b00361a396177a9cb410ff61f20015ad")
-    );
-    assert_eq!(rt;
-        Some(tokens[1]),
-        digest("2cf24dba5fb0a30e26e83b2ac5b9e29e1b161e5c1fa7425e73043362938b9824")
-    );
-    let of_file = digest("6e93b44239fde4c8a23bf3f02acc4951ba3b8c668825df3223f9b93afbdc3e77");
-    assert_eq!(rt; Some(auction.digest), of_file);
+    let auction = auction_of(&rt, text.as_str());
+    let found = words_of(&rt, &auction.terms)?;
+    assert_eq!(rt; found.as_str(), "1: 1 goods, 2 bundles, 2 bidders, 10, [0]");
+    assert!(rt; is_name_at(&auction.good_names, 0, 1, "oil"));
+    assert!(rt; is_name_at(&auction.bidder_names, 0, 2, "ada"));
+    assert!(rt; is_name_at(&auction.bidder_names, 1, 2, "bob"));
+    let ada = "ba7816bf8f01cfea414140de5dae2223b00361a396177a9cb410ff61f20015ad";
+    assert!(rt; is_token_at(&auction.token_digests, 0, 2, ada));
+    let bob = "2cf24dba5fb0a30e26e83b2ac5b9e29e1b161e5c1fa7425e73043362938b9824";
+    assert!(rt; is_token_at(&auction.token_digests, 1, 2, bob));
+    let of_file = "6e93b44239fde4c8a23bf3f02acc4951ba3b8c668825df3223f9b93afbdc3e77";
+    assert!(rt; is_digest(auction.digest, of_file));
     Ok(())
 }
 
 #[test]
-fn reads_the_example(rt: HostRuntime) -> Result<(), Fail> {
-    assert!(rt; SPECTRUM.len() <= MOST_BYTES);
-    let auction = match read(rt.alloc(), SPECTRUM.as_bytes()) {
-        Ok(auction) => auction,
-        Err(fault) => panic!(rt; "{fault:?}"),
-    };
-    assert_eq!(rt; auction.terms.goods.count(), 3);
-    assert_eq!(rt; auction.terms.goods.box_size(), 60);
-    assert_eq!(rt; auction.terms.bidders, 4);
-    assert_eq!(rt; auction.terms.ceiling, 1000);
-    let bidders = auction.bidder_names.as_slice();
-    assert_eq!(rt; bidders.len(), 4);
-    assert_eq!(rt; bidders[3].as_bytes(), b"upland-link".as_slice());
-    let of_file = digest("bed3ff8b108e60d7f3222e856133c405a6b89ce144c67078973472783ad47ba6");
-    assert_eq!(rt; Some(auction.digest), of_file);
+fn reads_the_examples(rt: HostRuntime) -> Result<(), Fail> {
+    let auction = auction_of(&rt, SPECTRUM);
+    let found = words_of(&rt, &auction.terms)?;
+    assert_eq!(rt;
+        found.as_str(),
+        "1: 3 goods, 60 bundles, 4 bidders, 1000, [0, 0, 0]"
+    );
+    assert!(rt; is_name_at(&auction.bidder_names, 3, 4, "upland-link"));
+    let of_file = "bed3ff8b108e60d7f3222e856133c405a6b89ce144c67078973472783ad47ba6";
+    assert!(rt; is_digest(auction.digest, of_file));
+    let auction = auction_of(&rt, RESERVES);
+    let found = words_of(&rt, &auction.terms)?;
+    assert_eq!(rt;
+        found.as_str(),
+        "2: 1 goods, 3 bundles, 3 bidders, 100, [5]"
+    );
+    assert!(rt; is_name_at(&auction.bidder_names, 2, 3, "cyd"));
+    let cyd = "0f52853b8c900975f88874a5c08a6eb81c2b47010c40cb9ff42ccd0b2f1d6170";
+    assert!(rt; is_token_at(&auction.token_digests, 2, 3, cyd));
+    let of_file = "5d86aa7fcebf779893fe4f8765b7b44c97e4a7e1f6e82e708534d98c8b16a591";
+    assert!(rt; is_digest(auction.digest, of_file));
+    Ok(())
+}
+
+#[test]
+fn reads_the_openings_in_the_order_of_the_goods(rt: HostRuntime) -> Result<(), Fail> {
+    let second = format!(in rt.alloc(); "{HEAD_2}{THREE_GOODS}{BIDDERS}")?;
+    let found = terms_of(&rt, second.as_str())?;
+    assert_eq!(rt;
+        found.as_str(),
+        "2: 3 goods, 24 bundles, 2 bidders, 10, [9, 0, 4]"
+    );
+    let plain = format!(in rt.alloc(); "{HEAD_2}{GOODS}{BIDDERS}")?;
+    let found = terms_of(&rt, plain.as_str())?;
+    assert_eq!(rt; found.as_str(), "2: 1 goods, 2 bundles, 2 bidders, 10, [0]");
     Ok(())
 }
 
@@ -149,17 +229,8 @@ fn reads_other_spellings_of_the_same_tree(rt: HostRuntime) -> Result<(), Fail> {
 
 #[test]
 fn keeps_what_it_is_made_of(rt: HostRuntime) -> Result<(), Fail> {
-    let mut items = Vec::new(rt.alloc());
-    items.push(Name::read(b"oil").ok_or("a name")?)?;
+    assert!(rt; Name::read(b"oil").is_some());
     assert!(rt; Name::read(b"").is_none());
-    let names = Names::new(items);
-    assert_eq!(rt; names.as_slice().len(), 1);
-    assert_eq!(rt; names.into_vec().len(), 1);
-    let mut items = Vec::new(rt.alloc());
-    items.push([7u8; 32])?;
-    let digests = TokenDigests::new(items);
-    assert_eq!(rt; digests.as_slice().len(), 1);
-    assert_eq!(rt; digests.into_vec().len(), 1);
     let key = KeyText::new(String::from_str(rt.alloc(), "unit")?);
     assert_eq!(rt; key.as_str(), "unit");
     assert!(rt; matches!(AuctionFault::from(AllocError), AuctionFault::NoMemory));

@@ -34,7 +34,7 @@ fn refuses_the_keys_of_the_file(rt: HostRuntime) -> Result<(), Fail> {
                 BIDDERS,
                 "WrongKind(Version)",
             ),
-            ("version = 2\nceiling = 10\n", GOODS, BIDDERS, "Version(2)"),
+            ("version = 3\nceiling = 10\n", GOODS, BIDDERS, "Version(3)"),
             (
                 "version = -1\nceiling = 10\n",
                 GOODS,
@@ -267,6 +267,9 @@ fn counts_257_goods(rt: HostRuntime) -> Result<(), Fail> {
     let repeated = format!(in rt.alloc(); "{all}[[goods]]\nname = \"g0\"\nsupply = 1\n")?;
     let missing = format!(in rt.alloc(); "{all}[[goods]]\nname = \"last\"\n")?;
     let negative = format!(in rt.alloc(); "{all}[[goods]]\nname = \"last\"\nsupply = -1\n")?;
+    let opened = format!(in rt.alloc();
+        "{all}[[goods]]\nname = \"last\"\nsupply = 1\nopening = 10\n"
+    )?;
     check(
         &rt,
         &[
@@ -278,6 +281,12 @@ fn counts_257_goods(rt: HostRuntime) -> Result<(), Fail> {
                 negative.as_str(),
                 BIDDERS,
                 "BadSupply { good: 255, value: -1 }",
+            ),
+            (
+                HEAD_2,
+                opened.as_str(),
+                BIDDERS,
+                "Opening { good: 256, value: 10 }",
             ),
         ],
     )?;

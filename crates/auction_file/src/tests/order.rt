@@ -15,7 +15,8 @@ fn answers_the_first_of_two_at_the_top(rt: HostRuntime) -> Result<(), Fail> {
             ),
             ("", GOODS, BIDDERS, "Missing(Version)"),
             ("version = true\n", GOODS, BIDDERS, "WrongKind(Version)"),
-            ("version = 2\n", GOODS, BIDDERS, "Version(2)"),
+            ("version = 3\n", GOODS, BIDDERS, "Version(3)"),
+            ("version = 2\n", "", BIDDERS, "Missing(Ceiling)"),
             ("version = 1\n", "", BIDDERS, "Missing(Ceiling)"),
             (
                 "version = 1\nceiling = \"10\"\n",

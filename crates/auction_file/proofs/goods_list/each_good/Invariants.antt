@@ -1,10 +1,10 @@
 use Rattle.std.proofs.Common.{◌≡◌, map}
 use Rattle.toml.specs.View.{view}
 use Rattle.auction_file.specs.AuctionFile.{good_at, each}
-use Rattle.auction_file.proofs.Turns.{behind, rest_of}
+use Rattle.auction_file.proofs.Turns.{after, rest_of}
 use Rattle.auction_file.proofs.goods_list.each_good.Given as goal
 
 -- the goods so far and those of the rest are all of the goods
 abbrev pub invariant-loop-place : goal.invariant-loop-place
 invariant-loop-place l =
-    behind l.goods.items (rest_of good_at (map view l.elements) l.place) ≡ each good_at (map view l.elements)
+    after l.goods.items (rest_of (good_at l.version l.ceiling) (map view l.elements) l.place) ≡ each (good_at l.version l.ceiling) (map view l.elements)
