@@ -18,7 +18,7 @@ use Rattle.clock.specs.Kept.{IsKept}
 use Rattle.clock.specs.Next.{IsNext}
 use Rattle.lot_base.proofs.Within.{both}
 use Rattle.clock.proofs.Path.{has_steps, steps-only, one_more}
-use Rattle.step_choice.proofs.Order.{first_set-is}
+use Rattle.lot_base.proofs.StepOrder.{first_set-is}
 use Rattle.clock.proofs.Append.{legal-push, all-push, take-says, past-push, not_full-beyond, prices-stay, leads_on-stays}
 use Rattle.lot_base.specs.Economy.{without}
 use Rattle.credit_book.specs.Account.{Sums, sum_without}

@@ -18,7 +18,7 @@ use Rattle.clock.specs.Standing.{step_set_after, leads_on, is_full_after, good_a
 use Rattle.clock.specs.Judging.{is_member, judged, late_by, repeat_of, judgement_of, TakesAll}
 use Rattle.lot_base.proofs.Within.{both}
 
-find-some : {X : Type 0} (test : X → Bool) (xs : List X) (y : X) (v : X) → find test xs ≡ Some v → find test (xs ++ y ∷ []) ≡ Some v
+pub find-some : {X : Type 0} (test : X → Bool) (xs : List X) (y : X) (v : X) → find test xs ≡ Some v → find test (xs ++ y ∷ []) ≡ Some v
 find-some test [] y v e = absurd (let f : None ≡ Some v = e in cc)
 find-some {X} test (x ∷ xs) y v e = by (test x) (find-some test xs y v) e
   where
@@ -26,7 +26,7 @@ find-some {X} test (x ∷ xs) y v e = by (test x) (find-some test xs y v) e
     by true rest e = e
     by false rest e = rest e
 
-find-none : {X : Type 0} (test : X → Bool) (xs : List X) (y : X) → find test xs ≡ None → test y ≡ false → find test (xs ++ y ∷ []) ≡ None
+pub find-none : {X : Type 0} (test : X → Bool) (xs : List X) (y : X) → find test xs ≡ None → test y ≡ false → find test (xs ++ y ∷ []) ≡ None
 find-none test [] y e f = ap (λ b. cond b (Some y) None) f
 find-none {X} test (x ∷ xs) y e f = by (test x) (λ g. find-none test xs y g f) e
   where

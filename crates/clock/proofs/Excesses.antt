@@ -11,7 +11,7 @@ use Rattle.lot_base.specs.Steps.{IsStepSet, excess, first_set, step_set}
 use Rattle.demand_set.specs.declared.reports.Report.{Report}
 use Rattle.lyapunov.specs.Excesses.{entry, IsSmall, HasRoom, IsAdded, IsExcessOf}
 use Rattle.credit_book.proofs.Totals.{zeros-at}
-use Rattle.step_choice.proofs.StepSet.{first_set-step_set, step_set-unique}
+use Rattle.lot_base.proofs.StepSet.{first_set-step_set, step_set-unique}
 use Rattle.clock.specs.Reports.{members, is_named, demand_in, demands_in}
 use Rattle.clock.proofs.Members.{members_from, least-keep, least-skip}
 use Rattle.clock.proofs.Path.{compare-or}

@@ -10,3 +10,4 @@ pub mod Ledger
 pub mod After
 pub mod Judges
 pub mod Truthful
+pub mod Growing

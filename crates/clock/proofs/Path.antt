@@ -1,14 +1,14 @@
 -- The steps that a clock has made, of which there are at most as many as prices can rise.
-use Rattle.std.proofs.Common.{◌≡◌, ◌≢◌, ◌<◌, ◌≤◌, ℕ, zero, suc, ◌+◌, ◌*◌, ◌^◌, Bool, true, false, not, ◌&&◌, nat_eq, cond, List, [], ◌∷◌, length, replicate, Option, Some, None, is_none, refl, sym, ◌∙◌, ap, arith, inl, inr, ◌⊎◌, unwrap_or}
+use Rattle.std.proofs.Common.{◌≡◌, ◌≢◌, ◌<◌, ◌≤◌, ℕ, zero, suc, ◌+◌, ◌*◌, ◌^◌, Bool, true, false, not, ◌&&◌, nat_eq, cond, List, [], ◌∷◌, length, Option, Some, None, is_none, refl, sym, ◌∙◌, ap, arith, inl, inr, ◌⊎◌, unwrap_or}
 use Rattle.std.specs.Prelude.{find}
-use Rattle.std.specs.List.{range_with_len}
+use Rattle.std.specs.List.{range_with_len, AllByRecursion}
 use Rattle.std.proofs.lemmas.Bool.Decides.{nat_tests}
 use Rattle.std.proofs.Math.Nat.{eq-or-lt_of_le}
 use Rattle.std.proofs.lemmas.Nat.{pow_pos}
-use Rattle.std.proofs.lemmas.List.{length-replicate}
 use Rattle.lot_base.specs.Steps.{step_set}
 use Rattle.lot_base.proofs.Within.{both}
 use Rattle.lot_base.proofs.Cells.{length-raised}
+use Rattle.lot_base.proofs.Openings.{all-below}
 use Rattle.clock.specs.Reports.{ClockHistory}
 use Rattle.clock.specs.Standing.{HasSteps, step_set_after, leads_on, is_full_after, good_at_ceiling, prices_after, steps_from, steps_of}
 use Rattle.clock.proofs.Ceiling.{total, AllUpTo, raises}
@@ -17,13 +17,9 @@ pub none-from : (o : Option ℕ) → is_none o ≡ true → o ≡ None
 none-from None e = refl
 none-from (Some x) e = absurd (let f : false ≡ true = e in cc)
 
-total-zeros : (n : ℕ) → total (replicate n 0) ≡ 0
-total-zeros zero = refl
-total-zeros (suc n) = omega (arith, total-zeros n)
-
-zeros-up : (ceiling n : ℕ) → AllUpTo ceiling (replicate n 0)
-zeros-up ceiling zero = tt
-zeros-up ceiling (suc n) = (omega arith, zeros-up ceiling n)
+up-below : (ceiling : ℕ) (ps : List ℕ) → AllByRecursion (λ price. price < ceiling) ps → AllUpTo ceiling ps
+up-below ceiling [] below = tt
+up-below ceiling (p ∷ ps) below = (let b = below.0 in omega arith, up-below ceiling ps below.1)
 
 total-up : (ceiling : ℕ) (ps : List ℕ) → AllUpTo ceiling ps → total ps ≤ length ps * ceiling
 total-up ceiling [] up = omega arith
@@ -55,7 +51,8 @@ pub record OnThePath (c : ClockHistory) (n : ℕ) : Type 0 where
 
 pub on_the_path : (c : ClockHistory) (n : ℕ) → ((m : ℕ) → m < n → leads_on c m ≡ true) → OnThePath c n
 unfolding prices_after
-on_the_path c zero before = record { up = zeros-up _ _; risen = omega arith; goods = length-replicate _ _ }
+on_the_path c zero before =
+    record { up = up-below _ _ (all-below c.terms.goods c.terms.ceiling c.terms.opening c.terms.opens); risen = omega arith; goods = c.terms.opens.goods }
 on_the_path c (suc n) before =
     let o = on_the_path c n (λ m below. before m (omega arith)) in
     let g = both (is_full_after c n) (not (nat_eq (step_set_after c n) 0) && is_none (good_at_ceiling c n)) (before n (omega arith)) in

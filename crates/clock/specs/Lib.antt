@@ -8,3 +8,4 @@ pub mod Tables
 pub mod Next
 pub mod Replays
 pub mod RowsClocks
+pub mod Growth

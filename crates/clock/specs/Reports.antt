@@ -1,9 +1,8 @@
 -- The reports of a clock, read as a whole list by the names in it. The clock of all bidders has the number 0, and clock c has
 -- all bidders but c. A report names a round, from 1, and a bidder, from 1. Where several reports have one name, the first
 -- counts.
-use Rattle.std.specs.Prelude.{ℕ, ◌==◌, Bool, ◌&&◌, List, [], ◌++◌, ◌∷◌, find, Option, is_some, unwrap_or, option_map}
+use Rattle.std.specs.Prelude.{ℕ, ◌==◌, Bool, ◌&&◌, List, [], ◌++◌, ◌∷◌, map, find, Option, is_some, unwrap_or, option_map}
 use Rattle.std.specs.List.{list_all, range_with_len}
-use Rattle.lot_base.specs.Goods.{zeros}
 use Rattle.lot_base.specs.Economy.{without}
 use Rattle.lot_base.specs.declared.auction_terms.Terms.{Terms}
 use Rattle.demand_set.specs.declared.reports.Report.{Report}
@@ -14,13 +13,20 @@ pub record ClockHistory : Type 0 where
   pub number : ℕ
   pub reports : List Report
 
+-- A clock as its callers see it: its history, and for how many more reports and quantities it has room, without taking memory. No room
+-- is set aside yet.
+pub record ClockOf : Type 0 where
+  pub history : ClockHistory
+  pub spare_reports : ℕ
+  pub spare_quantities : ℕ
+
+-- the histories of clocks
+abbrev pub histories : List ClockOf → List ClockHistory
+histories clocks = map (λ c. c.history) clocks
+
 -- the history with one report more
 abbrev pub with_report : ClockHistory → Report → ClockHistory
 with_report c r = record c { reports = c.reports ++ r ∷ [] }
-
--- the prices at which each clock opens
-abbrev pub opening_of : Terms → List ℕ
-opening_of terms = zeros terms.goods
 
 -- all bidders, and the members of a clock, in order
 abbrev pub all_bidders : ℕ → List ℕ

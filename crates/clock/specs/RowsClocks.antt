@@ -2,6 +2,7 @@
 -- no clause cites these rows. A report is written `report bidder round demand`.
 use Rattle.std.specs.Prelude.{◌≡◌, ℕ, List, [], ◌∷◌, ◌++◌, refl, pos, negsuc}
 use Rattle.std.proofs.Common.{lit≤}
+use Rattle.lot_base.specs.Goods.{zeros}
 use Rattle.lot_base.specs.Steps.{step_set}
 use Rattle.lot_base.specs.RowsTables.{one, two}
 use Rattle.lot_base.specs.declared.auction_terms.Terms.{Terms}
@@ -37,9 +38,14 @@ market = record {
   goods = one 2;
   bidders = 2;
   ceiling = 10;
+  version = 1;
+  opening = one 0;
   supply = record { some_good = lit≤ tt; few_goods = lit≤ tt; units = refl; small = lit≤ tt };
   bidders_in_range = record { at_least = lit≤ tt; at_most = lit≤ tt };
   ceiling_in_range = record { at_least = lit≤ tt; at_most = lit≤ tt };
+  version_in_range = record { at_least = lit≤ tt; at_most = lit≤ tt };
+  opens = record { goods = refl; below = refl };
+  first_opens_at_zero = λ _. refl;
 }
 
 no_reports : Stands (clock_of market 0 []) 1 Running (one 0) 1
@@ -115,9 +121,14 @@ lone = record {
   goods = one 2;
   bidders = 1;
   ceiling = 10;
+  version = 1;
+  opening = one 0;
   supply = record { some_good = lit≤ tt; few_goods = lit≤ tt; units = refl; small = lit≤ tt };
   bidders_in_range = record { at_least = lit≤ tt; at_most = lit≤ tt };
   ceiling_in_range = record { at_least = lit≤ tt; at_most = lit≤ tt };
+  version_in_range = record { at_least = lit≤ tt; at_most = lit≤ tt };
+  opens = record { goods = refl; below = refl };
+  first_opens_at_zero = λ _. refl;
 }
 
 no_member :
@@ -133,9 +144,14 @@ low = record {
   goods = two 1 1;
   bidders = 2;
   ceiling = 2;
+  version = 1;
+  opening = two 0 0;
   supply = record { some_good = lit≤ tt; few_goods = lit≤ tt; units = refl; small = lit≤ tt };
   bidders_in_range = record { at_least = lit≤ tt; at_most = lit≤ tt };
   ceiling_in_range = record { at_least = lit≤ tt; at_most = lit≤ tt };
+  version_in_range = record { at_least = lit≤ tt; at_most = lit≤ tt };
+  opens = record { goods = refl; below = refl };
+  first_opens_at_zero = λ _. refl;
 }
 
 abbrev both_want : ℕ → List (List ℕ) → List Report
@@ -151,3 +167,33 @@ at_the_ceiling :
     × Stands (clock_of low 0 (both_want 1 (pair 1 1) ++ both_want 2 (pair 1 1) ++ both_want 3 (pair 0 0))) 3 Ended (two 2 2) 0
 unfolding prices_after steps_from steps_of step_set
 at_the_ceiling = ((refl, refl, refl, refl), (refl, refl, refl, refl), refl, (refl, refl, refl, refl), (refl, refl, refl, refl), (refl, refl, refl, refl))
+
+not-first : (version : ℕ) → version ≡ 2 → version ≡ 1 → one 8 ≡ zeros (one 1)
+not-first version second first = cc
+
+-- One unit, two bidders, a ceiling of 10, and a reserve of 8.
+abbrev reserved : Terms
+reserved = record {
+  goods = one 1;
+  bidders = 2;
+  ceiling = 10;
+  version = 2;
+  opening = one 8;
+  supply = record { some_good = lit≤ tt; few_goods = lit≤ tt; units = refl; small = lit≤ tt };
+  bidders_in_range = record { at_least = lit≤ tt; at_most = lit≤ tt };
+  ceiling_in_range = record { at_least = lit≤ tt; at_most = lit≤ tt };
+  version_in_range = record { at_least = lit≤ tt; at_most = lit≤ tt };
+  opens = record { goods = refl; below = refl };
+  first_opens_at_zero = not-first 2 refl;
+}
+
+-- It opens at the reserve. While both want the unit it rises, to the ceiling in two steps; where one does, it ends where it opened.
+from_the_reserve :
+    Stands (clock_of reserved 0 []) 1 Running (one 8) 1
+    × Stands (clock_of reserved 0 (both_want 1 (units 1))) 2 Running (one 9) 1
+    × Stands (clock_of reserved 0 (both_want 1 (units 1) ++ both_want 2 (units 1) ++ both_want 3 (units 1))) 3 (Halted 0) (one 10) 0
+    × Stands (clock_of reserved 1 (report 2 1 (units 1) ∷ [])) 1 Ended (one 8) 0
+    × Stands (clock_of reserved 0 (report 1 1 (units 0) ∷ report 2 1 (units 0) ∷ [])) 1 Ended (one 8) 0
+    × (account_without (clock_of reserved 0 (both_want 1 (units 1))) 0 ≡ negsuc 0)
+unfolding prices_after steps_from steps_of step_set account_after
+from_the_reserve = ((refl, refl, refl, refl), (refl, refl, refl, refl), (refl, refl, refl, refl), (refl, refl, refl, refl), (refl, refl, refl, refl), refl)

@@ -8,7 +8,7 @@ use Rattle.lot_base.specs.Goods.{raised}
 use Rattle.lot_base.specs.Steps.{step_set}
 use Rattle.lot_base.specs.declared.phases.Phase.{Phase}
 use Rattle.lot_base.specs.declared.phases.Phase.TheVariants.{Running, Ended, Halted}
-use Rattle.clock.specs.Reports.{ClockHistory, opening_of, members_of, is_full, demand_in, demands_in}
+use Rattle.clock.specs.Reports.{ClockHistory, members_of, is_full, demand_in, demands_in}
 
 -- the step set of the round after so many steps
 abbrev pub step_set_after : ClockHistory → ℕ → ℕ
@@ -20,7 +20,7 @@ is_full_after c steps = is_full (members_of c) c.reports (steps + 1)
 
 -- the prices after so many steps: the opening, and one more on the step set of each round
 unfoldable pub prices_after : ClockHistory → ℕ → List ℕ
-prices_after c zero = opening_of c.terms
+prices_after c zero = c.terms.opening
 prices_after c (suc steps) = raised (prices_after c steps) (step_set_after c steps)
 
 -- the first good of a set that is at the ceiling, counted from a number on

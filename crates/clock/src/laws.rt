@@ -6,6 +6,8 @@ ghost use Rattle.clock.specs.Reports.{ClockHistory, members_of};
 ghost use Rattle.clock.specs.Standing.{HasSteps, steps_of};
 ghost use Rattle.clock.specs.Judging.{IsMember, IsJudgement, judgement_of};
 ghost use Rattle.clock.specs.declared.judging.Judgement.{Judgement};
+ghost use Rattle.clock.specs.declared.judging.Judgement.TheVariants.{Take};
+ghost use Rattle.clock.specs.Growth.{Grows};
 
 /// The members of a clock, as a list, are those of whom `IsMember` says so.
 pub fn member_law()
@@ -22,4 +24,9 @@ pub fn steps_law()
 pub fn judgement_law()
     ensures exists { (c : ClockHistory) (r : Report) → IsJudgement c r (judgement_of c r) }
     ensures unique { (c : ClockHistory) (r : Report) (judgement : Judgement) → IsJudgement c r judgement → judgement ≡ judgement_of c r }
+{}
+
+/// A report that is taken changes nothing of the rounds before the present one, and the clock goes on from where it stood.
+pub fn growth_law()
+    ensures { (c : ClockHistory) (r : Report) → judgement_of c r ≡ Take → Grows c r }
 {}

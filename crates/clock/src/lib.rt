@@ -11,5 +11,5 @@ mod standing;
 mod tests;
 
 pub use clocks::{Clock, Look, NotApplied};
-pub use judging::Judgement;
+pub use judging::{Judgement, Offered};
 pub use replaying::ReplayFault;

@@ -1,5 +1,5 @@
 //! A clock from a list of reports.
-ghost use Rattle.std.specs.Prelude.{◌≡◌, ◌≤◌, ℕ, [], IfOk, IfErr};
+ghost use Rattle.std.specs.Prelude.{◌≡◌, ◌<◌, ◌≤◌, ◌+◌, ◌-◌, ◌^◌, min, ℕ, [], IfOk, IfErr};
 
 use crate::clocks::Clock;
 use crate::judging::Judgement;
@@ -10,8 +10,8 @@ use std::alloc::Global;
 /// Why a list of reports gives no clock.
 #[derive(Clone, Copy, Debug, PartialEq, Eq)]
 pub enum ReplayFault {
-    /// This report, numbered from 1, is the first that the clock does not take.
-    NotTaken { number: usize, judgement: Judgement },
+    /// This report, numbered from 1, is the first that the clock does not take. The number stands still at its type's end.
+    NotTaken { number: u32, judgement: Judgement },
     NoMemory,
 }
 
@@ -31,8 +31,8 @@ impl Clock {
     ) -> Result<Clock, ReplayFault>
         requires number { number ≤ terms.now.bidders }
         requires fit { AllByRecursion (λ (r : Report). IsDemand terms.now.goods r.demand) reports.items }
-        ensures taken { IfOk result (λ c. c ≡ record { terms = terms.now; number = number; reports = reports.items }) }
-        ensures legal { IfOk result IsLegal }
+        ensures taken { IfOk result (λ c. c.history ≡ record { terms = terms.now; number = number; reports = reports.items }) }
+        ensures legal { IfOk result (λ c. IsLegal c.history) }
         ensures refused { IfErr result (IfNotTaken (record { terms = terms.now; number = number; reports = [] }) reports.items) }
     {
         let mut clock = match Clock::new(alloc, terms, number) {
@@ -44,11 +44,11 @@ impl Clock {
             let judgement = clock.judge(report.bidder, report.round, &report.demand);
             let Judgement::Take = judgement else {
                 return Err(ReplayFault::NotTaken {
-                    number: taken + 1,
+                    number: number_after(taken),
                     judgement,
                 });
             };
-            match clock.apply(report) {
+            match clock.apply(alloc, report) {
                 Ok(()) => taken += 1,
                 Err(_) => return Err(ReplayFault::NoMemory),
             }
@@ -56,4 +56,12 @@ impl Clock {
         let _number = clock.number();
         Ok(clock)
     }
+}
+
+/// The number of the report after so many.
+fn number_after(taken: usize) -> u32
+    requires { taken + 1 < 2 ^ 64 }
+    ensures { result ≡ min (taken + 1) (2 ^ 32 - 1) }
+{
+    u32::try_from(taken + 1).unwrap_or(u32::MAX)
 }

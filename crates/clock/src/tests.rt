@@ -4,7 +4,7 @@ ghost use Rattle.lot_base.specs.Demands.{IsDemand};
 
 use crate::{Clock, Judgement, ReplayFault};
 use demand_set::{Demand, Report};
-use lot_base::{Goods, Phase, RawDemand, Terms};
+use lot_base::{Goods, Phase, Prices, RawDemand, Sequence, Terms};
 use std::alloc::Global;
 use std::process::Abort;
 use std::test::Fail;
@@ -15,7 +15,7 @@ struct Auction {
     alloc: Global,
     terms: Terms,
     clock: Clock,
-    ghost same: { clock.terms ≡ terms },
+    ghost same: { clock.history.terms ≡ terms },
 }
 
 impl Auction {
@@ -45,7 +45,7 @@ impl Auction {
                 round,
                 demand,
             };
-            let answer = self.clock.apply(report);
+            let answer = self.clock.apply(self.alloc, report);
             assert!(rt; answer.is_ok(), "there is memory");
         }
         Ok(judgement)
@@ -69,7 +69,7 @@ fn demand_of(
     assert_eq!(rt; quantities.len() % count as usize, 0);
     let raw = RawDemand {
         goods: count,
-        quantities: quantities.to_vec(alloc)?,
+        quantities: Sequence::from_vec(quantities.to_vec(alloc)?),
     };
     Ok(Demand::read(alloc, goods, &raw)?)
 }
@@ -223,6 +223,27 @@ fn a_good_at_the_ceiling_halts_the_clock(rt: HostRuntime) -> Result<(), Fail> {
     }
     assert_stands(&rt, &auction.clock, 3, Phase::Halted(0), 0, &[2]);
     assert_eq!(rt; auction.report(&rt, 1, 4, &[1])?, Judgement::Over(3));
+    Ok(())
+}
+
+#[test]
+fn a_clock_opens_at_the_reserves_and_rises_from_there(rt: HostRuntime) -> Result<(), Fail> {
+    let goods = Goods::new(&[1])?;
+    let opening = Prices::read(&[8]);
+    assert!(rt; opening.is_some());
+    let opening = opening.unwrap();
+    assert!(rt; opening.count() == goods.count());
+    let terms = Terms::with_opening(goods, 2, 10, opening)?;
+    let mut auction = Auction::new(&rt, rt.alloc(), terms, 0)?;
+    for round in 1..4 {
+        let price = 8 + auction.clock.steps();
+        assert_stands(&rt, &auction.clock, round, Phase::Running, 1, &[price]);
+        for bidder in 1..3 {
+            let answer = auction.report(&rt, bidder, round, &[1])?;
+            assert_eq!(rt; answer, Judgement::Take);
+        }
+    }
+    assert_stands(&rt, &auction.clock, 3, Phase::Halted(0), 0, &[10]);
     Ok(())
 }
 

@@ -5,7 +5,7 @@ use Rattle.std.specs.List.{AllByRecursion}
 use Rattle.lot_base.specs.Demands.{IsDemand}
 use Rattle.demand_set.specs.declared.reports.Report.{Report}
 use Rattle.clock.specs.declared.judging.Judgement.TheVariants.{Take}
-use Rattle.clock.specs.Reports.{ClockHistory}
+use Rattle.clock.specs.Reports.{ClockOf, ClockHistory}
 use Rattle.clock.specs.Standing.{leads_on, prices_after}
 use Rattle.clock.specs.Judging.{judgement_of}
 use Rattle.clock.specs.Kept.{IsKept}
@@ -32,8 +32,8 @@ next-standing-requires-clause-fit c =
     let history : ClockHistory = record { terms = c.self.inside.terms; number = c.self.inside.number; reports = c.self.inside.reports.items } in
     let e : c.deref.result.now ≡ c.self.inside.reports.items ++ c.args.report ∷ [] = c.deref.ensures.value ∙ c.in_default.ensures.items in
     let P : List Report → Type 0 = λ reports. AllByRecursion (λ (r : Report). IsDemand c.self.inside.terms.goods r.demand) reports in
-    let take : judgement_of history c.args.report ≡ Take = ap (λ k. judgement_of k c.args.report) c.self.view_is ∙ c.requires.take in
-    let fit : IsDemand history.terms.goods c.args.report.demand = subst (λ k. IsDemand k.terms.goods c.args.report.demand) (sym c.self.view_is) c.requires.fits in
+    let take : judgement_of history c.args.report ≡ Take = ap (λ k. judgement_of k c.args.report) (ap (λ (k : ClockOf). k.history) c.self.view_is) ∙ c.requires.take in
+    let fit : IsDemand history.terms.goods c.args.report.demand = subst (λ k. IsDemand k.terms.goods c.args.report.demand) (sym (ap (λ (k : ClockOf). k.history) c.self.view_is)) c.requires.fits in
     subst P (sym e) (legal-after history c.args.report c.self.invariant.legal take fit).demands
 
 pub next-standing-requires-clause-before : goal.next-standing-requires-clause-before
@@ -57,8 +57,8 @@ invariant_of-self-2 c =
     let f : c.push.new.self.items ≡ c.self.inside.reports.items ++ c.args.report ∷ [] = c.in_default.ensures.items in
     let N : List Report → Type 0 = λ reports. IsNext (record { terms = c.self.inside.terms; number = c.self.inside.number; reports = reports }) c.self.inside.current c.self.inside.steps c.self.inside.account c.next-standing.new.account c.next-standing.result in
     let K : List Report → Type 0 = λ reports. IsKept (record { terms = c.self.inside.terms; number = c.self.inside.number; reports = reports }) c.next-standing.result.current c.next-standing.result.steps c.next-standing.result.phase c.next-standing.result.prices c.next-standing.new.account in
-    let take : judgement_of history c.args.report ≡ Take = ap (λ k. judgement_of k c.args.report) c.self.view_is ∙ c.requires.take in
-    let fit : IsDemand history.terms.goods c.args.report.demand = subst (λ k. IsDemand k.terms.goods c.args.report.demand) (sym c.self.view_is) c.requires.fits in
+    let take : judgement_of history c.args.report ≡ Take = ap (λ k. judgement_of k c.args.report) (ap (λ (k : ClockOf). k.history) c.self.view_is) ∙ c.requires.take in
+    let fit : IsDemand history.terms.goods c.args.report.demand = subst (λ k. IsDemand k.terms.goods c.args.report.demand) (sym (ap (λ (k : ClockOf). k.history) c.self.view_is)) c.requires.fits in
     subst K (sym f) (after-kept history c.args.report c.self.inside.current c.self.inside.steps c.self.inside.phase c.self.inside.prices c.self.inside.account c.next-standing.new.account c.next-standing.result c.self.invariant take fit (subst N e c.next-standing.ensures))
 
 pub next-standing-requires-clause-account : goal.next-standing-requires-clause-account

@@ -8,4 +8,4 @@ use Rattle.clock.proofs.clocks.Clock.judge.Goals as goal
 pub returns-clause-judgement : goal.returns-clause-judgement
 returns-clause-judgement c =
     let r : Report = record { bidder = c.args.bidder; round = c.args.round; demand = c.args.demand.now } in
-    subst (IsJudgement c.args.self.now r) (sym c.judged.ensures) (judgement-is c.args.self.now r)
+    subst (IsJudgement c.args.self.now.history r) (sym c.judged.ensures) (judgement-is c.args.self.now.history r)

@@ -1,5 +1,5 @@
 -- Without reports a clock is in round 1 at the opening prices.
-use Rattle.std.proofs.Common.{subst, List}
+use Rattle.std.proofs.Common.{subst, List, refl}
 use Rattle.demand_set.specs.declared.reports.Report.{Report}
 use Rattle.clock.specs.Standing.{prices_after}
 use Rattle.clock.specs.Next.{IsNext}
@@ -8,7 +8,7 @@ use Rattle.clock.proofs.clocks.Clock.new.Goals as goal
 
 pub next-standing-requires-clause-prices : goal.next-standing-requires-clause-prices
 unfolding prices_after
-next-standing-requires-clause-prices c = c.zero-prices.ensures
+next-standing-requires-clause-prices c = refl
 
 pub invariant_of-result : goal.invariant_of-result
 invariant_of-result c =

@@ -19,8 +19,8 @@ no-more : {X : Type 0} (l : List X) → length l ≡ 0 → l ≡ []
 no-more [] h = refl
 no-more (x ∷ xs) h = absurd (omega arith)
 
-pub overflow_add-result : goal.overflow_add-result
-overflow_add-result c =
+pub number_after-requires : goal.number_after-requires
+number_after-requires c =
     let few = c.loop-report.invariant.few in
     let gone = c.in-Some.ensures.steps.1 in
     omega (arith, few, gone)
@@ -32,8 +32,8 @@ loop-report-preserved c =
     let steps : into_iter_items c.loop-report.report-iterator ≡ x ∷ into_iter_items c.next.new.self = c.in-Some.ensures.steps.0 in
     let gone = c.in-Some.ensures.steps.1 in
     let short = ap length steps in
-    let now : c.apply.new.self ≡ with_report c.loop-report.clock x = c.in-Ok-apply.ensures.ok in
-    let take : judgement_of c.loop-report.clock x ≡ Take = sym c.judge-judgement.ensures.value ∙ c.in-Take.is in
+    let now : c.apply.new.self.history ≡ with_report c.loop-report.clock.history x = c.in-Ok-apply.ensures.ok in
+    let take : judgement_of c.loop-report.clock.history x ≡ Take = sym c.judge-judgement.ensures.value ∙ c.in-Take.is in
     record {
       same = append_assoc c.loop-report.yielded (x ∷ []) _ ∙ ap (λ l. c.loop-report.yielded ++ l) (sym steps) ∙ i.same;
       left = omega arith;

@@ -9,6 +9,6 @@ invariant-loop-report l = record {
   left : into_iter_len l.report-iterator ≡ length (into_iter_items l.report-iterator);
   count : l.taken ≡ length l.yielded;
   few : l.taken + into_iter_len l.report-iterator < 2 ^ 64;
-  clock : l.clock ≡ record { terms = l.fn.terms; number = l.fn.number; reports = l.yielded };
+  clock : l.clock.history ≡ record { terms = l.fn.terms; number = l.fn.number; reports = l.yielded };
   all : TakesAll (record { terms = l.fn.terms; number = l.fn.number; reports = [] }) l.yielded;
 }
