@@ -7,7 +7,7 @@ use Rattle.lot_base.specs.Steps.{step_set, excess}
 use Rattle.lot_base.specs.Choices.{first_choice}
 use Rattle.lot_base.specs.Economy.{without}
 use Rattle.demand_set.specs.declared.reports.Report.{Report}
-use Rattle.clock.specs.Reports.{ClockHistory, opening_of, members_of, demand_in, demands_in}
+use Rattle.clock.specs.Reports.{ClockHistory, members_of, demand_in, demands_in}
 use Rattle.clock.specs.Standing.{step_set_after, leads_on, is_full_after, good_at_ceiling, prices_after, phase_by, phase_after, good_from, steps_from, steps_of, last_demands, missing_of}
 use Rattle.clock.specs.Accounts.{account_after}
 use Rattle.settlement.specs.Clocks.{choice_of}
@@ -73,7 +73,7 @@ choice-alike c h k e =
     let s = steps-alike c h k e in
     let p = prices-alike c h k (steps_of (of c h)) e ∙ ap (prices_after (of c k)) s in
     let d = demands-alike c h k e in
-    λ i. first_choice c.terms.goods (opening_of c.terms) (p i) (map (d i) (members_of c))
+    λ i. first_choice c.terms.goods c.terms.opening (p i) (map (d i) (members_of c))
 
 alike-of : (c : ClockHistory) (h k : List Report) → Alike h k → StandAlike (of c h) (of c k)
 alike-of c h k e =
@@ -81,6 +81,7 @@ alike-of c h k e =
     let missing : missing_of (of c h) ≡ missing_of (of c k) =
     (λ i. unwrap_or (find (λ j. is_none (e (steps_of (of c h) + 1) j i)) (members_of c)) 0) ∙ ap (λ n. unwrap_or (find (λ j. is_none (demand_in k (n + 1) j)) (members_of c)) 0) s in
     record {
+      same_terms = refl;
       same_number = refl;
       same_steps = s;
       same_phase = phase-alike c h k (steps_of (of c h)) e ∙ ap (phase_after (of c k)) s;

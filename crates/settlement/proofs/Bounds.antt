@@ -2,10 +2,10 @@
 use Rattle.std.proofs.Common.{◌≡◌, ◌<◌, ◌≤◌, ℕ, ◌+◌, ◌*◌, ◌^◌, List, [], ◌∷◌, length, Option, Some, sym, ◌∙◌, arith, map}
 use Rattle.std.proofs.Math.Nat.{mul-le-mul_left, mul-le-mul_right}
 use Rattle.std.specs.List.{AllByRecursion}
-use Rattle.lot_base.specs.Goods.{cost, plus, zeros, box_size}
+use Rattle.lot_base.specs.Goods.{cost, plus, box_size}
 use Rattle.lot_base.specs.declared.auction_terms.Terms.{Terms}
 use Rattle.lot_base.specs.Choices.{sum_of, Clears, IsClearingChoice, first_choice}
-use Rattle.clock.specs.Reports.{ClockHistory, opening_of, members_of}
+use Rattle.clock.specs.Reports.{ClockHistory, members_of}
 use Rattle.clock.specs.Standing.{prices_of, steps_of, last_demands}
 use Rattle.clock.proofs.Ceiling.{AllUpTo}
 use Rattle.clock.proofs.Path.{on_the_path, has_steps, OnThePath}
@@ -18,16 +18,16 @@ use Rattle.settlement.proofs.Members.{count-choice}
 pub path-of : (c : ClockHistory) → OnThePath c (steps_of c)
 path-of c = on_the_path c (steps_of c) (has_steps c).before
 
-pub choice-clears : (c : ClockHistory) (xs : List (List ℕ)) → choice_of c ≡ Some xs → IsClearingChoice c.terms.goods (opening_of c.terms) (prices_of c) (map (last_demands c) (members_of c)) xs
+pub choice-clears : (c : ClockHistory) (xs : List (List ℕ)) → choice_of c ≡ Some xs → IsClearingChoice c.terms.goods c.terms.opening (prices_of c) (map (last_demands c) (members_of c)) xs
 unfolding choice_of
-choice-clears c xs e = first_choice-clearing c.terms.goods (opening_of c.terms) (prices_of c) (map (last_demands c) (members_of c)) xs e
+choice-clears c xs e = first_choice-clearing c.terms.goods c.terms.opening (prices_of c) (map (last_demands c) (members_of c)) xs e
 
 -- the first choice of these demands is the clock's
 pub choice-from : (c : ClockHistory) (terms : Terms) (prices : List ℕ) (demands : List (List (List ℕ))) (answer : Option (List (List ℕ))) → c.terms ≡ terms → prices ≡ prices_of c → demands ≡ map (last_demands c) (members_of c)
-    → answer ≡ first_choice terms.goods (zeros terms.goods) prices demands → choice_of c ≡ answer
+    → answer ≡ first_choice terms.goods terms.opening prices demands → choice_of c ≡ answer
 unfolding choice_of
 choice-from c terms prices demands answer same p d e =
-    let back = sym same in sym (e ∙ (λ i. first_choice (back i).goods (zeros (back i).goods) (p i) (d i)))
+    let back = sym same in sym (e ∙ (λ i. first_choice (back i).goods (back i).opening (p i) (d i)))
 
 -- a choice has a bundle for each member
 pub choice-count : (c : ClockHistory) (xs : List (List ℕ)) → choice_of c ≡ Some xs → length xs ≡ length (members_of c)
@@ -83,7 +83,7 @@ choice-small c xs e =
     let path = path-of c in
     let clears = (choice-clears c xs e).clears in
     let t = sum_of c.terms.goods xs in
-    let low = cost-up c.terms.ceiling 2047 (prices_of c) t path.up (sum-up (opening_of c.terms) (prices_of c) t c.terms.goods clears c.terms.supply.small) in
+    let low = cost-up c.terms.ceiling 2047 (prices_of c) t path.up (sum-up c.terms.opening (prices_of c) t c.terms.goods clears c.terms.supply.small) in
     let few : length (prices_of c) ≤ 6 = let s = c.terms.supply.few_goods in let g = path.goods in omega arith in
     let limit = few-goods (length (prices_of c)) c.terms.ceiling few c.terms.ceiling_in_range.at_most in
     each-cost (prices_of c) c.terms.goods xs (2 ^ 51) (omega arith)

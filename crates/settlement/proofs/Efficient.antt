@@ -12,7 +12,7 @@ use Rattle.lyapunov.specs.Bidders.{IsOneOf, bundle_of}
 use Rattle.lyapunov.proofs.Bidders.{all-without, IsOneOf-range, map-bundle_of, AllDifferent-range}
 use Rattle.lyapunov.proofs.Payment.{pays-vcg}
 use Rattle.lyapunov.proofs.Duality.{walrasian-welfare, walrasian-minimises}
-use Rattle.clock.specs.Reports.{ClockHistory, opening_of, all_bidders, members, members_of}
+use Rattle.clock.specs.Reports.{ClockHistory, all_bidders, members, members_of}
 use Rattle.clock.specs.Standing.{phase_of, prices_of}
 use Rattle.clock.specs.Accounts.{account_without}
 use Rattle.clock.specs.Explained.{Explains}
@@ -58,9 +58,9 @@ zip-maps f g (x ∷ xs) (y ∷ ys) e = let head : f x ≡ g y = cc in let tail :
 
 -- the clock of these terms, as an equilibrium of its members
 clock-equilibrium : (u : ℕ → List ℕ → ℤ) (terms : Terms) (c : ClockHistory) (xs : List (List ℕ)) → c.terms ≡ terms → Explains u c → phase_of c ≡ Ended → choice_of c ≡ Some xs
-    → IsWalrasian terms.goods (opening_of terms) u (members terms.bidders c.number) (prices_of c) (bundle_of (members terms.bidders c.number) xs)
+    → IsWalrasian terms.goods terms.opening u (members terms.bidders c.number) (prices_of c) (bundle_of (members terms.bidders c.number) xs)
 clock-equilibrium u terms c xs same explains ended chosen =
-    let P : Terms → Type 0 = λ t. IsWalrasian t.goods (opening_of t) u (members t.bidders c.number) (prices_of c) (bundle_of (members t.bidders c.number) xs) in
+    let P : Terms → Type 0 = λ t. IsWalrasian t.goods t.opening u (members t.bidders c.number) (prices_of c) (bundle_of (members t.bidders c.number) xs) in
     subst P same (explained-equilibrium u c xs explains ended chosen)
 
 all-choices : (u : ℕ → List ℕ → ℤ) (terms : Terms) (clocks : List ClockHistory) (rows : List ClockRow) → AllByRecursion (λ (c : ClockHistory). c.terms ≡ terms) clocks → ExplainsAll u clocks
@@ -70,7 +70,7 @@ all-choices u terms [] (row ∷ rows) same explains ended zip = absurd zip
 all-choices u terms (c ∷ clocks) [] same explains ended zip = absurd zip
 all-choices u terms (c ∷ clocks) (row ∷ rows) same explains ended zip =
     let w = clock-equilibrium u terms c row.choices same.0 explains.0 ended.0 zip.0.choice_is in (
-      walrasian-welfare terms.goods (opening_of terms) u (members terms.bidders c.number) (prices_of c) (bundle_of (members terms.bidders c.number) row.choices) w,
+      walrasian-welfare terms.goods terms.opening u (members terms.bidders c.number) (prices_of c) (bundle_of (members terms.bidders c.number) row.choices) w,
       all-choices u terms clocks rows same.1 explains.1 ended.1 zip.1,
     )
 
@@ -79,23 +79,23 @@ record IsWholeClock (u : ℕ → List ℕ → ℤ) (terms : Terms) (all : ClockH
   pub same : all.terms ≡ terms
   pub number : all.number ≡ 0
   pub explains : Explains u all
-  pub equilibrium : IsWalrasian terms.goods (opening_of terms) u (all_bidders terms.bidders) (prices_of all) x
+  pub equilibrium : IsWalrasian terms.goods terms.opening u (all_bidders terms.bidders) (prices_of all) x
 
 one-payment : (u : ℕ → List ℕ → ℤ) (terms : Terms) (all own : ClockHistory) (x : ℕ → List ℕ) (ys : List (List ℕ)) (row : AwardRow) → IsWholeClock u terms all x → own.terms ≡ terms → Explains u own → phase_of own ≡ Ended
     → choice_of own ≡ Some ys → IsOneOf own.number (all_bidders terms.bidders) → x own.number ≡ row.award → IsAwardRow all own row → PaysVcg u terms x own.number row
 one-payment u terms all own x ys row whole same explains ended chosen one award is =
     let i = own.number in
     let s = terms.goods in
-    let o = opening_of terms in
+    let o = terms.opening in
     let js = all_bidders terms.bidders in
     let p = prices_of all in
     let q = prices_of own in
     let others = without i js in
     let wy = clock-equilibrium u terms own ys same explains ended chosen in
-    let D : Terms → Type 0 = λ t. account_without own 0 ≡ lyapunov t.goods u (without 0 (members t.bidders i)) q -ℤ lyapunov t.goods u (without 0 (members t.bidders i)) (opening_of t) in
+    let D : Terms → Type 0 = λ t. account_without own 0 ≡ lyapunov t.goods u (without 0 (members t.bidders i)) q -ℤ lyapunov t.goods u (without 0 (members t.bidders i)) t.opening in
     let own-members : without 0 (members terms.bidders i) ≡ others = none-out others (all-without (λ j. 1 ≤ j) i js (from-one 1 terms.bidders (omega arith))) in
     let debit = is.debit_is ∙ subst D same (account-rise u own 0 explains) ∙ ap (λ ks. lyapunov s u ks q -ℤ lyapunov s u ks o) own-members in
-    let C : Terms → Type 0 = λ t. account_without all i ≡ lyapunov t.goods u (without i (members t.bidders all.number)) p -ℤ lyapunov t.goods u (without i (members t.bidders all.number)) (opening_of t) in
+    let C : Terms → Type 0 = λ t. account_without all i ≡ lyapunov t.goods u (without i (members t.bidders all.number)) p -ℤ lyapunov t.goods u (without i (members t.bidders all.number)) t.opening in
     let all-members : without i (members terms.bidders all.number) ≡ others = ap (λ k. without i (members terms.bidders k)) whole.number ∙ ap (without i) (all-are-members terms.bidders) in
     let credit = is.credit_is ∙ subst C whole.same (account-rise u all i whole.explains) ∙ ap (λ ks. lyapunov s u ks p -ℤ lyapunov s u ks o) all-members in
     let v = pays-vcg s o u js i p q x (bundle_of others ys) (lyapunov s u others o) one whole.equilibrium wy in
@@ -133,11 +133,11 @@ efficient u terms all others o h explains ended s = by o.clocks s.clocks_are
         let numbers = numbers-of terms all others h in
         let x = award_of terms o in
         let members-are : members terms.bidders all.number ≡ js = ap (members terms.bidders) numbers.0 ∙ all-are-members terms.bidders in
-        let J : List ℕ → Type 0 = λ ks. IsWalrasian terms.goods (opening_of terms) u ks (prices_of all) (bundle_of ks xs) in
+        let J : List ℕ → Type 0 = λ ks. IsWalrasian terms.goods terms.opening u ks (prices_of all) (bundle_of ks xs) in
         let w = subst J members-are (clock-equilibrium u terms all xs h.terms_are.0 explains.0 ended.0 s.awards_are) in
-        let P : List ℕ → Type 0 = λ p. IsWalrasian terms.goods (opening_of terms) u js p x in
+        let P : List ℕ → Type 0 = λ p. IsWalrasian terms.goods terms.opening u js p x in
         let equilibrium = subst P (sym s.prices_are) w in
-        let L : List ℕ → Type 0 = λ p. IsLeastWalrasian terms.goods (opening_of terms) u js p in
+        let L : List ℕ → Type 0 = λ p. IsLeastWalrasian terms.goods terms.opening u js p in
         let whole : IsWholeClock u terms all x = record { same = h.terms_are.0; number = numbers.0; explains = explains.0; equilibrium = w } in
         let count = choice-count all xs s.awards_are ∙ ap length (let m : members_of all ≡ js = ap (λ (t : Terms). members t.bidders all.number) h.terms_are.0 ∙ members-are in m) in
         let awards = zip-maps x (λ (row : AwardRow). row.award) js o.rows (map-bundle_of js xs (AllDifferent-range 1 terms.bidders) count) in
@@ -155,13 +155,13 @@ efficient u terms all others o h explains ended s = by o.clocks s.clocks_are
           choices = subst B h.numbers (all-choices u terms (all ∷ others) o.clocks h.terms_are explains ended s.clocks_are);
         }
       where
-        below : (q : List ℕ) → IsWalrasianPrices terms.goods (opening_of terms) u (all_bidders terms.bidders) q → AtMost (prices_of all) q
+        below : (q : List ℕ) → IsWalrasianPrices terms.goods terms.opening u (all_bidders terms.bidders) q → AtMost (prices_of all) q
         below q v =
             let numbers = numbers-of terms all others h in
-            let K : Terms → Type 0 = λ t. IsLeastMinimiser (opening_of t) (lyapunov t.goods u (members t.bidders all.number)) (prices_of all) in
-            let N : List ℕ → Type 0 = λ ks. IsLeastMinimiser (opening_of terms) (lyapunov terms.goods u ks) (prices_of all) in
+            let K : Terms → Type 0 = λ t. IsLeastMinimiser t.opening (lyapunov t.goods u (members t.bidders all.number)) (prices_of all) in
+            let N : List ℕ → Type 0 = λ ks. IsLeastMinimiser terms.opening (lyapunov terms.goods u ks) (prices_of all) in
             let least = subst N (ap (members terms.bidders) numbers.0 ∙ all-are-members terms.bidders) (subst K h.terms_are.0 (least-minimiser u all explains.0 ended.0)) in
-            least.1 q (walrasian-minimises terms.goods (opening_of terms) u (all_bidders terms.bidders) q v.0 v.1)
+            least.1 q (walrasian-minimises terms.goods terms.opening u (all_bidders terms.bidders) q v.0 v.1)
 
 pub efficient-if : (u : ℕ → List ℕ → ℤ) (terms : Terms) (clocks : List ClockHistory) (s : Settlement) → AreClocksOf terms clocks → ExplainsAll u clocks → IsOutcomeOf clocks s → IsEfficientSettlement u terms s
 efficient-if u terms clocks (Open clock round missing) h explains is = tt

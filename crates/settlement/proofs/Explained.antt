@@ -9,7 +9,7 @@ use Rattle.lot_base.specs.declared.phases.Phase.TheVariants.{Ended}
 use Rattle.lyapunov.specs.Bidders.{AllDifferent, bundle_of}
 use Rattle.lyapunov.proofs.Bidders.{AllDifferent-range, AllDifferent-without, map-bundle_of}
 use Rattle.lyapunov.proofs.Duality.{clearing-walrasian}
-use Rattle.clock.specs.Reports.{ClockHistory, opening_of, members, members_of, is_full}
+use Rattle.clock.specs.Reports.{ClockHistory, members, members_of, is_full}
 use Rattle.clock.specs.Standing.{prices_of, phase_of, steps_of, last_demands, last_round}
 use Rattle.clock.specs.Explained.{Explains, IsTrueReport}
 use Rattle.clock.proofs.Truthful.{least-near, members-true}
@@ -30,12 +30,12 @@ pub different-members : (n clock : ℕ) → AllDifferent (members n clock)
 different-members n clock = AllDifferent-without clock (range_with_len 1 n) (AllDifferent-range 1 n)
 
 pub explained-equilibrium : (u : ℕ → List ℕ → ℤ) (c : ClockHistory) (xs : List (List ℕ)) → Explains u c → phase_of c ≡ Ended → choice_of c ≡ Some xs
-    → IsWalrasian c.terms.goods (opening_of c.terms) u (members_of c) (prices_of c) (bundle_of (members_of c) xs)
+    → IsWalrasian c.terms.goods c.terms.opening u (members_of c) (prices_of c) (bundle_of (members_of c) xs)
 explained-equilibrium u c xs explains ended chosen =
     let js = members_of c in
     let p = prices_of c in
     let d = demands-true u c explains.reports js (full-ended c ended) in
     let e = map-bundle_of js xs (different-members c.terms.bidders c.number) (choice-count c xs chosen) in
-    let D : List (List (List ℕ)) → Type 0 = λ ds. IsClearingChoice c.terms.goods (opening_of c.terms) p ds xs in
-    let X : List (List ℕ) → Type 0 = IsClearingChoice c.terms.goods (opening_of c.terms) p (map (λ j. demand c.terms.goods (u j) p) js) in
-    clearing-walrasian c.terms.goods (opening_of c.terms) u js p (bundle_of js xs) (least-near u c explains).above (subst X (sym e) (subst D d (choice-clears c xs chosen)))
+    let D : List (List (List ℕ)) → Type 0 = λ ds. IsClearingChoice c.terms.goods c.terms.opening p ds xs in
+    let X : List (List ℕ) → Type 0 = IsClearingChoice c.terms.goods c.terms.opening p (map (λ j. demand c.terms.goods (u j) p) js) in
+    clearing-walrasian c.terms.goods c.terms.opening u js p (bundle_of js xs) (least-near u c explains).above (subst X (sym e) (subst D d (choice-clears c xs chosen)))

@@ -15,3 +15,4 @@ pub mod Efficient
 pub mod Unique
 pub mod Computed
 pub mod Examples
+pub mod Histories

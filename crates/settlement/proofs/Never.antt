@@ -9,7 +9,7 @@ use Rattle.lot_base.specs.declared.phases.Phase.TheVariants.{Ended, Halted}
 use Rattle.lyapunov.proofs.Bidders.{all-without}
 use Rattle.lyapunov.proofs.Existence.{choice_exists}
 use Rattle.award_assembly.proofs.Places.{first_choice-none}
-use Rattle.clock.specs.Reports.{ClockHistory, opening_of, all_bidders, members, members_of}
+use Rattle.clock.specs.Reports.{ClockHistory, all_bidders, members, members_of}
 use Rattle.clock.specs.Standing.{phase_of, prices_of, steps_of, last_demands}
 use Rattle.clock.specs.Explained.{Explains}
 use Rattle.clock.proofs.Truthful.{sets_of, prices-along, path, has-ended, never-halted}
@@ -31,12 +31,12 @@ has-choice u c explains ended = by (choice_of c) refl
     by (Some choice) e = refl
     by None e =
         let p = path u c explains in
-        let t = choice_exists c.terms.goods u (members_of c) p.substitutes (opening_of c.terms) (sets_of c (steps_of c)) p.goods p.steps (has-ended u c explains ended) in
-        let P : List ℕ → Type 0 = λ q. IsClearingChoice c.terms.goods (opening_of c.terms) q (map (λ j. demand c.terms.goods (u j) q) (members_of c)) t.0 in
-        let D : List (List (List ℕ)) → Type 0 = λ ds. IsClearingChoice c.terms.goods (opening_of c.terms) (prices_of c) ds t.0 in
+        let t = choice_exists c.terms.goods u (members_of c) p.substitutes c.terms.opening (sets_of c (steps_of c)) p.goods p.steps (has-ended u c explains ended) in
+        let P : List ℕ → Type 0 = λ q. IsClearingChoice c.terms.goods c.terms.opening q (map (λ j. demand c.terms.goods (u j) q) (members_of c)) t.0 in
+        let D : List (List (List ℕ)) → Type 0 = λ ds. IsClearingChoice c.terms.goods c.terms.opening (prices_of c) ds t.0 in
         let here = subst P (sym (prices-along c (steps_of c))) t.1 in
         let d = demands-true u c explains.reports (members_of c) (full-ended c ended) in
-        absurd (first_choice-none c.terms.goods (opening_of c.terms) (prices_of c) (map (last_demands c) (members_of c)) e t.0 (subst D (sym d) here))
+        absurd (first_choice-none c.terms.goods c.terms.opening (prices_of c) (map (last_demands c) (members_of c)) e t.0 (subst D (sym d) here))
 
 pub never-lacks : (u : ℕ → List ℕ → ℤ) (clocks : List ClockHistory) (P : ClockHistory → Type 0) → ExplainsAll u clocks → AllByRecursion (λ (c : ClockHistory). phase_of c ≡ Ended) clocks
     → MatchOption (find has_no_choice clocks) ⊥ P → ⊥

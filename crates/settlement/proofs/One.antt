@@ -6,7 +6,7 @@ use Rattle.lot_base.specs.Goods.{cost}
 use Rattle.lot_base.specs.declared.phases.Phase.TheVariants as phase
 use Rattle.clock.specs.Reports.{ClockHistory}
 use Rattle.clock.specs.Accounts.{account_without}
-use Rattle.settlement.specs.Clocks.{runs, has_stopped, is_running, is_halted, has_no_choice}
+use Rattle.settlement.specs.Clocks.{runs, has_stopped, is_running, is_halted, has_no_choice, opening_of}
 use Rattle.settlement.specs.Settling.{IsOutcomeOf, IsSettled, IsClockRow, IsAwardRow}
 use Rattle.settlement.specs.Alike.{StandAlike, HoldSame}
 use Rattle.settlement.specs.declared.outcome.AwardRow.{AwardRow}
@@ -25,7 +25,7 @@ all-same (c ∷ cs) (d ∷ ds) h = (same-stand c d h.0, all-same cs ds h.1)
 pub all-alike : (clocks : List ClockHistory) → AllZip StandAlike clocks clocks
 all-alike [] = tt
 all-alike (c ∷ cs) =
-    (record { same_number = refl; same_steps = refl; same_phase = refl; same_prices = refl; same_missing = refl; same_account = λ b. refl; same_choice = refl }, all-alike cs)
+    (record { same_terms = refl; same_number = refl; same_steps = refl; same_phase = refl; same_prices = refl; same_missing = refl; same_account = λ b. refl; same_choice = refl }, all-alike cs)
 
 -- the first clocks of two families that pass a test
 abbrev FoundAlike : Option ClockHistory → Option ClockHistory → Type 0
@@ -119,10 +119,11 @@ settled-same [] ds o p a h k = absurd h
 settled-same (c ∷ cs) [] o p a h k = absurd k
 settled-same (c ∷ cs) (d ∷ ds) o p a h k =
     let prices = h.prices_are ∙ a.0.same_prices ∙ sym k.prices_are in
+    let opening = h.opening_is ∙ ap opening_of a.0.same_terms ∙ sym k.opening_is in
     let awards = some-same (map (λ (r : AwardRow). r.award) o.rows) (map (λ (r : AwardRow). r.award) p.rows) (sym h.awards_are ∙ a.0.same_choice ∙ k.awards_are) in
     let rows = award-rows-same c d cs ds o.rows p.rows a.0 a.1 awards h.rows_are k.rows_are in
     let clocks = clock-rows-same (c ∷ cs) (d ∷ ds) o.clocks p.clocks a h.clocks_are k.clocks_are in
-    λ i. record { prices = prices i; rows = rows i; clocks = clocks i }
+    λ i. record { prices = prices i; opening = opening i; rows = rows i; clocks = clocks i }
 
 pub one-outcome : (cs ds : List ClockHistory) (s t : Settlement) → AllZip StandAlike cs ds → IsOutcomeOf cs s → IsOutcomeOf ds t → s ≡ t
 one-outcome cs ds s t a = by s t

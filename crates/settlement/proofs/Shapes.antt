@@ -1,6 +1,7 @@
 -- Where clocks of legal histories have an outcome it is whole: each bundle of a choice is one of a report, and so has an entry for
 -- each good.
-use Rattle.std.proofs.Common.{◌≡◌, ℕ, List, [], ◌∷◌, length, map, Option, Some, None, unwrap_or, refl, sym, ◌∙◌, ap, subst, arith, inl, inr}
+use Rattle.std.proofs.Common.{◌≡◌, ℕ, List, [], ◌∷◌, length, map, Option, Some, None, unwrap_or, Bool, true, false, cond, nat_eq, refl, sym, ◌∙◌, ap, subst, arith, inl, inr}
+use Rattle.std.specs.Prelude.{IfSome}
 use Rattle.std.specs.List.{AllByRecursion, AllZip}
 use Rattle.lot_base.specs.Goods.{AtMost}
 use Rattle.lot_base.specs.Box.{IsIn}
@@ -12,7 +13,7 @@ use Rattle.demand_set.specs.declared.reports.Report.{Report}
 use Rattle.clock.specs.Reports.{ClockHistory, members_of, demand_in, demands_in}
 use Rattle.clock.specs.Standing.{last_round, last_demands}
 use Rattle.clock.specs.Judging.{IsLegal}
-use Rattle.settlement.specs.Clocks.{AreClocksOf}
+use Rattle.settlement.specs.Clocks.{AreClocksOf, opening_of}
 use Rattle.settlement.specs.Settling.{IsClockRow, IsAwardRow, IsSettled}
 use Rattle.settlement.specs.Shapes.{IsOf, IsRowOfClock, ArePricesOfFirst, HasShape, IsWholeOutcome}
 use Rattle.settlement.specs.declared.outcome.AwardRow.{AwardRow}
@@ -65,6 +66,14 @@ first-prices : (all : ClockHistory) (others : List ClockHistory) (prices : List 
 first-prices all others prices [] e zip = absurd zip
 first-prices all others prices (row ∷ rows) e zip = e row zip.0
 
+-- the opening that is shown has one price for each good
+opening-fits : (terms : Terms) (shown : Option (List ℕ)) → shown ≡ opening_of terms → IfSome shown (IsOf (length terms.goods))
+opening-fits terms shown e = subst (λ o. IfSome o (IsOf (length terms.goods))) (sym e) (by (nat_eq terms.version 2))
+  where
+    by : (b : Bool) → IfSome (cond b (Some terms.opening) None) (IsOf (length terms.goods))
+    by true = terms.opens.goods
+    by false = tt
+
 pub whole : (terms : Terms) (clocks : List ClockHistory) (o : Outcome) → AreClocksOf terms clocks → AllByRecursion IsLegal clocks → IsSettled clocks o → IsWholeOutcome o
 whole terms [] o h legal s = absurd s
 whole terms (all ∷ others) o h legal s =
@@ -77,6 +86,7 @@ whole terms (all ∷ others) o h legal s =
     let Z : List ℕ → Type 0 = λ ks. AllZip (IsRowOfClock (length terms.goods) terms.bidders) ks o.clocks in
     let shape : HasShape (length terms.goods) terms.bidders o = record {
       prices_fit = goods;
+      opening_fits = opening-fits terms o.opening (s.opening_is ∙ ap opening_of h.terms_are.0);
       bidders_fit = bidders;
       awards_fit = subst A h.terms_are.0 (awards-fit (length all.terms.goods) o.rows awards);
       clocks_fit = subst Z h.numbers (rows-fit terms (all ∷ others) o.clocks h.terms_are legal s.clocks_are);

@@ -8,7 +8,7 @@ use Rattle.lot_base.specs.Economy.{without}
 use Rattle.lot_base.specs.declared.auction_terms.Terms.{Terms}
 use Rattle.lyapunov.specs.Bidders.{bundle_of}
 use Rattle.lyapunov.proofs.Lattice.{AtMost-same}
-use Rattle.clock.specs.Reports.{all_bidders, opening_of}
+use Rattle.clock.specs.Reports.{all_bidders}
 use Rattle.settlement.specs.Efficient.{IsEfficient, PaysVcg, award_of}
 use Rattle.settlement.specs.declared.outcome.AwardRow.{AwardRow}
 use Rattle.settlement.specs.declared.outcome.Outcome.{Outcome}
@@ -37,7 +37,7 @@ one-each u terms x [] [] (other ∷ others) h k = absurd k
 one-each u terms x (j ∷ js) [] others h k = absurd h
 one-each u terms x (j ∷ js) (row ∷ rows) [] h k = absurd k
 one-each u terms x (j ∷ js) (row ∷ rows) (other ∷ others) h k =
-    let e = one-payment terms.goods (opening_of terms) u (all_bidders terms.bidders) x j row.pays other.pays h.0 k.0 in
+    let e = one-payment terms.goods terms.opening u (all_bidders terms.bidders) x j row.pays other.pays h.0 k.0 in
     let f = one-each u terms x js rows others h.1 k.1 in
     λ n. e n ∷ f n
 

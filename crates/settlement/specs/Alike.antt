@@ -15,8 +15,9 @@ pub record HoldSame (c d : ClockHistory) : Type 0 where
   pub number_is : c.number ≡ d.number
   pub reports_are : (r : Report) → Contains c.reports r ↔ Contains d.reports r
 
--- They stand alike: they have the same steps, phase, prices and missing member, the same accounts and the same first choice.
+-- They stand alike: they have the same terms, steps, phase, prices and missing member, the same accounts and the same first choice.
 pub record StandAlike (c d : ClockHistory) : Type 0 where
+  pub same_terms : c.terms ≡ d.terms
   pub same_number : c.number ≡ d.number
   pub same_steps : steps_of c ≡ steps_of d
   pub same_phase : phase_of c ≡ phase_of d

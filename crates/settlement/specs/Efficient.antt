@@ -7,8 +7,8 @@ use Rattle.lot_base.specs.Economy.{AllBelowCeiling}
 use Rattle.lot_base.specs.Equilibrium.{IsWalrasian, IsLeastWalrasian, IsWelfare, IsVcgPayment, worth}
 use Rattle.lot_base.specs.declared.auction_terms.Terms.{Terms}
 use Rattle.lyapunov.specs.Bidders.{bundle_of}
-use Rattle.lyapunov.specs.Paths.{highest}
-use Rattle.clock.specs.Reports.{ClockHistory, opening_of, all_bidders, members}
+use Rattle.lyapunov.specs.Paths.{highest_rise}
+use Rattle.clock.specs.Reports.{ClockHistory, all_bidders, members}
 use Rattle.clock.specs.Explained.{Explains}
 use Rattle.settlement.specs.declared.outcome.AwardRow.{AwardRow}
 use Rattle.settlement.specs.declared.outcome.ClockRow.{ClockRow}
@@ -26,24 +26,24 @@ award_of terms outcome = bundle_of (all_bidders terms.bidders) (map (λ (row : A
 
 -- the row has the payment of Vickrey, Clarke and Groves at the awards
 abbrev pub PaysVcg : (ℕ → List ℕ → ℤ) → Terms → (ℕ → List ℕ) → ℕ → AwardRow → Type 0
-PaysVcg u terms awards bidder row = IsVcgPayment terms.goods (opening_of terms) u (all_bidders terms.bidders) awards bidder row.pays
+PaysVcg u terms awards bidder row = IsVcgPayment terms.goods terms.opening u (all_bidders terms.bidders) awards bidder row.pays
 
 -- no allocation among the members of a clock is worth more than its choice
 abbrev pub IsBestChoice : (ℕ → List ℕ → ℤ) → Terms → ℕ → ClockRow → Type 0
 IsBestChoice u terms number row =
     let js = members terms.bidders number in
-    IsWelfare terms.goods (opening_of terms) u js (worth terms.goods (opening_of terms) u js (bundle_of js row.choices))
+    IsWelfare terms.goods terms.opening u js (worth terms.goods terms.opening u js (bundle_of js row.choices))
 
--- The prices of a clock are at most those of the outcome on every good, and it has made no more steps than the highest of these,
--- which is as many as the clock of all has made: without a bidder prices are no higher.
-abbrev pub IsNoHigher : Outcome → ClockRow → Type 0
-IsNoHigher outcome row = AtMost row.prices outcome.prices × (row.steps ≤ highest outcome.prices)
+-- The prices of a clock are at most those of the outcome on every good, and it has made no more steps than the most that one of these
+-- is above its opening, which is as many as the clock of all has made: without a bidder prices are no higher.
+abbrev pub IsNoHigher : Terms → Outcome → ClockRow → Type 0
+IsNoHigher terms outcome row = AtMost row.prices outcome.prices × (row.steps ≤ highest_rise terms.opening outcome.prices)
 
 pub record IsEfficient (u : ℕ → List ℕ → ℤ) (terms : Terms) (outcome : Outcome) : Type 0 where
-  pub equilibrium : IsWalrasian terms.goods (opening_of terms) u (all_bidders terms.bidders) outcome.prices (award_of terms outcome)
-  pub least : IsLeastWalrasian terms.goods (opening_of terms) u (all_bidders terms.bidders) outcome.prices
+  pub equilibrium : IsWalrasian terms.goods terms.opening u (all_bidders terms.bidders) outcome.prices (award_of terms outcome)
+  pub least : IsLeastWalrasian terms.goods terms.opening u (all_bidders terms.bidders) outcome.prices
   pub payments : AllZip (PaysVcg u terms (award_of terms outcome)) (all_bidders terms.bidders) outcome.rows
-  pub no_higher : AllByRecursion (IsNoHigher outcome) outcome.clocks
+  pub no_higher : AllByRecursion (IsNoHigher terms outcome) outcome.clocks
   pub choices : AllZip (IsBestChoice u terms) (range_with_len 0 (terms.bidders + 1)) outcome.clocks
 
 -- Where there is an outcome it is efficient. Some choice of each clock clears, and no clock halts whose ceiling is above all values.

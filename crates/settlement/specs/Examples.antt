@@ -1,6 +1,6 @@
--- Two worked auctions, whole, of one good in two units with a ceiling of 100. Written out are the reports of all clocks, each the
+-- Three worked auctions, whole, of one good in two units with a ceiling of 100. Written out are the reports of all clocks, each the
 -- demand set at the price of its round, and what they settle.
-use Rattle.std.specs.Prelude.{◌≡◌, ℕ, ◌+◌, List, [], ◌∷◌, ◌++◌, ℤ, pos, negsuc}
+use Rattle.std.specs.Prelude.{◌≡◌, ℕ, ◌+◌, List, [], ◌∷◌, ◌++◌, ℤ, pos, negsuc, Some, None}
 use Rattle.std.specs.List.{AllByRecursion}
 use Rattle.lot_base.specs.Economy.{AllBelowCeiling}
 use Rattle.lot_base.specs.RowsTables.{three_bidders, unequal_bidders}
@@ -29,6 +29,9 @@ one_or_two = units 1 ∷ units 2 ∷ []
 
 abbrev one : List (List ℕ)
 one = units 1 ∷ []
+
+abbrev none : List (List ℕ)
+none = units 0 ∷ []
 
 abbrev none_or_one : List (List ℕ)
 none_or_one = units 0 ∷ units 1 ∷ []
@@ -88,6 +91,7 @@ clock_row steps price choices = record { steps = steps; prices = price ∷ []; c
 abbrev pub first_outcome : Outcome
 first_outcome = record {
   prices = 6 ∷ [];
+  opening = None;
   rows = award_row 1 (negsuc 3) (negsuc 3) (pos 6) ∷ award_row 1 (negsuc 4) (negsuc 4) (pos 6) ∷ award_row 0 (negsuc 6) (negsuc 6) (pos 0) ∷ [];
   clocks =
       clock_row 6 6 (units 1 ∷ units 1 ∷ units 0 ∷ [])
@@ -113,6 +117,8 @@ pub record IsFirstExample (terms : Terms) : Type 0 where
   pub goods : terms.goods ≡ 2 ∷ []
   pub bidders : terms.bidders ≡ 3
   pub ceiling : terms.ceiling ≡ 100
+  pub version : terms.version ≡ 1
+  pub opening : terms.opening ≡ 0 ∷ []
   pub worked : IsWorked three_bidders terms (first_clocks terms) first_outcome
 
 -- A second auction, of two bidders, to whom no, one and two units are worth 0, 10 and 19, then 0, 8 and 11. At a price of 8 the first one
@@ -132,6 +138,7 @@ second_clocks terms = clock_with terms 0 reports_of_both ∷ clock_with terms 1 
 abbrev pub second_outcome_at : ℤ → Outcome
 second_outcome_at pays = record {
   prices = 8 ∷ [];
+  opening = None;
   rows = award_row 2 (pos 0) (pos 5) pays ∷ award_row 0 (pos 0) (pos 0) (pos 0) ∷ [];
   clocks = clock_row 8 8 (units 2 ∷ units 0 ∷ []) ∷ clock_row 0 0 (units 2 ∷ []) ∷ clock_row 0 0 (units 2 ∷ []) ∷ [];
 }
@@ -141,5 +148,43 @@ pub record IsSecondExample (terms : Terms) : Type 0 where
   pub goods : terms.goods ≡ 2 ∷ []
   pub bidders : terms.bidders ≡ 2
   pub ceiling : terms.ceiling ≡ 100
+  pub version : terms.version ≡ 1
+  pub opening : terms.opening ≡ 0 ∷ []
   pub worked : IsWorked unequal_bidders terms (second_clocks terms) (second_outcome_at (pos 11))
   pub only_payment : (pays : ℤ) → IsEfficient unequal_bidders terms (second_outcome_at pays) → pays ≡ pos 11
+
+-- A third auction has the bidders of the first, and a reserve of 9. At 9 the first bidder wants a unit and the others none, so each clock
+-- ends where it opened, and one unit stays unsold. Without the first bidder both units would be worth 9 to the seller; with it the seller
+-- keeps one of them, so it pays 9.
+abbrev pub third_clocks : Terms → List ClockHistory
+third_clocks terms =
+    clock_with terms 0 (from_round 1 (1 ∷ 2 ∷ 3 ∷ []) ((one ∷ none ∷ none ∷ []) ∷ []))
+    ∷ clock_with terms 1 (from_round 1 (2 ∷ 3 ∷ []) ((none ∷ none ∷ []) ∷ []))
+    ∷ clock_with terms 2 (from_round 1 (1 ∷ 3 ∷ []) ((one ∷ none ∷ []) ∷ []))
+    ∷ clock_with terms 3 (from_round 1 (1 ∷ 2 ∷ []) ((one ∷ none ∷ []) ∷ []))
+    ∷ []
+
+-- the outcome where the first bidder pays so much
+abbrev pub third_outcome_at : ℤ → Outcome
+third_outcome_at pays = record {
+  prices = 9 ∷ [];
+  opening = Some (9 ∷ []);
+  rows = award_row 1 (pos 0) (pos 0) pays ∷ award_row 0 (pos 0) (pos 0) (pos 0) ∷ award_row 0 (pos 0) (pos 0) (pos 0) ∷ [];
+  clocks =
+      clock_row 0 9 (units 1 ∷ units 0 ∷ units 0 ∷ [])
+      ∷ clock_row 0 9 (units 0 ∷ units 0 ∷ [])
+      ∷ clock_row 0 9 (units 1 ∷ units 0 ∷ [])
+      ∷ clock_row 0 9 (units 1 ∷ units 0 ∷ [])
+      ∷ [];
+}
+
+-- the terms of the third auction; with any other payment, as with one that forgets what the unsold units are worth to the seller, the
+-- outcome is not efficient
+pub record IsThirdExample (terms : Terms) : Type 0 where
+  pub goods : terms.goods ≡ 2 ∷ []
+  pub bidders : terms.bidders ≡ 3
+  pub ceiling : terms.ceiling ≡ 100
+  pub version : terms.version ≡ 2
+  pub opening : terms.opening ≡ 9 ∷ []
+  pub worked : IsWorked three_bidders terms (third_clocks terms) (third_outcome_at (pos 9))
+  pub only_payment : (pays : ℤ) → IsEfficient three_bidders terms (third_outcome_at pays) → pays ≡ pos 9

@@ -4,12 +4,11 @@
 use Rattle.std.specs.Prelude.{◌≡◌, pos, ◌+ℤ◌, ◌-ℤ◌, List, [], ◌∷◌, map, find, Some, None, MatchOption, Bool}
 use Rattle.std.specs.List.{AllZip}
 use Rattle.lot_base.specs.Goods.{cost}
-use Rattle.lot_base.specs.declared.phases.Phase.TheVariants.{Ended}
 use Rattle.lot_base.specs.declared.phases.Phase.TheVariants as phase
 use Rattle.clock.specs.Reports.{ClockHistory}
 use Rattle.clock.specs.Standing.{phase_of, prices_of, steps_of, last_round, missing_of}
 use Rattle.clock.specs.Accounts.{account_without}
-use Rattle.settlement.specs.Clocks.{is_running, is_halted, has_no_choice, choice_of}
+use Rattle.settlement.specs.Clocks.{is_running, is_halted, has_no_choice, choice_of, opening_of}
 use Rattle.settlement.specs.declared.outcome.AwardRow.{AwardRow}
 use Rattle.settlement.specs.declared.outcome.ClockRow.{ClockRow}
 use Rattle.settlement.specs.declared.outcome.Outcome.{Outcome}
@@ -36,10 +35,12 @@ pub record IsAwardRow (all own : ClockHistory) (row : AwardRow) : Type 0 where
   pub credit_is : row.credit ≡ account_without all own.number
   pub pays_is : row.pays ≡ (pos (cost (prices_of all) row.award) +ℤ row.debit) -ℤ row.credit
 
--- The outcome where each clock has a choice that clears: the last prices of the clock of all, a row for each bidder, whose
+-- The outcome where each clock has a choice that clears: the last prices of the clock of all, the opening prices that the seller has
+-- named, a row for each bidder, whose
 -- awards are that clock's first choice, and a row for each clock.
 pub record AreSettled (all : ClockHistory) (others : List ClockHistory) (outcome : Outcome) : Type 0 where
   pub prices_are : outcome.prices ≡ prices_of all
+  pub opening_is : outcome.opening ≡ opening_of all.terms
   pub awards_are : choice_of all ≡ Some (map (λ (row : AwardRow). row.award) outcome.rows)
   pub rows_are : AllZip (IsAwardRow all) others outcome.rows
   pub clocks_are : AllZip IsClockRow (all ∷ others) outcome.clocks

@@ -1,6 +1,6 @@
 -- The shape of an outcome: each bundle and each list of prices has as many entries as there are goods, there is a row for each
 -- bidder, a row for each clock, one more than there are bidders, and in it a bundle for each member of the clock.
-use Rattle.std.specs.Prelude.{◌≡◌, ◌≤◌, ◌+◌, ℕ, ⊤, List, [], ◌∷◌, length}
+use Rattle.std.specs.Prelude.{◌≡◌, ◌≤◌, ◌+◌, ℕ, ⊤, List, [], ◌∷◌, length, IfSome}
 use Rattle.std.specs.List.{AllByRecursion, AllZip, range_with_len}
 use Rattle.clock.specs.Reports.{members}
 use Rattle.settlement.specs.declared.outcome.AwardRow.{AwardRow}
@@ -26,6 +26,7 @@ ArePricesOfFirst prices (row ∷ rows) = prices ≡ row.prices
 
 pub record HasShape (goods bidders : ℕ) (o : Outcome) : Type 0 where
   pub prices_fit : IsOf goods o.prices
+  pub opening_fits : IfSome o.opening (IsOf goods)
   pub bidders_fit : length o.rows ≡ bidders
   pub awards_fit : AllByRecursion (λ (row : AwardRow). IsOf goods row.award) o.rows
   pub clocks_fit : AllZip (IsRowOfClock goods bidders) (range_with_len 0 (bidders + 1)) o.clocks

@@ -5,12 +5,12 @@ ghost use Rattle.clock.specs.Reports.{ClockHistory};
 ghost use Rattle.settlement.specs.Settling.{IsOutcomeOf};
 ghost use Rattle.settlement.specs.Alike.{HoldSame, StandAlike};
 ghost use Rattle.settlement.specs.Efficient.{IsEfficient};
-ghost use Rattle.settlement.specs.Examples.{IsFirstExample, IsSecondExample};
+ghost use Rattle.settlement.specs.Examples.{IsFirstExample, IsSecondExample, IsThirdExample};
 ghost use Rattle.lot_base.specs.declared.auction_terms.Terms.{Terms as TermsValue};
 ghost use Rattle.settlement.specs.declared.outcome.Outcome.{Outcome};
 ghost use Rattle.settlement.specs.declared.outcome.Settlement.{Settlement};
 
-use lot_base::{Goods, Terms};
+use lot_base::{Goods, Prices, Terms};
 
 /// Clocks have one outcome.
 pub fn outcome_law()
@@ -46,4 +46,13 @@ pub fn credit_example() -> Terms
     ensures { IsSecondExample result }
 {
     Terms::new(Goods::new(&[2]).unwrap(), 2, 100).unwrap()
+}
+
+/// The first example with a reserve of 9, at which one unit stays unsold: a payment that forgets what it is worth to the seller is not
+/// efficient.
+pub fn reserve_example() -> Terms
+    ensures { IsThirdExample result }
+{
+    let opening = Prices::read(&[9]).unwrap();
+    Terms::with_opening(Goods::new(&[2]).unwrap(), 3, 100, opening).unwrap()
 }

@@ -1,9 +1,10 @@
 //! What the clocks of an auction settle: prices, awards and payments, or where they are open.
 #![tactic(auto)]
 
-ghost use Rattle.std.specs.Prelude.{ℕ, ℤ, List, IfOk};
+ghost use Rattle.std.specs.Prelude.{◌≡◌, ℕ, ℤ, List, IfOk};
 ghost use Rattle.std.specs.List.{AllZip};
-ghost use Rattle.settlement.specs.Clocks.{AreClocksOf};
+ghost use Rattle.clock.specs.Reports.{histories};
+ghost use Rattle.settlement.specs.Clocks.{AreClocksOf, opening_of};
 ghost use Rattle.settlement.specs.Settling.{IsClockRow, IsSettled, IsOutcomeOf};
 ghost use Rattle.settlement.specs.Efficient.{ExplainsAll, IsEfficientSettlement};
 ghost use Rattle.settlement.specs.Shapes.{IsWholeSettlement};
@@ -18,14 +19,14 @@ mod tests;
 
 use choosing::Choices;
 use clock::Clock;
-use lot_base::{NoMemory, Terms};
-pub use outcome::{AwardRow, ClockRow, Outcome, Rows, Settlement};
+use lot_base::{NoMemory, Prices, Sequence, Terms};
+pub use outcome::{AwardRow, ClockRow, Outcome, Settlement};
 use std::alloc::Global;
 
 /// What the clocks of an auction settle, in the order of their numbers.
 pub fn settle(alloc: Global, terms: &Terms, clocks: &[Clock]) -> Result<Settlement, NoMemory>
-    requires { AreClocksOf terms.now clocks.now }
-    ensures outcome { IfOk result (IsOutcomeOf clocks.now) }
+    requires { AreClocksOf terms.now (histories clocks.now) }
+    ensures outcome { IfOk result (IsOutcomeOf (histories clocks.now)) }
 
     // An outcome has an entry for each good, a row for each bidder and each clock, and a bundle for each member of a clock.
     ensures whole { IfOk result IsWholeSettlement }
@@ -33,15 +34,15 @@ pub fn settle(alloc: Global, terms: &Terms, clocks: &[Clock]) -> Result<Settleme
     // Where one valuation for each bidder explains all reports, an outcome is an equilibrium at the least such prices, each
     // bidder pays what Vickrey, Clarke and Groves ask, and the choices show the greatest worth without each bidder. No clock
     // is then without a choice, and none halts whose ceiling is above all values.
-    ensures efficient { IfOk result (λ s. (u : ℕ → List ℕ → ℤ) → ExplainsAll u clocks.now → IsEfficientSettlement u terms.now s) }
+    ensures efficient { IfOk result (λ s. (u : ℕ → List ℕ → ℤ) → ExplainsAll u (histories clocks.now) → IsEfficientSettlement u terms.now s) }
 {
     settle_exactly(alloc, terms, clocks)
 }
 
 /// The same without the economy.
 fn settle_exactly(alloc: Global, terms: &Terms, clocks: &[Clock]) -> Result<Settlement, NoMemory>
-    requires { AreClocksOf terms.now clocks.now }
-    ensures outcome { IfOk result (IsOutcomeOf clocks.now) }
+    requires { AreClocksOf terms.now (histories clocks.now) }
+    ensures outcome { IfOk result (IsOutcomeOf (histories clocks.now)) }
     ensures whole { IfOk result IsWholeSettlement }
 {
     if let Some(settlement) = standing::open(clocks) {
@@ -65,11 +66,11 @@ fn outcome_of(
     alloc: Global,
     terms: &Terms,
     clocks: &[Clock],
-    rows: Rows<ClockRow>,
+    rows: Sequence<ClockRow>,
 ) -> Result<Outcome, NoMemory>
-    requires clocks { AreClocksOf terms.now clocks.now }
-    requires rows { AllZip IsClockRow clocks.now rows }
-    ensures { IfOk result (IsSettled clocks.now) }
+    requires clocks { AreClocksOf terms.now (histories clocks.now) }
+    requires rows { AllZip IsClockRow (histories clocks.now) rows }
+    ensures { IfOk result (IsSettled (histories clocks.now)) }
 {
     let all = &clocks[0];
     let others = clocks.split_at(1).1;
@@ -78,9 +79,21 @@ fn outcome_of(
     match awarding::award_rows(alloc, all, others, &prices, &row.choices) {
         Ok(awards) => Ok(Outcome {
             prices,
+            opening: opening_of(terms),
             rows: awards,
             clocks: rows,
         }),
         Err(NoMemory) => Err(NoMemory),
+    }
+}
+
+/// The opening prices, where the seller has named them.
+fn opening_of(terms: &Terms) -> Option<Prices>
+    ensures { result ≡ opening_of terms.now }
+{
+    if terms.version == 2 {
+        Some(terms.opening)
+    } else {
+        None
     }
 }

@@ -1,9 +1,6 @@
 //! What the clocks of an auction settle.
-ghost use Rattle.std.specs.Prelude.{◌≡◌};
-
 use award_assembly::Choice;
-use lot_base::{Bundle, Prices};
-use std::marker::Model;
+use lot_base::{Bundle, Prices, Sequence};
 
 /// What a bidder is awarded and pays. A negative number is one that the bidder receives.
 #[derive(Clone, Copy, Debug)]
@@ -22,49 +19,14 @@ pub struct ClockRow {
     pub choices: Choice,
 }
 
-/// Rows of a table, seen as their list.
-#[derive(Debug, Drop)]
-pub struct Rows<T> {
-    rows: Vec<T>,
-}
-
-impl<T> Model for Rows<T> {
-    ghost use Rattle.std.specs.Prelude.{List};
-
-    ghost Value = { List T };
-
-    ghost view = { λ r. r.rows.items };
-}
-
-impl<T> Rows<T> {
-    /// The table of these rows.
-    pub fn from_vec(rows: Vec<T>) -> Rows<T>
-        ensures { result ≡ rows.items }
-    {
-        Rows { rows }
-    }
-
-    /// The rows, in order.
-    pub fn into_vec(self) -> Vec<T>
-        ensures { result.items ≡ self }
-    {
-        self.rows
-    }
-
-    /// The rows, in order.
-    pub fn as_slice(&self) -> &[T]
-        ensures { result.now ≡ self.now }
-    {
-        &self.rows
-    }
-}
-
 /// Prices, a row for each bidder and a row for each clock, both in the order of their numbers.
 #[derive(Debug, Drop)]
 pub struct Outcome {
     pub prices: Prices,
-    pub rows: Rows<AwardRow>,
-    pub clocks: Rows<ClockRow>,
+    /// The prices at which the clocks opened, where the terms are of the second version.
+    pub opening: Option<Prices>,
+    pub rows: Sequence<AwardRow>,
+    pub clocks: Sequence<ClockRow>,
 }
 
 /// Where the clocks of an auction stand together.

@@ -1,5 +1,6 @@
 //! Clocks that have not ended.
 ghost use Rattle.std.specs.Prelude.{◌≡◌, find, option_copied, MatchOption, IfSome};
+ghost use Rattle.clock.specs.Reports.{ClockOf, histories};
 ghost use Rattle.settlement.specs.Clocks.{is_running, is_halted};
 ghost use Rattle.settlement.specs.Settling.{NoneIs, IsOutcomeOf};
 ghost use Rattle.settlement.specs.Shapes.{IsWholeSettlement};
@@ -10,7 +11,7 @@ use lot_base::Phase;
 
 /// What the clocks settle where one is running.
 pub(crate) fn open(clocks: &[Clock]) -> Option<Settlement>
-    ensures outcome { MatchOption result (NoneIs is_running clocks.now) (IsOutcomeOf clocks.now) }
+    ensures outcome { MatchOption result (NoneIs is_running (histories clocks.now)) (IsOutcomeOf (histories clocks.now)) }
     ensures whole { IfSome result IsWholeSettlement }
 {
     let clock = first_running(clocks)?;
@@ -23,8 +24,8 @@ pub(crate) fn open(clocks: &[Clock]) -> Option<Settlement>
 
 /// What the clocks settle where none is running and one has halted.
 pub(crate) fn halted(clocks: &[Clock]) -> Option<Settlement>
-    requires { NoneIs is_running clocks.now }
-    ensures outcome { MatchOption result (NoneIs is_halted clocks.now) (IsOutcomeOf clocks.now) }
+    requires { NoneIs is_running (histories clocks.now) }
+    ensures outcome { MatchOption result (NoneIs is_halted (histories clocks.now)) (IsOutcomeOf (histories clocks.now)) }
     ensures whole { IfSome result IsWholeSettlement }
 {
     let clock = first_halted(clocks)?;
@@ -38,19 +39,19 @@ pub(crate) fn halted(clocks: &[Clock]) -> Option<Settlement>
 }
 
 fn first_running(clocks: &[Clock]) -> Option<&Clock>
-    ensures { option_copied result ≡ find is_running clocks.now }
+    ensures { option_copied result ≡ find (λ (c : ClockOf). is_running c.history) clocks.now }
 {
     clocks.iter().find(|clock| is_running(clock))
 }
 
 fn first_halted(clocks: &[Clock]) -> Option<&Clock>
-    ensures { option_copied result ≡ find is_halted clocks.now }
+    ensures { option_copied result ≡ find (λ (c : ClockOf). is_halted c.history) clocks.now }
 {
     clocks.iter().find(|clock| is_halted(clock))
 }
 
 fn is_running(clock: &Clock) -> bool
-    ensures { result ≡ is_running clock.now }
+    ensures { result ≡ is_running clock.now.history }
 {
     match clock.look().phase {
         Phase::Running => true,
@@ -59,7 +60,7 @@ fn is_running(clock: &Clock) -> bool
 }
 
 fn is_halted(clock: &Clock) -> bool
-    ensures { result ≡ is_halted clock.now }
+    ensures { result ≡ is_halted clock.now.history }
 {
     match clock.look().phase {
         Phase::Halted(_) => true,

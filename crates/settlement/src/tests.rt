@@ -1,13 +1,14 @@
 //! What no clause says: that calls succeed where there is memory, and outcomes that were worked by hand.
 ghost use Rattle.std.specs.Prelude.{◌≡◌, ◌≤◌, IfOk};
 ghost use Rattle.lot_base.specs.Demands.{IsDemand};
+ghost use Rattle.clock.specs.Reports.{histories};
 ghost use Rattle.settlement.specs.Clocks.{AreClocksOf};
 
-use crate::laws::{credit_example, explained_example};
-use crate::{AwardRow, ClockRow, Rows, Settlement, settle};
+use crate::laws::{credit_example, explained_example, reserve_example};
+use crate::{AwardRow, ClockRow, Settlement, settle};
 use clock::{Clock, Judgement};
 use demand_set::{Demand, Report};
-use lot_base::{Bundle, Goods, Phase, Prices, RawDemand, Terms, compare, cost};
+use lot_base::{Bundle, Goods, Phase, Prices, RawDemand, Sequence, Terms, compare, cost};
 use std::alloc::Global;
 use std::cmp::Ordering;
 use std::process::Abort;
@@ -31,7 +32,7 @@ fn read(rt: &impl Abort, alloc: Global, goods: &Goods, quantities: &[u16]) -> Re
     assert_eq!(rt; quantities.len() % count as usize, 0);
     let raw = RawDemand {
         goods: count,
-        quantities,
+        quantities: Sequence::from_vec(quantities),
     };
     Ok(Demand::read(alloc, goods, &raw)?)
 }
@@ -72,21 +73,25 @@ fn demand_at(
 
 fn offer(
     rt: &impl Abort,
+    alloc: Global,
     clock: &mut Clock,
     bidder: u8,
     round: u32,
     demand: Demand,
 ) -> Result<(), Fail>
-    requires { IsDemand clock.old.terms.goods demand }
-    ensures terms { clock.new.terms ≡ clock.old.terms }
-    ensures number { clock.new.number ≡ clock.old.number }
+    requires { IsDemand clock.old.history.terms.goods demand }
+    ensures terms { clock.new.history.terms ≡ clock.old.history.terms }
+    ensures number { clock.new.history.number ≡ clock.old.history.number }
 {
     match clock.judge(bidder, round, &demand) {
-        Judgement::Take => clock.apply(Report {
-            bidder,
-            round,
-            demand,
-        })?,
+        Judgement::Take => clock.apply(
+            alloc,
+            Report {
+                bidder,
+                round,
+                demand,
+            },
+        )?,
         judgement => panic!(rt; "bidder {bidder} round {round}: {judgement:?}"),
     }
     Ok(())
@@ -100,13 +105,13 @@ fn listed(
     reports: &[(u8, u32, &[u16])],
 ) -> Result<Clock, Fail>
     requires { number ≤ terms.now.bidders }
-    ensures terms { IfOk result (λ c. c.terms ≡ terms.now) }
-    ensures number { IfOk result (λ c. c.number ≡ number) }
+    ensures terms { IfOk result (λ c. c.history.terms ≡ terms.now) }
+    ensures number { IfOk result (λ c. c.history.number ≡ number) }
 {
     let mut clock = Clock::new(alloc, terms, number)?;
     for (bidder, round, quantities) in reports {
         let demand = read(rt, alloc, &terms.goods, quantities)?;
-        offer(rt, &mut clock, *bidder, *round, demand)?;
+        offer(rt, alloc, &mut clock, *bidder, *round, demand)?;
     }
     Ok(clock)
 }
@@ -120,8 +125,8 @@ fn full(
     values: &[&[u32]],
 ) -> Result<Clock, Fail>
     requires { number ≤ terms.now.bidders }
-    ensures terms { IfOk result (λ c. c.terms ≡ terms.now) }
-    ensures number { IfOk result (λ c. c.number ≡ number) }
+    ensures terms { IfOk result (λ c. c.history.terms ≡ terms.now) }
+    ensures number { IfOk result (λ c. c.history.number ≡ number) }
 {
     let mut clock = Clock::new(alloc, terms, number)?;
     for round in 1..100 {
@@ -141,16 +146,16 @@ fn fill(
     round: u32,
     values: &[&[u32]],
 ) -> Result<(), Fail>
-    requires { clock.old.terms ≡ terms.now }
-    ensures terms { clock.new.terms ≡ clock.old.terms }
-    ensures number { clock.new.number ≡ clock.old.number }
+    requires { clock.old.history.terms ≡ terms.now }
+    ensures terms { clock.new.history.terms ≡ clock.old.history.terms }
+    ensures number { clock.new.history.number ≡ clock.old.history.number }
 {
     let prices = clock.look().prices;
     for place in 0..values.len() {
         let bidder = (place % 12) as u8 + 1;
         if bidder != clock.number() {
             let demand = demand_at(rt, alloc, &terms.goods, &prices, values[place])?;
-            offer(rt, clock, bidder, round, demand)?;
+            offer(rt, alloc, clock, bidder, round, demand)?;
         }
     }
     Ok(())
@@ -164,8 +169,8 @@ fn clock_of(
     reports: Reports,
 ) -> Result<Clock, Fail>
     requires { number ≤ terms.now.bidders }
-    ensures terms { IfOk result (λ c. c.terms ≡ terms.now) }
-    ensures number { IfOk result (λ c. c.number ≡ number) }
+    ensures terms { IfOk result (λ c. c.history.terms ≡ terms.now) }
+    ensures number { IfOk result (λ c. c.history.number ≡ number) }
 {
     match reports {
         Reports::Listed(lists) => {
@@ -182,7 +187,7 @@ fn clocks_of(
     terms: &Terms,
     reports: Reports,
 ) -> Result<Vec<Clock>, Fail>
-    ensures { IfOk result (λ v. AreClocksOf terms.now v.items) }
+    ensures { IfOk result (λ v. AreClocksOf terms.now (histories v.items)) }
 {
     let mut clocks = Vec::new(alloc);
     for number in 0..terms.bidders + 1 {
@@ -252,6 +257,7 @@ fn assert_clock(
 fn assert_settled(
     rt: &impl Abort,
     settlement: &Settlement,
+    opening: &[u32],
     prices: &[u32],
     rows: &[(&[u16], i64, i64, i64)],
     clocks: &[(u32, &[u32], &[&[u16]])],
@@ -260,6 +266,12 @@ fn assert_settled(
         panic!(rt; "{settlement:?}");
     };
     assert!(rt; are_prices(&outcome.prices, prices));
+    assert_eq!(rt; outcome.opening.is_none(), opening.is_empty());
+    assert!(rt;
+        outcome
+            .opening
+            .is_none_or(|shown| are_prices(&shown, opening))
+    );
     let award_rows = outcome.rows.as_slice();
     assert_eq!(rt; award_rows.len(), rows.len());
     for place in 0..rows.len() {
@@ -283,6 +295,7 @@ fn three_bidders_pay_the_price_of_uniform_units(rt: HostRuntime) -> Result<(), F
     assert_settled(
         &rt,
         &settlement,
+        &[],
         &[6],
         &[(&[1], -4, -4, 6), (&[1], -5, -5, 6), (&[0], -7, -7, 0)],
         &[
@@ -294,12 +307,51 @@ fn three_bidders_pay_the_price_of_uniform_units(rt: HostRuntime) -> Result<(), F
     )
 }
 
+// The same bidders, and a reserve of 5: they pay as much. The clocks without a bidder end where they opened.
 #[test]
-fn the_rows_are_given_back_as_they_came(rt: HostRuntime) -> Result<(), Fail> {
-    let steps = Rows::from_vec([6u32, 3, 4, 4].to_vec(rt.alloc())?);
-    assert_eq!(rt; steps.as_slice(), [6u32, 3, 4, 4].as_slice());
-    assert_eq!(rt; steps.into_vec().as_slice(), [6u32, 3, 4, 4].as_slice());
-    Ok(())
+fn a_reserve_below_the_price_changes_no_payment(rt: HostRuntime) -> Result<(), Fail> {
+    let values = [[0, 10, 14].as_slice(), &[0, 8, 11], &[0, 6, 7]];
+    let opening = Prices::read(&[5]).ok_or("opening")?;
+    let goods = Goods::new(&[2])?;
+    assert_eq!(rt; opening.count(), goods.count());
+    let terms = Terms::with_opening(goods, 3, 100, opening)?;
+    let clocks = clocks_of(&rt, rt.alloc(), &terms, Reports::True(&values))?;
+    let settlement = settle(rt.alloc(), &terms, &clocks)?;
+    assert_settled(
+        &rt,
+        &settlement,
+        &[5],
+        &[6],
+        &[(&[1], 0, 0, 6), (&[1], 0, 0, 6), (&[0], 0, 0, 0)],
+        &[
+            (1, &[6], &[&[1], &[1], &[0]]),
+            (0, &[5], &[&[1], &[1]]),
+            (0, &[5], &[&[1], &[1]]),
+            (0, &[5], &[&[1], &[1]]),
+        ],
+    )
+}
+
+// A reserve of 9: one unit stays unsold, and the other is sold at it. The numbers are those of the law.
+#[test]
+fn a_unit_stays_unsold_at_its_reserve(rt: HostRuntime) -> Result<(), Fail> {
+    let values = [[0, 10, 14].as_slice(), &[0, 8, 11], &[0, 6, 7]];
+    let terms = reserve_example();
+    let clocks = clocks_of(&rt, rt.alloc(), &terms, Reports::True(&values))?;
+    let settlement = settle(rt.alloc(), &terms, &clocks)?;
+    assert_settled(
+        &rt,
+        &settlement,
+        &[9],
+        &[9],
+        &[(&[1], 0, 0, 9), (&[0], 0, 0, 0), (&[0], 0, 0, 0)],
+        &[
+            (0, &[9], &[&[1], &[0], &[0]]),
+            (0, &[9], &[&[0], &[0]]),
+            (0, &[9], &[&[1], &[0]]),
+            (0, &[9], &[&[1], &[0]]),
+        ],
+    )
 }
 
 // Two units; the bidders value them at 10 and 9, 8 and 3. The first pays what the second loses, and not twice the price.
@@ -312,6 +364,7 @@ fn a_credit_lowers_the_payment(rt: HostRuntime) -> Result<(), Fail> {
     assert_settled(
         &rt,
         &settlement,
+        &[],
         &[8],
         &[(&[2], 0, 5, 11), (&[0], 0, 0, 0)],
         &[
@@ -330,6 +383,7 @@ fn two_goods_go_to_two_bidders(rt: HostRuntime) -> Result<(), Fail> {
     assert_settled(
         &rt,
         &settlement,
+        &[],
         &[1, 0],
         &[(&[0, 1], 0, 0, 0), (&[1, 0], 0, 0, 1)],
         &[
@@ -348,6 +402,7 @@ fn a_good_without_a_price_stays_unsold(rt: HostRuntime) -> Result<(), Fail> {
     assert_settled(
         &rt,
         &settlement,
+        &[],
         &[2, 0],
         &[(&[1, 0], 0, 0, 2), (&[0, 0], 0, 0, 0)],
         &[
@@ -366,6 +421,7 @@ fn one_bidder_pays_nothing(rt: HostRuntime) -> Result<(), Fail> {
     assert_settled(
         &rt,
         &settlement,
+        &[],
         &[0],
         &[(&[2], 0, 0, 0)],
         &[(0, &[0], &[&[2]]), (0, &[0], &[])],
@@ -383,6 +439,7 @@ fn the_first_choice_sells_nothing_where_nothing_has_a_price(rt: HostRuntime) -> 
     assert_settled(
         &rt,
         &settlement,
+        &[],
         &[0],
         &[(&[0], 0, 0, 0), (&[0], 0, 0, 0)],
         &[
@@ -417,6 +474,7 @@ fn a_tie_goes_to_the_last_bidder(rt: HostRuntime) -> Result<(), Fail> {
     assert_settled(
         &rt,
         &settlement,
+        &[],
         &[4],
         &[(&[0], 0, 0, 0), (&[1], 0, 0, 4)],
         &[

@@ -1,6 +1,6 @@
 use Rattle.std.specs.Prelude.{Result, Ok, Err, IfOk, ℕ, ℤ, List}
 use Rattle.lot_base.specs.declared.auction_terms.Terms.{Terms}
-use Rattle.clock.specs.Reports.{ClockHistory}
+use Rattle.clock.specs.Reports.{ClockHistory, histories}
 use Rattle.settlement.specs.Clocks.{AreClocksOf}
 use Rattle.settlement.specs.Settling.{IsOutcomeOf}
 use Rattle.settlement.specs.Efficient.{ExplainsAll, IsEfficientSettlement}
@@ -14,4 +14,4 @@ efficient-answer terms clocks (Ok s) h is = λ u explains. efficient-if u terms 
 efficient-answer terms clocks (Err e) h is = tt
 
 pub returns-clause-efficient : goal.returns-clause-efficient
-returns-clause-efficient c = efficient-answer c.args.terms.now c.args.clocks.now c.settle_exactly.result c.requires c.settle_exactly.ensures.outcome
+returns-clause-efficient c = efficient-answer c.args.terms.now (histories c.args.clocks.now) c.settle_exactly.result c.requires c.settle_exactly.ensures.outcome

@@ -9,5 +9,5 @@ copy-fits goods d (Err e) same fits = tt
 
 pub returns-clause-fits : goal.returns-clause-fits
 returns-clause-fits c =
-    let goods = c.args.clock.now.terms.goods in
+    let goods = c.args.clock.now.history.terms.goods in
     copy-fits goods c.unwrap.result.now c.copy.result c.copy.ensures (subst (λ o. IfSome o (IsDemand goods)) (ap option_copied c.unwrap.ensures) c.last_demand.ensures.fits)

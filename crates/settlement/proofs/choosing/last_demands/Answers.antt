@@ -7,7 +7,7 @@ use Rattle.settlement.proofs.choosing.last_demands.Goals.{then-bidder-number+in_
 
 pub loop-step-preserved : goal.loop-step-preserved
 loop-step-preserved c =
-    let clock = c.args.clock.now in
+    let clock = c.args.clock.now.history in
     let goods = c.args.terms.now.goods in
     let step = c.loop-step.step in
     let bidders = c.args.terms.now.bidders in
@@ -16,7 +16,7 @@ loop-step-preserved c =
       | then-bidder-number+in_ok-last_demand+in_ok-push w ↦
           let other : step + 1 ≢ clock.number = λ e. w.if-bidder-number.true (e ∙ sym c.number-number.ensures.value) in
           let fits : IsDemand goods w.in_ok-last_demand.field-0 = subst (λ (t : Terms). IsDemand t.goods w.in_ok-last_demand.field-0) c.requires.terms w.in_ok-last_demand.ensures.fits in
-          copied-keep clock goods step bidders before c.if-bidder-number.demands.items w.in_ok-last_demand.field-0 c.loop-step.invariant c.loop-step-test.true other w.in_ok-last_demand.ensures.value fits (ap (λ v. v.items) w.demands-is ∙ w.in_ok-push.ensures)
+          copied-keep clock goods step bidders before c.if-bidder-number.demands.items w.in_ok-last_demand.field-0 c.loop-step.invariant c.loop-step-test.true other w.in_ok-last_demand.ensures.value fits (ap (λ v. v.items) w.demands-is ∙ w.in_ok-push.ensures.items)
       | else-bidder-number w ↦
           let P : List (List (List ℕ)) → Type 0 = λ demands. IsCopied clock goods (step + 1) bidders demands in
           subst P (sym (ap (λ v. v.items) w.demands-is)) (copied-skip clock goods step bidders before c.loop-step.invariant c.loop-step-test.true (w.if-bidder-number.false ∙ c.number-number.ensures.value))

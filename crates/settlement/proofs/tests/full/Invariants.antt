@@ -2,4 +2,4 @@ use Rattle.std.proofs.Common.{◌≡◌}
 use Rattle.settlement.proofs.tests.full.Given as goal
 
 abbrev pub invariant-loop-round : goal.invariant-loop-round
-invariant-loop-round g l = (l.clock.terms ≡ l.terms) × (l.clock.number ≡ l.number)
+invariant-loop-round g l = (l.clock.history.terms ≡ l.terms) × (l.clock.history.number ≡ l.number)
