@@ -1,11 +1,12 @@
 -- An outcome's value has no float.
-use Rattle.std.proofs.Common.{◌≡◌, ◌||◌, ℕ, suc, ℤ, pos, negsuc, false, List, [], ◌∷◌, length, refl}
+use Rattle.std.proofs.Common.{◌≡◌, ◌||◌, ℕ, suc, ℤ, pos, negsuc, false, List, [], ◌∷◌, length, Option, Some, None, codes, refl}
 use Rattle.clock.specs.Reports.{members}
-use Rattle.serde_json.specs.Written.{has_float, items_have_float}
+use Rattle.serde_json.specs.Written.{has_float, items_have_float, members_have_float}
+use Rattle.serde_json.specs.Data.{array, Members, no_members, member}
 use Rattle.settlement.specs.declared.outcome.AwardRow.{AwardRow}
 use Rattle.settlement.specs.declared.outcome.ClockRow.{ClockRow}
 use Rattle.settlement.specs.declared.outcome.Outcome.{Outcome}
-use Rattle.outcome_text.specs.Json.{amount, counts, bidder_object, bidder_objects, choice_objects, clock_object, clock_objects, outcome_object}
+use Rattle.outcome_text.specs.Json.{amount, counts, with_opening, bidder_object, bidder_objects, choice_objects, clock_object, clock_objects, outcome_object}
 
 no-amount : (z : ℤ) → has_float (amount z) ≡ false
 no-amount (pos n) = refl
@@ -34,6 +35,10 @@ no-clocks : (bidders clock : ℕ) (rows : List ClockRow) → items_have_float (c
 no-clocks bidders clock [] = refl
 no-clocks bidders clock (row ∷ rows) = λ i. no-clock bidders clock row i || no-clocks bidders (suc clock) rows i
 
+no-opening : (opening : Option (List ℕ)) (rest : Members) → members_have_float rest ≡ false → members_have_float (with_opening opening rest) ≡ false
+no-opening None rest none = none
+no-opening (Some opening) rest none = λ i. no-counts opening i || none i
+
 pub no-float : (o : Outcome) → has_float (outcome_object o) ≡ false
 unfolding outcome_object
-no-float o = λ i. no-bidders 1 o.rows i || (no-clocks (length o.rows) 0 o.clocks i || (no-counts o.prices i || false))
+no-float o = λ i. no-bidders 1 o.rows i || (no-clocks (length o.rows) 0 o.clocks i || no-opening o.opening (member (codes "prices") (array (counts o.prices)) no_members) (λ j. no-counts o.prices j || false) i)

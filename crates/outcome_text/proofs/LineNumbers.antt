@@ -1,6 +1,6 @@
 -- The numbers of each line of a plain text.
-use Rattle.std.proofs.Common.{◌≡◌, ◌<◌, ◌≤◌, ◌+◌, ◌++◌, ◌^◌, ℕ, zero, suc, ℤ, pos, negsuc, Bool, true, false, not, nat_eq, List, [], ◌∷◌, length, cond, refl, sym, ap, ◌∙◌, arith, append_assoc, w64}
-use Rattle.std.specs.Prelude.{codes, filter}
+use Rattle.std.proofs.Common.{◌≡◌, ◌<◌, ◌≤◌, ◌+◌, ◌++◌, ◌^◌, ℕ, zero, suc, ℤ, pos, negsuc, Bool, true, false, not, nat_eq, List, [], ◌∷◌, length, cond, refl, sym, ap, ◌∙◌, arith, append_assoc, w64, Option, Some, None, append-nil}
+use Rattle.std.specs.Prelude.{codes, filter, IfSome}
 use Rattle.std.specs.Fmt.{signed_decimal}
 use Rattle.std.specs.List.{AllByRecursion, cons_option, range_with_len}
 use Rattle.std.specs.Int.RustNames.{FitsSigned}
@@ -9,9 +9,9 @@ use Rattle.clock.specs.Reports.{members}
 use Rattle.settlement.specs.declared.outcome.AwardRow.{AwardRow}
 use Rattle.settlement.specs.declared.outcome.ClockRow.{ClockRow}
 use Rattle.outcome_text.specs.Lines.{numerals}
-use Rattle.outcome_text.specs.Plain.{head_words, price_words, bidder_words, bidder_lines, choice_words, choice_lines, clock_words, clock_lines}
+use Rattle.outcome_text.specs.Plain.{head_words, price_words, bidder_words, bidder_lines, choice_words, choice_lines, clock_words, clock_lines, opening_lines}
 use Rattle.outcome_text.specs.Reading.{AreQuantities, ArePrices, IsAmount, IsAwardInRange, IsClockInRange}
-use Rattle.outcome_text.specs.Listed.{naturals, award_numbers, awards_numbers, choice_numbers, choices_numbers, clocks_numbers}
+use Rattle.outcome_text.specs.Listed.{naturals, award_numbers, awards_numbers, choice_numbers, choices_numbers, clocks_numbers, opening_numbers}
 use Rattle.outcome_text.proofs.NumberWords.{number_in-decimal, number_in-false}
 use Rattle.outcome_text.proofs.TextNumbers.{IsClean, AreClean, AreSmall, among, among_lines, among_lines-append, among-numerals, among-none, clean-from, decimal-clean, signed-clean, numerals-clean, number_in-natural}
 
@@ -49,6 +49,17 @@ among-prices prices h = λ i. cons_option (number_in-false (codes "prices") refl
 
 pub prices-clean : (prices : List ℕ) → ArePrices prices → AllByRecursion IsClean (price_words prices)
 prices-clean prices h = (clean-from (codes "prices") refl, numerals-clean prices (prices-small prices h))
+
+-- ---- the line of the opening prices
+
+pub among-opening : (opening : Option (List ℕ)) → IfSome opening ArePrices → among_lines (opening_lines opening) ≡ opening_numbers opening
+unfolding among_lines
+among-opening None h = refl
+among-opening (Some opening) h = append-nil (among (codes "opening" ∷ numerals opening)) ∙ (λ i. cons_option (number_in-false (codes "opening") refl i) (among-none opening (prices-small opening h) i))
+
+pub opening-clean : (opening : Option (List ℕ)) → IfSome opening ArePrices → AreClean (opening_lines opening)
+opening-clean None h = tt
+opening-clean (Some opening) h = ((clean-from (codes "opening") refl, numerals-clean opening (prices-small opening h)), tt)
 
 -- ---- the lines of the bidders
 

@@ -1,14 +1,16 @@
 -- An outcome that is made of its parts can be read, and one that can be read has such parts.
-use Rattle.std.proofs.Common.{◌≡◌, ◌+◌, ◌++◌, ℕ, suc, ℤ, pos, List, [], ◌∷◌, length, get_or, Option, Some, refl, sym, ap, ◌∙◌, subst, arith, append-nil}
+use Rattle.std.proofs.Common.{◌≡◌, ◌+◌, ◌++◌, ℕ, suc, ℤ, pos, List, [], ◌∷◌, length, get_or, Option, Some, None, is_some, Bool, refl, sym, ap, ◌∙◌, subst, arith, append-nil}
+use Rattle.std.specs.Prelude.{IfSome}
 use Rattle.std.specs.List.{AllByRecursion, AllZip, range_with_len}
 use Rattle.lot_base.specs.Goods.{IsRange}
 use Rattle.settlement.specs.Shapes.{IsOf, IsRowOfClock, HasShape, ArePricesOfFirst}
 use Rattle.settlement.specs.declared.outcome.AwardRow.{AwardRow}
 use Rattle.settlement.specs.declared.outcome.ClockRow.{ClockRow}
 use Rattle.settlement.specs.declared.outcome.Outcome.{Outcome}
-use Rattle.outcome_text.specs.Reading.{IsAwardInRange, IsClockInRange}
-use Rattle.outcome_text.specs.Listed.{naturals, awards_numbers, clocks_numbers, outcome_numbers}
-use Rattle.outcome_text.specs.Parts.{ArePricesOf, IsAwardOf, AreAwardsOf, IsClockOf, AreClocksOf, IsReadable}
+use Rattle.outcome_text.specs.declared.building.Head.{Head}
+use Rattle.outcome_text.specs.Reading.{ArePrices, IsAwardInRange, IsClockInRange}
+use Rattle.outcome_text.specs.Listed.{naturals, opening_numbers, awards_numbers, clocks_numbers, outcome_numbers}
+use Rattle.outcome_text.specs.Parts.{ArePricesOf, IsOpeningOf, IsHead, IsAwardOf, AreAwardsOf, IsClockOf, AreClocksOf, IsReadable}
 
 all-map : {A : Type 0} (P Q : A → Type 0) (xs : List A) → ((x : A) → P x → Q x) → AllByRecursion P xs → AllByRecursion Q xs
 all-map P Q [] f all = tt
@@ -38,17 +40,22 @@ all-with P Q R (x ∷ xs) f p q = (f x p.0 q.0, all-with P Q R xs f p.1 q.1)
 
 -- ---- what was made of parts
 
-pub made-readable : (goods bidders : ℕ) (rows : List AwardRow) (clocks : List ClockRow) (d : ClockRow) → IsRange 1 6 goods → IsRange 1 12 bidders → AreAwardsOf goods bidders rows → AreClocksOf goods bidders clocks
-    → IsReadable (record { prices = (get_or clocks 0 d).prices; rows = rows; clocks = clocks })
-made-readable goods bidders rows [] d some-goods some-bidders awards ends =
+opening-parts : (goods : ℕ) (opening : Option (List ℕ)) → IsOpeningOf goods opening → IfSome opening (IsOf goods) × IfSome opening ArePrices
+opening-parts goods None h = (tt, tt)
+opening-parts goods (Some opening) h = (h.fit, h.in_range)
+
+pub made-readable : (goods bidders : ℕ) (opening : Option (List ℕ)) (rows : List AwardRow) (clocks : List ClockRow) (d : ClockRow) → IsRange 1 6 goods → IsRange 1 12 bidders → IsOpeningOf goods opening → AreAwardsOf goods bidders rows → AreClocksOf goods bidders clocks
+    → IsReadable (record { prices = (get_or clocks 0 d).prices; opening = opening; rows = rows; clocks = clocks })
+made-readable goods bidders opening rows [] d some-goods some-bidders opens awards ends =
     let more : bidders + 1 ≡ suc bidders = omega arith in
     absurd (subst (λ n. AllZip (IsClockOf goods bidders) (range_with_len 0 n) []) more ends)
-made-readable goods bidders rows (first ∷ clocks) d some-goods some-bidders awards ends =
+made-readable goods bidders opening rows (first ∷ clocks) d some-goods some-bidders opens awards ends =
     let more : bidders + 1 ≡ suc bidders = omega arith in
     let here : IsClockOf goods bidders 0 first = (subst (λ n. AllZip (IsClockOf goods bidders) (range_with_len 0 n) (first ∷ clocks)) more ends).0 in
-    let made : Outcome = record { prices = first.prices; rows = rows; clocks = first ∷ clocks } in
+    let made : Outcome = record { prices = first.prices; opening = opening; rows = rows; clocks = first ∷ clocks } in
     let shape : HasShape goods bidders made = record {
       prices_fit = here.fit.prices_fit;
+      opening_fits = (opening-parts goods opening opens).0;
       bidders_fit = awards.count;
       awards_fit = all-map (IsAwardOf goods) (λ (row : AwardRow). IsOf goods row.award) rows (λ row h. h.fit) awards.each;
       clocks_fit = zip-map (IsClockOf goods bidders) (IsRowOfClock goods bidders) (range_with_len 0 (bidders + 1)) (first ∷ clocks) (λ n row h. h.fit) ends;
@@ -66,6 +73,7 @@ made-readable goods bidders rows (first ∷ clocks) d some-goods some-bidders aw
       };
       in_range = record {
         prices = here.in_range.prices;
+        opening = (opening-parts goods opening opens).1;
         rows = all-map (IsAwardOf goods) IsAwardInRange rows (λ row h. h.in_range) awards.each;
         clocks = zip-second (IsClockOf goods bidders) IsClockInRange (range_with_len 0 (bidders + 1)) (first ∷ clocks) (λ n row h. h.in_range) ends;
       };
@@ -87,11 +95,28 @@ clocks-of o h =
     zip-with (IsRowOfClock (length o.prices) (length o.rows)) (IsClockOf (length o.prices) (length o.rows)) IsClockInRange (range_with_len 0 (length o.rows + 1)) o.clocks
     (λ n row f r. record { fit = f; in_range = r }) h.whole.shape.clocks_fit h.in_range.clocks
 
+opening-of : (goods : ℕ) (opening : Option (List ℕ)) → IfSome opening (IsOf goods) → IfSome opening ArePrices → IsOpeningOf goods opening
+opening-of goods None f r = tt
+opening-of goods (Some opening) f r = record { fit = f; in_range = r }
+
+-- what the text of an outcome begins with
+abbrev pub head_of : Outcome → Head
+head_of o = record { goods = length o.prices; bidders = length o.rows; opening = o.opening }
+
+is-head : (o : Outcome) → IsReadable o → IsHead (head_of o)
+is-head o h =
+    let w = h.whole in
+    record {
+      goods = record { at_least = w.some_goods; at_most = w.few_goods };
+      bidders = record { at_least = w.some_bidders; at_most = w.few_bidders };
+      opening = opening-of (length o.prices) o.opening w.shape.opening_fits h.in_range.opening;
+    }
+
 -- ---- what the calls that take the parts say
 
-abbrev pub TakesFront : List ℤ → List ℤ → Option (ℕ × ℕ) → Type 0
-TakesFront old new result = (goods bidders : ℕ) (prices : List ℕ) (behind : List ℤ) → IsRange 1 6 goods → IsRange 1 12 bidders → ArePricesOf goods prices → old ≡ pos goods ∷ pos bidders ∷ naturals prices ++ behind
-    → (result ≡ Some (goods, bidders)) × (new ≡ behind)
+abbrev pub TakesFront : Bool → List ℤ → List ℤ → Option Head → Type 0
+TakesFront shown old new result = (h : Head) (prices : List ℕ) (behind : List ℤ) → IsHead h → is_some h.opening ≡ shown → ArePricesOf h.goods prices → old ≡ pos h.goods ∷ pos h.bidders ∷ naturals prices ++ (opening_numbers h.opening ++ behind)
+    → (result ≡ Some h) × (new ≡ behind)
 
 abbrev pub TakesAwards : ℕ → ℕ → List ℤ → List ℤ → Option (List AwardRow) → Type 0
 TakesAwards goods bidders old new result = (rows : List AwardRow) (behind : List ℤ) → AreAwardsOf goods bidders rows → old ≡ awards_numbers 1 rows ++ behind → (result ≡ Some rows) × (new ≡ behind)
@@ -99,32 +124,35 @@ TakesAwards goods bidders old new result = (rows : List AwardRow) (behind : List
 abbrev pub TakesClocks : ℕ → ℕ → List ℤ → List ℤ → Option (List ClockRow) → Type 0
 TakesClocks goods bidders old new result = (rows : List ClockRow) (behind : List ℤ) → AreClocksOf goods bidders rows → old ≡ clocks_numbers bidders 0 rows ++ behind → (result ≡ Some rows) × (new ≡ behind)
 
-pub record FrontFound (o : Outcome) (new : List ℤ) (front : Option (ℕ × ℕ)) : Type 0 where
-  pub front_is : front ≡ Some (length o.prices, length o.rows)
+pub record FrontFound (o : Outcome) (new : List ℤ) (front : Option Head) : Type 0 where
+  pub front_is : front ≡ Some (head_of o)
   pub rest_is : new ≡ awards_numbers 1 o.rows ++ clocks_numbers (length o.rows) 0 o.clocks
 
-pub front-found : (old new : List ℤ) (front : Option (ℕ × ℕ)) → TakesFront old new front → (o : Outcome) → IsReadable o → old ≡ outcome_numbers o → FrontFound o new front
+pub front-found : (shown : Bool) (old new : List ℤ) (front : Option Head) → TakesFront shown old new front → (o : Outcome) → IsReadable o → is_some o.opening ≡ shown → old ≡ outcome_numbers o → FrontFound o new front
 unfolding outcome_numbers
-front-found old new front takes o h e =
-    let w = h.whole in
-    let taken = takes (length o.prices) (length o.rows) o.prices (awards_numbers 1 o.rows ++ clocks_numbers (length o.rows) 0 o.clocks)
-    (record { at_least = w.some_goods; at_most = w.few_goods }) (record { at_least = w.some_bidders; at_most = w.few_bidders }) (prices-of o h) e in
+front-found shown old new front takes o h shows e =
+    let taken = takes (head_of o) o.prices (awards_numbers 1 o.rows ++ clocks_numbers (length o.rows) 0 o.clocks) (is-head o h) shows (prices-of o h) e in
     record { front_is = taken.0; rest_is = taken.1 }
+
+pub same-some : {h k : Head} → ◌≡◌ {A = Option Head} (Some h) (Some k) → h ≡ k
+same-some e = cc
 
 pub record AwardsFound (o : Outcome) (new : List ℤ) (rows : Option (List AwardRow)) : Type 0 where
   pub rows_are : rows ≡ Some o.rows
   pub rest_is : new ≡ clocks_numbers (length o.rows) 0 o.clocks
 
-pub awards-found : (goods bidders : ℕ) (old new : List ℤ) (rows : Option (List AwardRow)) → TakesAwards goods bidders old new rows → (o : Outcome) → IsReadable o → FrontFound o old (Some (goods, bidders)) → AwardsFound o new rows
-awards-found goods bidders old new rows takes o h front =
-    let pair : (goods, bidders) ≡ (length o.prices, length o.rows) = let f = front.front_is in cc in
+pub awards-found : (goods bidders : ℕ) (opening : Option (List ℕ)) (old new : List ℤ) (rows : Option (List AwardRow)) → TakesAwards goods bidders old new rows → (o : Outcome) → IsReadable o → FrontFound o old (Some (record { goods = goods; bidders = bidders; opening = opening })) → AwardsFound o new rows
+awards-found goods bidders opening old new rows takes o h front =
+    let f = same-some front.front_is in
+    let pair : (goods, bidders) ≡ (length o.prices, length o.rows) = λ i. ((f i).goods, (f i).bidders) in
     let are : AreAwardsOf goods bidders o.rows = let P : ℕ × ℕ → Type 0 = λ p. AreAwardsOf p.0 p.1 o.rows in subst P (sym pair) (awards-of o h) in
     let taken = takes o.rows (clocks_numbers (length o.rows) 0 o.clocks) are front.rest_is in
     record { rows_are = taken.0; rest_is = taken.1 }
 
-pub clocks-found : (goods bidders : ℕ) (old mid new : List ℤ) (rows : Option (List AwardRow)) (clocks : Option (List ClockRow)) → TakesClocks goods bidders mid new clocks → (o : Outcome) → IsReadable o → FrontFound o old (Some (goods, bidders)) → AwardsFound o mid rows → clocks ≡ Some o.clocks
-clocks-found goods bidders old mid new rows clocks takes o h front awards =
-    let pair : (goods, bidders) ≡ (length o.prices, length o.rows) = let f = front.front_is in cc in
+pub clocks-found : (goods bidders : ℕ) (opening : Option (List ℕ)) (old mid new : List ℤ) (rows : Option (List AwardRow)) (clocks : Option (List ClockRow)) → TakesClocks goods bidders mid new clocks → (o : Outcome) → IsReadable o → FrontFound o old (Some (record { goods = goods; bidders = bidders; opening = opening })) → AwardsFound o mid rows → clocks ≡ Some o.clocks
+clocks-found goods bidders opening old mid new rows clocks takes o h front awards =
+    let f = same-some front.front_is in
+    let pair : (goods, bidders) ≡ (length o.prices, length o.rows) = λ i. ((f i).goods, (f i).bidders) in
     let are : AreClocksOf goods bidders o.clocks = let P : ℕ × ℕ → Type 0 = λ p. AreClocksOf p.0 p.1 o.clocks in subst P (sym pair) (clocks-of o h) in
     let bidders-are : length o.rows ≡ bidders = sym (ap (λ (p : ℕ × ℕ). p.1) pair) in
     (takes o.clocks [] are (awards.rest_is ∙ ap (λ n. clocks_numbers n 0 o.clocks) bidders-are ∙ sym (append-nil (clocks_numbers bidders 0 o.clocks)))).0

@@ -1,12 +1,15 @@
 -- A text is that of one outcome at most: its numbers are those of one.
-use Rattle.std.proofs.Common.{◌≡◌, ◌+◌, ◌++◌, ℕ, zero, suc, ℤ, List, [], ◌∷◌, length, refl, sym, ap, ◌∙◌, subst, arith, append_assoc}
+use Rattle.std.proofs.Common.{◌≡◌, ◌≤◌, ◌+◌, ◌++◌, ℕ, zero, suc, ℤ, Bool, true, false, List, [], ◌∷◌, length, Option, Some, None, is_some, refl, sym, ap, ◌∙◌, subst, arith, append_assoc}
+use Rattle.std.specs.Prelude.{IfSome, slice_index}
 use Rattle.std.specs.List.{AllByRecursion, AllZip, range_with_len}
 use Rattle.clock.specs.Reports.{members}
 use Rattle.settlement.specs.Shapes.{IsOf, IsRowOfClock}
 use Rattle.settlement.specs.declared.outcome.AwardRow.{AwardRow}
 use Rattle.settlement.specs.declared.outcome.ClockRow.{ClockRow}
 use Rattle.settlement.specs.declared.outcome.Outcome.{Outcome}
-use Rattle.outcome_text.specs.Listed.{naturals, award_numbers, awards_numbers, choices_numbers, clock_numbers, clocks_numbers, outcome_numbers}
+use Rattle.outcome_text.specs.Lines.{line, text_of}
+use Rattle.outcome_text.specs.Plain.{head_words, price_words, opening_lines, bidder_lines, clock_lines, plain_text}
+use Rattle.outcome_text.specs.Listed.{naturals, opening_numbers, award_numbers, awards_numbers, choices_numbers, clock_numbers, clocks_numbers, outcome_numbers}
 use Rattle.outcome_text.specs.Parts.{IsReadable}
 use Rattle.outcome_text.specs.Reading.{IsTextOf}
 use Rattle.outcome_text.proofs.OutcomeNumbers.{readable, numbers-of}
@@ -100,20 +103,85 @@ same-clocks goods bidders clock (suc n) (x ∷ xs) (y ∷ ys) fit-x fit-y e =
     let rest = same-clocks goods bidders (clock + 1) n xs ys fit-x.1 fit-y.1 (ap (λ k. clocks_numbers bidders k xs) next ∙ first.1 ∙ ap (λ k. clocks_numbers bidders k ys) (sym next)) in
     λ i. first.0 i ∷ rest i
 
-same-outcome : (o p : Outcome) → IsReadable o → IsReadable p → outcome_numbers o ≡ outcome_numbers p → o ≡ p
+-- the openings have one length, where both or neither are shown
+split-opening : (a b : Option (List ℕ)) (rs ss : List ℤ) (goods : ℕ) → IfSome a (IsOf goods) → IfSome b (IsOf goods) → is_some a ≡ is_some b → opening_numbers a ++ rs ≡ opening_numbers b ++ ss → (a ≡ b) × (rs ≡ ss)
+split-opening None None rs ss goods fit-a fit-b shown e = (refl, e)
+split-opening None (Some b) rs ss goods fit-a fit-b shown e = absurd (cc)
+split-opening (Some a) None rs ss goods fit-a fit-b shown e = absurd (cc)
+split-opening (Some a) (Some b) rs ss goods fit-a fit-b shown e = let both = split-naturals a b rs ss (fit-a ∙ sym fit-b) e in ((λ i. Some (both.0 i)), both.1)
+
+-- what an outcome's numbers begin with
+pub record SameFront (o p : Outcome) : Type 0 where
+  pub same_prices : o.prices ≡ p.prices
+  pub same_bidders : length o.rows ≡ length p.rows
+  pub rest_are : opening_numbers o.opening ++ (awards_numbers 1 o.rows ++ clocks_numbers (length o.rows) 0 o.clocks) ≡ opening_numbers p.opening ++ (awards_numbers 1 p.rows ++ clocks_numbers (length p.rows) 0 p.clocks)
+
+same-front : (o p : Outcome) → outcome_numbers o ≡ outcome_numbers p → SameFront o p
 unfolding outcome_numbers
-same-outcome o p h k e =
+same-front o p e =
     let goods : length o.prices ≡ length p.prices = cc in
     let bidders : length o.rows ≡ length p.rows = cc in
-    let tail : naturals o.prices ++ (awards_numbers 1 o.rows ++ clocks_numbers (length o.rows) 0 o.clocks) ≡ naturals p.prices ++ (awards_numbers 1 p.rows ++ clocks_numbers (length p.rows) 0 p.clocks) = cc in
-    let prices = split-naturals o.prices p.prices (awards_numbers 1 o.rows ++ clocks_numbers (length o.rows) 0 o.clocks) (awards_numbers 1 p.rows ++ clocks_numbers (length p.rows) 0 p.clocks) goods tail in
+    let rest-o = opening_numbers o.opening ++ (awards_numbers 1 o.rows ++ clocks_numbers (length o.rows) 0 o.clocks) in
+    let rest-p = opening_numbers p.opening ++ (awards_numbers 1 p.rows ++ clocks_numbers (length p.rows) 0 p.clocks) in
+    let tail : naturals o.prices ++ rest-o ≡ naturals p.prices ++ rest-p = cc in
+    let prices = split-naturals o.prices p.prices rest-o rest-p goods tail in
+    record { same_prices = prices.0; same_bidders = bidders; rest_are = prices.1 }
+
+same-outcome : (o p : Outcome) → IsReadable o → IsReadable p → is_some o.opening ≡ is_some p.opening → SameFront o p → o ≡ p
+same-outcome o p h k shown front =
+    let goods : length o.prices ≡ length p.prices = ap length front.same_prices in
+    let bidders = front.same_bidders in
+    let Opens : ℕ → Type 0 = λ g. IfSome p.opening (IsOf g) in
+    let opening = split-opening o.opening p.opening (awards_numbers 1 o.rows ++ clocks_numbers (length o.rows) 0 o.clocks) (awards_numbers 1 p.rows ++ clocks_numbers (length p.rows) 0 p.clocks) (length o.prices)
+    h.whole.shape.opening_fits (subst Opens (sym goods) k.whole.shape.opening_fits) shown front.rest_are in
     let OfP : ℕ → Type 0 = λ g. AllByRecursion (λ (row : AwardRow). IsOf g row.award) p.rows in
-    let rows = same-awards (length o.prices) 1 o.rows p.rows (clocks_numbers (length o.rows) 0 o.clocks) (clocks_numbers (length p.rows) 0 p.clocks) bidders h.whole.shape.awards_fit (subst OfP (sym goods) k.whole.shape.awards_fit) prices.1 in
+    let rows = same-awards (length o.prices) 1 o.rows p.rows (clocks_numbers (length o.rows) 0 o.clocks) (clocks_numbers (length p.rows) 0 p.clocks) bidders h.whole.shape.awards_fit (subst OfP (sym goods) k.whole.shape.awards_fit) opening.1 in
     let ClocksP : ℕ × ℕ → Type 0 = λ s. AllZip (IsRowOfClock s.0 s.1) (range_with_len 0 (s.1 + 1)) p.clocks in
     let size : (length p.prices, length p.rows) ≡ (length o.prices, length o.rows) = λ i. (sym goods i, sym bidders i) in
     let clocks = same-clocks (length o.prices) (length o.rows) 0 (length o.rows + 1) o.clocks p.clocks h.whole.shape.clocks_fit (subst ClocksP size k.whole.shape.clocks_fit)
     (rows.1 ∙ ap (λ n. clocks_numbers n 0 p.clocks) (sym bidders)) in
-    λ i. record { prices = prices.0 i; rows = rows.0 i; clocks = clocks i }
+    λ i. record { prices = front.same_prices i; opening = opening.0 i; rows = rows.0 i; clocks = clocks i }
+
+-- ---- the line after the prices tells whether the opening is shown
+
+abbrev head-text : ℕ → ℕ → List ℕ → List ℕ
+head-text goods bidders prices = line (head_words goods bidders) ++ line (price_words prices)
+
+abbrev rest-text : Outcome → List ℕ
+rest-text o = text_of (opening_lines o.opening ++ (bidder_lines 1 o.rows ++ clock_lines (length o.rows) 0 o.clocks))
+
+in-two : (o : Outcome) → plain_text o ≡ head-text (length o.prices) (length o.rows) o.prices ++ rest-text o
+unfolding plain_text
+in-two o = sym (append_assoc (line (head_words (length o.prices) (length o.rows))) (line (price_words o.prices)) (rest-text o))
+
+abbrev first_of : Bool → ℕ
+first_of true = 111
+first_of false = 98
+
+-- its first byte is that of `opening`, or of `bidder`
+first-byte : (opening : Option (List ℕ)) (rows : List AwardRow) (clocks : List (List (List ℕ))) → 1 ≤ length rows → slice_index (text_of (opening_lines opening ++ (bidder_lines 1 rows ++ clocks))) 0 ≡ first_of (is_some opening)
+first-byte (Some []) rows clocks some = refl
+first-byte (Some (p ∷ ps)) rows clocks some = refl
+first-byte None [] clocks some = absurd (omega arith)
+first-byte None (row ∷ rows) clocks some = refl
+
+byte-tells : (a b : Bool) → first_of a ≡ first_of b → a ≡ b
+byte-tells true true e = refl
+byte-tells true false e = absurd (omega arith)
+byte-tells false true e = absurd (omega arith)
+byte-tells false false e = refl
+
+same-shown : (bytes : List ℕ) (o p : Outcome) → IsTextOf bytes o → IsTextOf bytes p → SameFront o p → is_some o.opening ≡ is_some p.opening
+same-shown bytes o p is-o is-p front =
+    let heads : head-text (length o.prices) (length o.rows) o.prices ≡ head-text (length p.prices) (length p.rows) p.prices = λ i. head-text (length (front.same_prices i)) (front.same_bidders i) (front.same_prices i) in
+    let whole = sym (in-two o) ∙ sym is-o.spelled ∙ is-p.spelled ∙ in-two p in
+    let rests = split (head-text (length o.prices) (length o.rows) o.prices) (head-text (length p.prices) (length p.rows) p.prices) (rest-text o) (rest-text p) (ap length heads) whole in
+    byte-tells (is_some o.opening) (is_some p.opening)
+    (sym (first-byte o.opening o.rows (clock_lines (length o.rows) 0 o.clocks) is-o.whole.some_bidders)
+    ∙ ap (λ t. slice_index t 0) rests.1
+    ∙ first-byte p.opening p.rows (clock_lines (length p.rows) 0 p.clocks) is-p.whole.some_bidders)
 
 pub one-outcome : (bytes : List ℕ) (o p : Outcome) → IsTextOf bytes o → IsTextOf bytes p → o ≡ p
-one-outcome bytes o p is-o is-p = same-outcome o p (readable bytes o is-o) (readable bytes p is-p) (sym (numbers-of bytes o is-o) ∙ numbers-of bytes p is-p)
+one-outcome bytes o p is-o is-p =
+    let front = same-front o p (sym (numbers-of bytes o is-o) ∙ numbers-of bytes p is-p) in
+    same-outcome o p (readable bytes o is-o) (readable bytes p is-p) (same-shown bytes o p is-o is-p front) front

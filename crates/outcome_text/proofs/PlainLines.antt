@@ -13,7 +13,7 @@ use Rattle.settlement.specs.declared.outcome.ClockRow.{ClockRow}
 use Rattle.settlement.specs.declared.outcome.Outcome.{Outcome}
 use Rattle.outcome_text.specs.Lines.{line, text_of, numerals}
 use Rattle.outcome_text.specs.Spaced.{spaced}
-use Rattle.outcome_text.specs.Plain.{bidder_words, bidder_lines, choice_words, choice_lines, clock_words, clock_lines, head_words, price_words, plain_text}
+use Rattle.outcome_text.specs.Plain.{bidder_words, bidder_lines, choice_words, choice_lines, clock_words, clock_lines, head_words, price_words, opening_lines, plain_text}
 use Rattle.outcome_text.proofs.Lining.{line-spaced, spaced-append}
 
 pub text_of-append : (lines others : List (List (List ℕ))) → text_of (lines ++ others) ≡ text_of lines ++ text_of others
@@ -69,20 +69,31 @@ head-written goods bidders prices a b c is-a is-b is-c =
     ∙ head-parts (codes "settled goods") (codes " ") (decimal goods) (codes " bidders") (decimal bidders) (codes "\n") (codes "prices") (spaced (numerals prices))
     ∙ (λ i. sym (line-spaced (codes "settled") (codes "goods" ∷ decimal goods ∷ codes "bidders" ∷ decimal bidders ∷ [])) i ++ sym (line-spaced (codes "prices") (numerals prices)) i)
 
-pub outcome-written : (o : Outcome) (goods : ℕ) (rows : List AwardRow) (clocks : List ClockRow) (a b c d e : List ℕ) → goods ≡ length o.prices → rows ≡ o.rows → clocks ≡ o.clocks
+pub opening-written : (opening : List ℕ) (t a b new : List ℕ) → a ≡ t ++ codes "opening" → b ≡ a ++ spaced (numerals opening) → new ≡ b ++ codes "\n" → new ≡ t ++ line (codes "opening" ∷ numerals opening)
+opening-written opening t a b new is-a is-b is-new =
+    is-new ∙ ap (λ x. x ++ codes "\n") (is-b ∙ ap (λ x. x ++ spaced (numerals opening)) is-a)
+    ∙ parts t (codes "opening") (spaced (numerals opening)) (codes "\n")
+    ∙ ap (λ x. t ++ x) (sym (line-spaced (codes "opening") (numerals opening)))
+  where
+    parts : (t k ns n : List ℕ) → t ++ k ++ ns ++ n ≡ t ++ ((k ++ ns) ++ n)
+    parts t k ns n = simp append_assoc
+
+pub outcome-written : (o : Outcome) (goods : ℕ) (rows : List AwardRow) (clocks : List ClockRow) (a b c f d e : List ℕ) → goods ≡ length o.prices → rows ≡ o.rows → clocks ≡ o.clocks
     → a ≡ codes "settled goods " ++ (decimal goods ++ (codes " bidders " ++ (decimal (length rows) ++ codes "\nprices"))) → b ≡ a ++ spaced (numerals o.prices) → c ≡ b ++ codes "\n"
-    → d ≡ c ++ text_of (bidder_lines 1 rows) → e ≡ d ++ text_of (clock_lines (length rows) 0 clocks) → e ≡ plain_text o
+    → f ≡ c ++ text_of (opening_lines o.opening) → d ≡ f ++ text_of (bidder_lines 1 rows) → e ≡ d ++ text_of (clock_lines (length rows) 0 clocks) → e ≡ plain_text o
 unfolding plain_text
-outcome-written o goods rows clocks a b c d e goods-are rows-are clocks-are is-a is-b is-c is-d is-e =
+outcome-written o goods rows clocks a b c f d e goods-are rows-are clocks-are is-a is-b is-c is-f is-d is-e =
+    let opens = opening_lines o.opening in
     let awards = bidder_lines 1 o.rows in
     let ends = clock_lines (length o.rows) 0 o.clocks in
-    is-e ∙ ap (λ x. x ++ text_of (clock_lines (length rows) 0 clocks)) (is-d ∙ ap (λ x. x ++ text_of (bidder_lines 1 rows)) (head-written goods (length rows) o.prices a b c is-a is-b is-c))
-    ∙ (λ i. line (head_words (goods-are i) (length (rows-are i))) ++ line (price_words o.prices) ++ text_of (bidder_lines 1 (rows-are i)) ++ text_of (clock_lines (length (rows-are i)) 0 (clocks-are i)))
-    ∙ joined (line (head_words (length o.prices) (length o.rows))) (line (price_words o.prices)) (text_of awards) (text_of ends)
-    ∙ ap (λ x. line (head_words (length o.prices) (length o.rows)) ++ (line (price_words o.prices) ++ x)) (sym (text_of-append awards ends))
+    is-e ∙ ap (λ x. x ++ text_of (clock_lines (length rows) 0 clocks)) (is-d ∙ ap (λ x. x ++ text_of (bidder_lines 1 rows)) (is-f ∙ ap (λ x. x ++ text_of opens) (head-written goods (length rows) o.prices a b c is-a is-b is-c)))
+    ∙ (λ i. line (head_words (goods-are i) (length (rows-are i))) ++ line (price_words o.prices) ++ text_of opens ++ text_of (bidder_lines 1 (rows-are i)) ++ text_of (clock_lines (length (rows-are i)) 0 (clocks-are i)))
+    ∙ joined (line (head_words (length o.prices) (length o.rows))) (line (price_words o.prices)) (text_of opens) (text_of awards) (text_of ends)
+    ∙ ap (λ x. line (head_words (length o.prices) (length o.rows)) ++ (line (price_words o.prices) ++ (text_of opens ++ x))) (sym (text_of-append awards ends))
+    ∙ ap (λ x. line (head_words (length o.prices) (length o.rows)) ++ (line (price_words o.prices) ++ x)) (sym (text_of-append opens (awards ++ ends)))
   where
-    joined : (h p r c : List ℕ) → h ++ p ++ r ++ c ≡ h ++ (p ++ (r ++ c))
-    joined h p r c = simp append_assoc
+    joined : (h p q r c : List ℕ) → h ++ p ++ q ++ r ++ c ≡ h ++ (p ++ (q ++ (r ++ c)))
+    joined h p q r c = simp append_assoc
 
 -- one clock more is written
 pub clocks-step : (bidders clock : ℕ) (row : ClockRow) (clocks : List ClockRow) (text a new whole : List ℕ) → clock < length clocks → row ≡ get_or clocks clock row

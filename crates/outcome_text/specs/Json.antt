@@ -1,8 +1,8 @@
 -- The JSON text of an outcome (RFC 8259): one object without blanks, its keys in byte order, and one newline. `serde_json` says
 -- how a value is spelled.
-use Rattle.std.specs.Prelude.{ℕ, suc, ℤ, List, [], ◌∷◌, ◌++◌, length, codes}
+use Rattle.std.specs.Prelude.{ℕ, suc, ℤ, List, [], ◌∷◌, ◌++◌, length, codes, Option, Some, None}
 use Rattle.clock.specs.Reports.{members}
-use Rattle.serde_json.specs.Data.{Data, number, array, object, unsigned, Items, no_items, item, no_members, member}
+use Rattle.serde_json.specs.Data.{Data, number, array, object, unsigned, Items, no_items, item, Members, no_members, member}
 use Rattle.serde_json.specs.Find.{of_integer}
 use Rattle.serde_json.specs.Written.{compact_text}
 use Rattle.settlement.specs.declared.outcome.AwardRow.{AwardRow}
@@ -48,10 +48,15 @@ abbrev pub clock_objects : ℕ → ℕ → List ClockRow → Items
 clock_objects bidders clock [] = no_items
 clock_objects bidders clock (row ∷ rows) = item (clock_object bidders clock row) (clock_objects bidders (suc clock) rows)
 
+-- the opening prices before other members, where the outcome shows them
+abbrev pub with_opening : Option (List ℕ) → Members → Members
+with_opening None rest = rest
+with_opening (Some opening) rest = member (codes "opening") (array (counts opening)) rest
+
 unfoldable pub outcome_object : Outcome → Data
 outcome_object o =
     object (member (codes "bidders") (array (bidder_objects 1 o.rows)) (member (codes "clocks") (array (clock_objects (length o.rows) 0 o.clocks))
-    (member (codes "goods") (count (length o.prices)) (member (codes "prices") (array (counts o.prices)) no_members))))
+    (member (codes "goods") (count (length o.prices)) (with_opening o.opening (member (codes "prices") (array (counts o.prices)) no_members)))))
 
 unfoldable pub json_text : Outcome → List ℕ
 json_text o = compact_text (outcome_object o) ++ codes "\n"

@@ -1,5 +1,5 @@
 -- The numbers of an outcome, in the order in which its plain text has them.
-use Rattle.std.specs.Prelude.{ℕ, suc, ℤ, pos, List, [], ◌∷◌, ◌++◌, length, map}
+use Rattle.std.specs.Prelude.{ℕ, suc, ℤ, pos, List, [], ◌∷◌, ◌++◌, length, map, Option, Some, None}
 use Rattle.clock.specs.Reports.{members}
 use Rattle.settlement.specs.declared.outcome.AwardRow.{AwardRow}
 use Rattle.settlement.specs.declared.outcome.ClockRow.{ClockRow}
@@ -33,6 +33,11 @@ abbrev pub clocks_numbers : ℕ → ℕ → List ClockRow → List ℤ
 clocks_numbers bidders clock [] = []
 clocks_numbers bidders clock (row ∷ rows) = clock_numbers bidders clock row ++ clocks_numbers bidders (suc clock) rows
 
+-- those of the opening prices, where the outcome shows them
+abbrev pub opening_numbers : Option (List ℕ) → List ℤ
+opening_numbers None = []
+opening_numbers (Some opening) = naturals opening
+
 unfoldable pub outcome_numbers : Outcome → List ℤ
 outcome_numbers o =
-    pos (length o.prices) ∷ pos (length o.rows) ∷ naturals o.prices ++ (awards_numbers 1 o.rows ++ clocks_numbers (length o.rows) 0 o.clocks)
+    pos (length o.prices) ∷ pos (length o.rows) ∷ naturals o.prices ++ (opening_numbers o.opening ++ (awards_numbers 1 o.rows ++ clocks_numbers (length o.rows) 0 o.clocks))

@@ -1,6 +1,8 @@
 -- The parts of an outcome of so many goods and bidders, with their numbers in range.
-use Rattle.std.specs.Prelude.{◌≡◌, ◌+◌, ℕ, List, length}
+use Rattle.std.specs.Prelude.{◌≡◌, ◌+◌, ℕ, List, length, Option, IfSome}
 use Rattle.std.specs.List.{AllByRecursion, AllZip, range_with_len}
+use Rattle.lot_base.specs.Goods.{IsRange}
+use Rattle.outcome_text.specs.declared.building.Head.{Head}
 use Rattle.settlement.specs.Shapes.{IsOf, IsRowOfClock, IsWholeOutcome}
 use Rattle.settlement.specs.declared.outcome.AwardRow.{AwardRow}
 use Rattle.settlement.specs.declared.outcome.ClockRow.{ClockRow}
@@ -14,6 +16,16 @@ pub record IsBundleOf (goods : ℕ) (bundle : List ℕ) : Type 0 where
 pub record ArePricesOf (goods : ℕ) (prices : List ℕ) : Type 0 where
   pub fit : IsOf goods prices
   pub in_range : ArePrices prices
+
+-- opening prices that are shown, or none
+abbrev pub IsOpeningOf : ℕ → Option (List ℕ) → Type 0
+IsOpeningOf goods opening = IfSome opening (ArePricesOf goods)
+
+-- what a text begins with: the numbers of goods and of bidders, and the opening prices, where they are shown
+pub record IsHead (h : Head) : Type 0 where
+  pub goods : IsRange 1 6 h.goods
+  pub bidders : IsRange 1 12 h.bidders
+  pub opening : IsOpeningOf h.goods h.opening
 
 pub record IsAwardOf (goods : ℕ) (row : AwardRow) : Type 0 where
   pub fit : IsOf goods row.award

@@ -2,13 +2,14 @@
 --
 --     settled goods K bidders N
 --     prices P..
+--     opening P..                                     where the seller has named opening prices
 --     bidder I award X.. debit D credit E pays M      for each bidder, from 1
 --     clock C steps T prices P..                      for each clock, from 0
---     choice C J X..                                  behind its clock, for each member in order
+--     choice C J X..                                  after its clock, for each member in order
 --
 -- P.. are the prices of the goods and X.. the quantities of a bundle. Numbers have decimal digits without a leading zero, and
 -- one below 0 has a minus sign in front.
-use Rattle.std.specs.Prelude.{ℕ, suc, List, [], ◌∷◌, ◌++◌, length, codes, decimal}
+use Rattle.std.specs.Prelude.{ℕ, suc, List, [], ◌∷◌, ◌++◌, length, codes, decimal, Option, Some, None}
 use Rattle.std.specs.Fmt.{signed_decimal}
 use Rattle.clock.specs.Reports.{members}
 use Rattle.settlement.specs.declared.outcome.AwardRow.{AwardRow}
@@ -21,6 +22,11 @@ head_words goods bidders = codes "settled" ∷ codes "goods" ∷ decimal goods �
 
 abbrev pub price_words : List ℕ → List (List ℕ)
 price_words prices = codes "prices" ∷ numerals prices
+
+-- the line of the opening prices, where the outcome shows them
+abbrev pub opening_lines : Option (List ℕ) → List (List (List ℕ))
+opening_lines None = []
+opening_lines (Some opening) = (codes "opening" ∷ numerals opening) ∷ []
 
 -- the line of a bidder
 abbrev pub bidder_words : ℕ → AwardRow → List (List ℕ)
@@ -52,7 +58,7 @@ clock_lines bidders clock (row ∷ rows) = clock_words clock row ∷ choice_line
 
 abbrev pub outcome_lines : Outcome → List (List (List ℕ))
 outcome_lines o =
-    head_words (length o.prices) (length o.rows) ∷ price_words o.prices ∷ bidder_lines 1 o.rows ++ clock_lines (length o.rows) 0 o.clocks
+    head_words (length o.prices) (length o.rows) ∷ price_words o.prices ∷ opening_lines o.opening ++ (bidder_lines 1 o.rows ++ clock_lines (length o.rows) 0 o.clocks)
 
 unfoldable pub plain_text : Outcome → List ℕ
 plain_text o = text_of (outcome_lines o)

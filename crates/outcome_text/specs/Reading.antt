@@ -1,5 +1,5 @@
 -- Reading an outcome from its plain text. A text is one of an outcome where a whole outcome with numbers in range has it.
-use Rattle.std.specs.Prelude.{◌≡◌, ◌<◌, ◌^◌, ℕ, ℤ, pos, neg_ℤ, ◌≤ℤ◌, ◌<ℤ◌, List, Option, Some, None}
+use Rattle.std.specs.Prelude.{◌≡◌, ◌<◌, ◌^◌, ℕ, ℤ, pos, neg_ℤ, ◌≤ℤ◌, ◌<ℤ◌, List, Option, Some, None, IfSome}
 use Rattle.std.specs.List.{AllByRecursion}
 use Rattle.settlement.specs.Shapes.{IsWholeOutcome}
 use Rattle.settlement.specs.declared.outcome.AwardRow.{AwardRow}
@@ -32,6 +32,7 @@ pub record IsClockInRange (row : ClockRow) : Type 0 where
 
 pub record IsInRange (o : Outcome) : Type 0 where
   pub prices : ArePrices o.prices
+  pub opening : IfSome o.opening ArePrices
   pub rows : AllByRecursion IsAwardInRange o.rows
   pub clocks : AllByRecursion IsClockInRange o.clocks
 

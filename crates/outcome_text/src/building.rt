@@ -1,18 +1,28 @@
 //! The parts of an outcome from the numbers of its plain text.
-ghost use Rattle.std.specs.Prelude.{◌≡◌, ◌<◌, ◌≤◌, ◌^◌, ◌++◌, ◌∷◌, [], ℕ, ℤ, pos, List, length, Some, IfSome, IfOk, OnOk};
+ghost use Rattle.std.specs.Prelude.{◌≡◌, ◌<◌, ◌≤◌, ◌^◌, ◌++◌, ◌∷◌, [], ℕ, ℤ, pos, List, length, Option, Some, is_some, IfSome, IfOk};
 ghost use Rattle.clock.specs.Reports.{members};
 ghost use Rattle.settlement.specs.declared.outcome.AwardRow.{AwardRow as AwardValue};
 ghost use Rattle.settlement.specs.declared.outcome.ClockRow.{ClockRow as ClockValue};
 ghost use Rattle.settlement.specs.declared.outcome.Outcome.{Outcome as OutcomeValue};
+ghost use Rattle.outcome_text.specs.declared.building.Head.{Head as HeadValue};
 ghost use Rattle.lot_base.specs.Goods.{IsRange};
 ghost use Rattle.outcome_text.specs.Reading.{IsAmount};
-ghost use Rattle.outcome_text.specs.Listed.{naturals, award_numbers, awards_numbers, choice_numbers, choices_numbers, clock_numbers, clocks_numbers, outcome_numbers};
-ghost use Rattle.outcome_text.specs.Parts.{IsBundleOf, ArePricesOf, IsAwardOf, AreAwardsOf, AreChoicesOf, IsClockOf, AreClocksOf, IsReadable};
+ghost use Rattle.outcome_text.specs.Listed.{naturals, opening_numbers, award_numbers, awards_numbers, choice_numbers, choices_numbers, clock_numbers, clocks_numbers, outcome_numbers};
+ghost use Rattle.outcome_text.specs.Parts.{IsBundleOf, ArePricesOf, IsOpeningOf, IsHead, IsAwardOf, AreAwardsOf, AreChoicesOf, IsClockOf, AreClocksOf, IsReadable};
 
 use award_assembly::Choice;
-use lot_base::{Bundle, NoMemory, Prices};
-use settlement::{AwardRow, ClockRow, Outcome, Rows};
+use lot_base::{Bundle, NoMemory, Prices, Sequence};
+use settlement::{AwardRow, ClockRow, Outcome};
 use std::alloc::Global;
+
+/// What a text begins with.
+#[derive(Clone, Copy)]
+pub(crate) struct Head {
+    pub(crate) goods: u8,
+    pub(crate) bidders: u8,
+    /// The opening prices, where they are shown.
+    pub(crate) opening: Option<Prices>,
+}
 
 /// Numbers that are taken from the front.
 #[derive(Clone, Copy)]
@@ -56,17 +66,38 @@ impl Numbers<'_> {
         }
     }
 
-    /// The numbers of goods and of bidders, before the prices.
-    fn head(&mut self) -> Option<(u8, u8)>
-        ensures goods { IfSome result (λ head. IsRange 1 6 head.0) }
-        ensures bidders { IfSome result (λ head. IsRange 1 12 head.1) }
-        ensures back { (goods bidders : ℕ) (prices : List ℕ) (behind : List ℤ) → IsRange 1 6 goods → IsRange 1 12 bidders → ArePricesOf goods prices →
-            self.old.rest.now ≡ pos goods ∷ pos bidders ∷ naturals prices ++ behind → (result ≡ Some (goods, bidders)) × (self.new.rest.now ≡ behind) }
+    /// The numbers of goods and of bidders, before the prices, and the opening prices after these, where they are shown.
+    fn head(&mut self, shows_opening: bool) -> Option<Head>
+        ensures fit { IfSome result IsHead }
+        ensures shown { IfSome result (λ (h : HeadValue). is_some h.opening ≡ shows_opening) }
+        ensures back { (h : HeadValue) (prices : List ℕ) (behind : List ℤ) → IsHead h → is_some h.opening ≡ shows_opening → ArePricesOf h.goods prices →
+            self.old.rest.now ≡ pos h.goods ∷ pos h.bidders ∷ naturals prices ++ (opening_numbers h.opening ++ behind) → (result ≡ Some h) × (self.new.rest.now ≡ behind) }
     {
         let goods = self.next_up_to(6)?;
         let bidders = self.next_up_to(12)?;
         self.prices(goods)?;
-        Some((goods, bidders))
+        let opening = self.opening(goods, shows_opening)?;
+        Some(Head {
+            goods,
+            bidders,
+            opening,
+        })
+    }
+
+    /// The next prices as those of the opening, where it is shown.
+    fn opening(&mut self, goods: u8, is_shown: bool) -> Option<Option<Prices>>
+        requires { IsRange 1 6 goods }
+        ensures fit { IfSome result (IsOpeningOf goods) }
+        ensures shown { IfSome result (λ opening. is_some opening ≡ is_shown) }
+        ensures back { (opening : Option (List ℕ)) (behind : List ℤ) → is_some opening ≡ is_shown → IsOpeningOf goods opening →
+            self.old.rest.now ≡ opening_numbers opening ++ behind → (result ≡ Some opening) × (self.new.rest.now ≡ behind) }
+    {
+        if is_shown {
+            let opening = self.prices(goods)?;
+            Some(Some(opening))
+        } else {
+            Some(None)
+        }
     }
 
     /// The next bundle.
@@ -116,7 +147,7 @@ impl Numbers<'_> {
         alloc: Global,
         goods: u8,
         bidders: u8,
-    ) -> Result<Option<Rows<AwardRow>>, NoMemory>
+    ) -> Result<Option<Sequence<AwardRow>>, NoMemory>
         requires { IsRange 1 6 goods }
         ensures fit { IfOk result (λ r. IfSome r (AreAwardsOf goods bidders)) }
         ensures back { (rows : List AwardValue) (behind : List ℤ) → AreAwardsOf goods bidders rows → self.old.rest.now ≡ awards_numbers 1 rows ++ behind → IfOk result (λ r. (r ≡ Some rows) × (self.new.rest.now ≡ behind)) }
@@ -124,11 +155,11 @@ impl Numbers<'_> {
         let mut rows = Vec::new(alloc);
         for _place in 0..bidders {
             match self.award_row(goods) {
-                Some(row) => push(&mut rows, row)?,
+                Some(row) => rows.push(row)?,
                 None => return Ok(None),
             }
         }
-        Ok(Some(Rows::from_vec(rows)))
+        Ok(Some(Sequence::from_vec(rows)))
     }
 
     /// What the next members of a clock choose, of whom there are so many.
@@ -141,7 +172,7 @@ impl Numbers<'_> {
         let mut bundles = Vec::new(alloc);
         for _place in 0..count {
             match self.choice(goods) {
-                Some(bundle) => push(&mut bundles, bundle)?,
+                Some(bundle) => bundles.push(bundle)?,
                 None => return Ok(None),
             }
         }
@@ -206,7 +237,7 @@ impl Numbers<'_> {
         alloc: Global,
         goods: u8,
         bidders: u8,
-    ) -> Result<Option<Rows<ClockRow>>, NoMemory>
+    ) -> Result<Option<Sequence<ClockRow>>, NoMemory>
         requires goods { IsRange 1 6 goods }
         requires bidders { bidders ≤ 12 }
         ensures fit { IfOk result (λ r. IfSome r (AreClocksOf goods bidders)) }
@@ -215,31 +246,35 @@ impl Numbers<'_> {
         let mut rows = Vec::new(alloc);
         for clock in 0..bidders + 1 {
             match self.clock_row(alloc, goods, bidders, clock) {
-                Ok(Some(row)) => push(&mut rows, row)?,
+                Ok(Some(row)) => rows.push(row)?,
                 Ok(None) => return Ok(None),
                 Err(NoMemory) => return Err(NoMemory),
             }
         }
-        Ok(Some(Rows::from_vec(rows)))
+        Ok(Some(Sequence::from_vec(rows)))
     }
 }
 
-/// The outcome of which these are the numbers.
-pub(crate) fn outcome_of(alloc: Global, numbers: &[i64]) -> Result<Option<Outcome>, NoMemory>
+/// The outcome of which these are the numbers, if they are those of one that shows its opening prices, or of one that shows none.
+pub(crate) fn outcome_of(
+    alloc: Global,
+    numbers: &[i64],
+    shows_opening: bool,
+) -> Result<Option<Outcome>, NoMemory>
     ensures fit { IfOk result (λ r. IfSome r IsReadable) }
-    ensures back { (o : OutcomeValue) → IsReadable o → numbers.now ≡ outcome_numbers o → IfOk result (λ r. r ≡ Some o) }
+    ensures back { (o : OutcomeValue) → IsReadable o → is_some o.opening ≡ shows_opening → numbers.now ≡ outcome_numbers o → IfOk result (λ r. r ≡ Some o) }
 {
     let mut numbers = Numbers { rest: numbers };
-    let (goods, bidders) = match numbers.head() {
+    let head = match numbers.head(shows_opening) {
         Some(head) => head,
         None => return Ok(None),
     };
-    let rows = match numbers.award_rows(alloc, goods, bidders) {
+    let rows = match numbers.award_rows(alloc, head.goods, head.bidders) {
         Ok(Some(rows)) => rows,
         Ok(None) => return Ok(None),
         Err(NoMemory) => return Err(NoMemory),
     };
-    let clocks = match numbers.clock_rows(alloc, goods, bidders) {
+    let clocks = match numbers.clock_rows(alloc, head.goods, head.bidders) {
         Ok(Some(clocks)) => clocks,
         Ok(None) => return Ok(None),
         Err(NoMemory) => return Err(NoMemory),
@@ -247,6 +282,7 @@ pub(crate) fn outcome_of(alloc: Global, numbers: &[i64]) -> Result<Option<Outcom
     let prices = clocks.as_slice()[0].prices;
     Ok(Some(Outcome {
         prices,
+        opening: head.opening,
         rows,
         clocks,
     }))
@@ -258,14 +294,4 @@ fn member_count(bidders: u8, clock: u8) -> u8
     ensures { result ≡ length (members bidders clock) }
 {
     if clock == 0 { bidders } else { bidders - 1 }
-}
-
-/// Appends an element.
-fn push<T: Drop>(items: &mut Vec<T>, item: T) -> Result<(), NoMemory>
-    ensures { OnOk result (items.new.items ≡ items.old.items ++ item ∷ []) }
-{
-    match items.push(item) {
-        Ok(()) => Ok(()),
-        Err(_) => Err(NoMemory),
-    }
 }

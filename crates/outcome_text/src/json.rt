@@ -38,7 +38,15 @@ fn outcome_value(alloc: Global, outcome: &Outcome) -> Result<Value, AllocError>
     let clocks = clock_values(alloc, rows.len(), outcome.clocks.as_slice())?;
     let goods = outcome.prices.count();
     let prices = price_values(alloc, &outcome.prices)?;
-    json!(in alloc; {"bidders": bidders, "clocks": clocks, "goods": goods, "prices": prices})
+    match &outcome.opening {
+        None => {
+            json!(in alloc; {"bidders": bidders, "clocks": clocks, "goods": goods, "prices": prices})
+        }
+        Some(opening) => {
+            let opening = price_values(alloc, opening)?;
+            json!(in alloc; {"bidders": bidders, "clocks": clocks, "goods": goods, "opening": opening, "prices": prices})
+        }
+    }
 }
 
 /// What the bidders are awarded and pay.

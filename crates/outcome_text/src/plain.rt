@@ -1,12 +1,12 @@
 //! The plain text of an outcome.
-ghost use Rattle.std.specs.Prelude.{◌≡◌, ◌++◌, IfOk, OnOk, string_bytes};
+ghost use Rattle.std.specs.Prelude.{◌≡◌, ◌++◌, ◌∷◌, codes, IfOk, OnOk, string_bytes};
 ghost use Rattle.clock.specs.Reports.{members};
-ghost use Rattle.outcome_text.specs.Lines.{line, text_of};
-ghost use Rattle.outcome_text.specs.Plain.{plain_text, bidder_words, bidder_lines, choice_words, choice_lines, clock_words, clock_lines};
+ghost use Rattle.outcome_text.specs.Lines.{line, text_of, numerals};
+ghost use Rattle.outcome_text.specs.Plain.{plain_text, opening_lines, bidder_words, bidder_lines, choice_words, choice_lines, clock_words, clock_lines};
 
 use crate::numerals::{write_amount, write_bundle, write_prices};
 use award_assembly::Choice;
-use lot_base::{Bundle, NoMemory};
+use lot_base::{Bundle, NoMemory, Prices};
 use settlement::{AwardRow, ClockRow, Outcome};
 use std::alloc::{AllocError, Global};
 use std::fmt::Write;
@@ -30,9 +30,28 @@ fn whole_text(alloc: Global, outcome: &Outcome) -> Result<String, AllocError>
     let mut text = format!(in alloc; "settled goods {goods} bidders {bidders}\nprices")?;
     write_prices(&mut text, &outcome.prices)?;
     writeln!(text)?;
+    write_opening(&mut text, &outcome.opening)?;
     write_rows(&mut text, rows)?;
     write_clocks(&mut text, bidders, outcome.clocks.as_slice())?;
     Ok(text)
+}
+
+/// Writes the line of the opening prices, where they are shown.
+fn write_opening(text: &mut String, opening: &Option<Prices>) -> Result<(), AllocError>
+    ensures { OnOk result (string_bytes text.new ≡ string_bytes text.old ++ text_of (opening_lines opening.now)) }
+{
+    match opening {
+        None => Ok(()),
+        Some(opening) => write_opening_line(text, opening),
+    }
+}
+
+fn write_opening_line(text: &mut String, opening: &Prices) -> Result<(), AllocError>
+    ensures { OnOk result (string_bytes text.new ≡ string_bytes text.old ++ line (codes "opening" ∷ numerals opening.now)) }
+{
+    write!(text, "opening")?;
+    write_prices(text, opening)?;
+    writeln!(text)
 }
 
 /// Writes the lines of all bidders.

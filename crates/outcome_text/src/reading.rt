@@ -1,7 +1,8 @@
 //! Reading an outcome from its plain text.
-ghost use Rattle.std.specs.Prelude.{◌≡◌, ◌↔◌, Some, IfOk, IsTrue};
+ghost use Rattle.std.specs.Prelude.{◌≡◌, ◌↔◌, Some, is_some, IfOk, IfSome, IsTrue};
 ghost use Rattle.settlement.specs.declared.outcome.Outcome.{Outcome as OutcomeValue};
 ghost use Rattle.outcome_text.specs.Plain.{plain_text};
+ghost use Rattle.outcome_text.specs.Numbers.{numbers_in};
 ghost use Rattle.outcome_text.specs.Reading.{IsTextOf, IsReadFrom};
 
 use crate::building::outcome_of;
@@ -20,7 +21,25 @@ pub fn read_plain(alloc: Global, bytes: &[u8]) -> Result<Option<Outcome>, NoMemo
         Ok(numbers) => numbers,
         Err(_) => return Err(NoMemory),
     };
-    let outcome = match outcome_of(alloc, &numbers) {
+    match read_as(alloc, bytes, &numbers, false) {
+        Ok(Some(outcome)) => Ok(Some(outcome)),
+        Ok(None) => read_as(alloc, bytes, &numbers, true),
+        Err(NoMemory) => Err(NoMemory),
+    }
+}
+
+/// The same for an outcome that shows its opening prices, or for one that shows none, where these are the numbers of the text.
+fn read_as(
+    alloc: Global,
+    bytes: &[u8],
+    numbers: &[i64],
+    shows_opening: bool,
+) -> Result<Option<Outcome>, NoMemory>
+    requires { numbers.now ≡ numbers_in bytes.now }
+    ensures read { IfOk result (λ r. IfSome r (IsTextOf bytes.now)) }
+    ensures back { (o : OutcomeValue) → IsTextOf bytes.now o → is_some o.opening ≡ shows_opening → IfOk result (λ r. r ≡ Some o) }
+{
+    let outcome = match outcome_of(alloc, numbers, shows_opening) {
         Ok(Some(outcome)) => outcome,
         Ok(None) => return Ok(None),
         Err(NoMemory) => return Err(NoMemory),

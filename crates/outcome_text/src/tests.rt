@@ -1,14 +1,11 @@
 //! What no clause says: that calls succeed where there is memory, and texts that were worked by hand.
-ghost use Rattle.std.specs.Prelude.{◌≡◌, ◌≤◌, IfOk};
-ghost use Rattle.lot_base.specs.Demands.{IsDemand};
-ghost use Rattle.settlement.specs.Clocks.{AreClocksOf};
+ghost use Rattle.std.specs.Prelude.{◌≤◌};
 
 use crate::{read_plain, write_json, write_plain, write_standing};
 use award_assembly::Choice;
-use clock::{Clock, Judgement, Look};
-use demand_set::{Demand, Report};
-use lot_base::{Bundle, Goods, Phase, Prices, RawDemand, Terms};
-use settlement::{AwardRow, ClockRow, Outcome, Rows, Settlement, settle};
+use clock::Look;
+use lot_base::{Bundle, Phase, Prices, Sequence};
+use settlement::{AwardRow, ClockRow, Outcome};
 use std::alloc::Global;
 use std::process::Abort;
 use std::test::Fail;
@@ -56,6 +53,60 @@ clock 2 steps 0 prices 0 0
 choice 2 1 1 0
 ";
 
+/// The three bidders, with a reserve of 5.
+const RESERVED: &str = "settled goods 1 bidders 3
+prices 6
+opening 5
+bidder 1 award 1 debit 0 credit 0 pays 6
+bidder 2 award 1 debit 0 credit 0 pays 6
+bidder 3 award 0 debit 0 credit 0 pays 0
+clock 0 steps 1 prices 6
+choice 0 1 1
+choice 0 2 1
+choice 0 3 0
+clock 1 steps 0 prices 5
+choice 1 2 1
+choice 1 3 1
+clock 2 steps 0 prices 5
+choice 2 1 1
+choice 2 3 1
+clock 3 steps 0 prices 5
+choice 3 1 1
+choice 3 2 1
+";
+
+/// The three bidders, with a reserve of 9: one unit stays unsold.
+const UNSOLD: &str = "settled goods 1 bidders 3
+prices 9
+opening 9
+bidder 1 award 1 debit 0 credit 0 pays 9
+bidder 2 award 0 debit 0 credit 0 pays 0
+bidder 3 award 0 debit 0 credit 0 pays 0
+clock 0 steps 0 prices 9
+choice 0 1 1
+choice 0 2 0
+choice 0 3 0
+clock 1 steps 0 prices 9
+choice 1 2 0
+choice 1 3 0
+clock 2 steps 0 prices 9
+choice 2 1 1
+choice 2 3 0
+clock 3 steps 0 prices 9
+choice 3 1 1
+choice 3 2 0
+";
+
+/// The one bidder, with the greatest opening price.
+const GREATEST_OPENING: &str = "settled goods 1 bidders 1
+prices 0
+opening 4294967295
+bidder 1 award 2 debit 0 credit 0 pays 0
+clock 0 steps 0 prices 0
+choice 0 1 2
+clock 1 steps 0 prices 0
+";
+
 /// The greatest and the least numbers.
 const EXTREMES: &str = "settled goods 1 bidders 1
 prices 4294967295
@@ -74,10 +125,19 @@ fn outcome_in(rt: &impl Abort, alloc: Global, text: &str) -> Result<Outcome, Fai
 
 #[test]
 fn texts_are_read_and_written_again(rt: HostRuntime) -> Result<(), Fail> {
-    for text in [THREE_BIDDERS, ONE_BIDDER, TWO_GOODS, EXTREMES] {
+    for text in [
+        THREE_BIDDERS,
+        ONE_BIDDER,
+        TWO_GOODS,
+        EXTREMES,
+        RESERVED,
+        UNSOLD,
+        GREATEST_OPENING,
+    ] {
         let outcome = outcome_in(&rt, rt.alloc(), text)?;
         let written = write_plain(rt.alloc(), &outcome)?;
         assert_eq!(rt; written.as_slice(), text.as_bytes());
+        assert_eq!(rt; outcome.opening.is_some(), text.contains("opening"));
     }
     Ok(())
 }
@@ -93,6 +153,16 @@ fn json_has_its_members_in_the_order_of_their_keys(rt: HostRuntime) -> Result<()
     let written = write_json(rt.alloc(), &outcome)?;
     let wanted =
         "{\"bidders\":[{\"award\":[1],\"bidder\":1,\"credit\":-4,\"debit\":-4,\"pays\":6},{\"award\":[1],\"bidder\":2,\"credit\":-5,\"debit\":-5,\"pays\":6},{\"award\":[0],\"bidder\":3,\"credit\":-7,\"debit\":-7,\"pays\":0}],\"clocks\":[{\"choices\":[{\"bidder\":1,\"bundle\":[1]},{\"bidder\":2,\"bundle\":[1]},{\"bidder\":3,\"bundle\":[0]}],\"clock\":0,\"prices\":[6],\"steps\":6},{\"choices\":[{\"bidder\":2,\"bundle\":[1]},{\"bidder\":3,\"bundle\":[1]}],\"clock\":1,\"prices\":[3],\"steps\":3},{\"choices\":[{\"bidder\":1,\"bundle\":[1]},{\"bidder\":3,\"bundle\":[1]}],\"clock\":2,\"prices\":[4],\"steps\":4},{\"choices\":[{\"bidder\":1,\"bundle\":[1]},{\"bidder\":2,\"bundle\":[1]}],\"clock\":3,\"prices\":[4],\"steps\":4}],\"goods\":1,\"prices\":[6]}\n";
+    assert_eq!(rt; written.as_slice(), wanted.as_bytes());
+    Ok(())
+}
+
+#[test]
+fn json_has_the_opening_before_the_prices(rt: HostRuntime) -> Result<(), Fail> {
+    let outcome = outcome_in(&rt, rt.alloc(), GREATEST_OPENING)?;
+    let written = write_json(rt.alloc(), &outcome)?;
+    let wanted =
+        "{\"bidders\":[{\"award\":[2],\"bidder\":1,\"credit\":0,\"debit\":0,\"pays\":0}],\"clocks\":[{\"choices\":[{\"bidder\":1,\"bundle\":[2]}],\"clock\":0,\"prices\":[0],\"steps\":0},{\"choices\":[],\"clock\":1,\"prices\":[0],\"steps\":0}],\"goods\":1,\"opening\":[4294967295],\"prices\":[0]}\n";
     assert_eq!(rt; written.as_slice(), wanted.as_bytes());
     Ok(())
 }
@@ -164,6 +234,20 @@ fn other_texts_are_refused(rt: HostRuntime) -> Result<(), Fail> {
     for (old, new) in changes {
         assert_refused_with(&rt, rt.alloc(), old, new)?;
     }
+    // the line of the opening prices
+    for new in [
+        "prices 0\nopening\n",
+        "prices 0\nopening 0 0\n",
+        "prices 0\nopening 4294967296\n",
+        "prices 0\nopening -1\n",
+        "prices 0\nopening 0\nopening 0\n",
+        "prices 0\nOpening 0\n",
+        "prices 0 opening 0\n",
+        "opening 0\nprices 0\n",
+        "opening 0\n",
+    ] {
+        assert_refused_with(&rt, rt.alloc(), "prices 0\n", new)?;
+    }
     assert_refused(&rt, rt.alloc(), b"", "empty")?;
     assert_refused(&rt, rt.alloc(), b"\n", "a newline")?;
     let mut bytes = ONE_BIDDER.as_bytes().to_vec(rt.alloc())?;
@@ -202,8 +286,9 @@ fn nothing_sold(alloc: Global, goods: usize, bidders: u8) -> Result<Outcome, Fai
     }
     Ok(Outcome {
         prices,
-        rows: Rows::from_vec(rows),
-        clocks: Rows::from_vec(clocks),
+        opening: Some(prices),
+        rows: Sequence::from_vec(rows),
+        clocks: Sequence::from_vec(clocks),
     })
 }
 
@@ -272,130 +357,4 @@ fn a_standing_is_one_line(rt: HostRuntime) -> Result<(), Fail> {
         assert_standing(&rt, rt.alloc(), &look, wanted)?;
     }
     Ok(())
-}
-
-/// What a bidder demands at a price who values none, one and two units so.
-fn demand_at(
-    rt: &impl Abort,
-    alloc: Global,
-    goods: &Goods,
-    price: u32,
-    values: &[u32],
-) -> Result<Demand, Fail>
-    ensures { IfOk result (λ d. IsDemand goods.now d) }
-{
-    assert_eq!(rt; values.len(), 3);
-    let mut best = 0u64;
-    let mut quantities = Vec::new(alloc);
-    for quantity in 0..3 {
-        let surplus = (1_000 + values[quantity as usize] as u64).saturating_sub(
-            price as u64 * quantity as u64,
-        );
-        if surplus > best {
-            best = surplus;
-            quantities = Vec::new(alloc);
-        }
-        if surplus == best {
-            quantities.push(quantity)?;
-        }
-    }
-    let raw = RawDemand {
-        goods: 1,
-        quantities,
-    };
-    Ok(Demand::read(alloc, goods, &raw)?)
-}
-
-/// Reports what each member demands in a round.
-fn fill(
-    rt: &impl Abort,
-    alloc: Global,
-    terms: &Terms,
-    clock: &mut Clock,
-    round: u32,
-    values: &[&[u32]],
-) -> Result<(), Fail>
-    requires { clock.old.terms ≡ terms.now }
-    ensures terms { clock.new.terms ≡ clock.old.terms }
-    ensures number { clock.new.number ≡ clock.old.number }
-{
-    let prices = clock.look().prices;
-    assert_eq!(rt; prices.count(), 1);
-    for place in 0..values.len() {
-        let bidder = (place % 12) as u8 + 1;
-        if bidder != clock.number() {
-            let demand = demand_at(rt, alloc, &terms.goods, prices.get(0), values[place])?;
-            assert_eq!(rt; clock.judge(bidder, round, &demand), Judgement::Take);
-            clock.apply(Report {
-                bidder,
-                round,
-                demand,
-            })?;
-        }
-    }
-    Ok(())
-}
-
-/// A clock of which each round was full, as long as it ran.
-fn full(
-    rt: &impl Abort,
-    alloc: Global,
-    terms: &Terms,
-    number: u8,
-    values: &[&[u32]],
-) -> Result<Clock, Fail>
-    requires { number ≤ terms.now.bidders }
-    ensures terms { IfOk result (λ c. c.terms ≡ terms.now) }
-    ensures number { IfOk result (λ c. c.number ≡ number) }
-{
-    let mut clock = Clock::new(alloc, terms, number)?;
-    for round in 1..100 {
-        if clock.look().phase != Phase::Running {
-            break;
-        }
-        fill(rt, alloc, terms, &mut clock, round, values)?;
-    }
-    Ok(clock)
-}
-
-fn clocks_of(
-    rt: &impl Abort,
-    alloc: Global,
-    terms: &Terms,
-    values: &[&[u32]],
-) -> Result<Vec<Clock>, Fail>
-    ensures { IfOk result (λ v. AreClocksOf terms.now v.items) }
-{
-    let mut clocks = Vec::new(alloc);
-    for number in 0..terms.bidders + 1 {
-        clocks.push(full(rt, alloc, terms, number, values)?)?;
-    }
-    Ok(clocks)
-}
-
-/// Two units of one good are sold to bidders with these values of none, one and two units, and the text is this.
-fn assert_sold(
-    rt: &impl Abort,
-    alloc: Global,
-    bidders: u8,
-    values: &[&[u32]],
-    wanted: &str,
-) -> Result<(), Fail> {
-    let terms = Terms::new(Goods::new(&[2])?, bidders, 100)?;
-    let clocks = clocks_of(rt, alloc, &terms, values)?;
-    match settle(alloc, &terms, &clocks)? {
-        Settlement::Settled(outcome) => {
-            let written = write_plain(alloc, &outcome)?;
-            assert_eq!(rt; written.as_slice(), wanted.as_bytes());
-            Ok(())
-        }
-        settlement => panic!(rt; "{settlement:?}"),
-    }
-}
-
-#[test]
-fn what_clocks_settle_is_written(rt: HostRuntime) -> Result<(), Fail> {
-    assert_sold(&rt, rt.alloc(), 1, &[&[0, 5, 8]], ONE_BIDDER)?;
-    let values = [[0, 10, 14].as_slice(), &[0, 8, 11], &[0, 6, 7]];
-    assert_sold(&rt, rt.alloc(), 3, &values, THREE_BIDDERS)
 }

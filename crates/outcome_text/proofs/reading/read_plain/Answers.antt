@@ -1,29 +1,12 @@
--- A text of an outcome has its numbers, they make that outcome, and its text is the text that was read.
-use Rattle.std.proofs.Common.{◌≡◌, ◌∙◌, Some, None, sym, ap}
-use Rattle.std.proofs.lemmas.Bool.{false≢true}
-use Rattle.outcome_text.specs.Plain.{plain_text}
-use Rattle.outcome_text.proofs.OutcomeNumbers.{readable, numbers-of}
+-- Of what is read no other outcome has the text.
+use Rattle.std.proofs.Common.{Some, ap, subst, Option}
+use Rattle.std.specs.Prelude.{IfSome}
+use Rattle.settlement.specs.declared.outcome.Outcome.{Outcome}
+use Rattle.outcome_text.specs.Reading.{IsTextOf}
+use Rattle.outcome_text.proofs.OneOutcome.{one-outcome}
 use Rattle.outcome_text.proofs.reading.read_plain.Goals as goal
 
-pub returns-in-Ok-None-clause-read : goal.returns-in-Ok-None-clause-read
-returns-in-Ok-None-clause-read c = λ o is.
-    let made = c.in-Ok-None.ensures.back o (readable c.args.bytes.now o is) (c.deref.ensures.value ∙ c.in-Ok.ensures ∙ numbers-of c.args.bytes.now o is) in
-    let none : None ≡ Some o = sym c.in-Ok-None.field-0-is ∙ made in
-    absurd (cc)
-
-pub returns-in-Ok-None-clause-back : goal.returns-in-Ok-None-clause-back
-returns-in-Ok-None-clause-back c = λ o is.
-    sym c.in-Ok-None.field-0-is ∙ c.in-Ok-None.ensures.back o (readable c.args.bytes.now o is) (c.deref.ensures.value ∙ c.in-Ok.ensures ∙ numbers-of c.args.bytes.now o is)
-
-pub returns-in-Ok-true-clause-back : goal.returns-in-Ok-true-clause-back
-returns-in-Ok-true-clause-back c = λ o is.
-    sym c.in-Ok-Some.field-0-is ∙ c.in-Ok-Some.ensures.back o (readable c.args.bytes.now o is) (c.deref.ensures.value ∙ c.in-Ok.ensures ∙ numbers-of c.args.bytes.now o is)
-
-pub returns-in-Ok-false-clause-read : goal.returns-in-Ok-false-clause-read
-returns-in-Ok-false-clause-read c = λ o is.
-    let made = sym c.in-Ok-Some.field-0-is ∙ c.in-Ok-Some.ensures.back o (readable c.args.bytes.now o is) (c.deref.ensures.value ∙ c.in-Ok.ensures ∙ numbers-of c.args.bytes.now o is) in
-    let same : o ≡ c.in-Ok-Some.outcome = cc in
-    false≢true (sym c.in-Ok-false.field-0-test ∙ c.in-Ok-false.ensures.1 (is.spelled ∙ ap plain_text same))
-
-pub returns-in-Ok-false-clause-back : goal.returns-in-Ok-false-clause-back
-returns-in-Ok-false-clause-back c = λ o is. absurd (returns-in-Ok-false-clause-read c o is)
+pub returns-in-Ok-Some-clause-back : goal.returns-in-Ok-Some-clause-back
+returns-in-Ok-Some-clause-back c = λ o is.
+    let P : Option Outcome → Type 0 = λ r. IfSome r (IsTextOf c.args.bytes.now) in
+    ap (λ p. Some p) (one-outcome c.args.bytes.now c.in-Ok-Some.outcome o (subst P c.in-Ok-Some.field-0-is c.in-Ok-Some.ensures.read) is)

@@ -13,8 +13,8 @@ pub loop-clock-preserved : goal.loop-clock-preserved
 loop-clock-preserved c =
     let Takes : Option ClockRow → Type 0 = λ row. TakesClock c.args.goods c.args.bidders c.loop-clock.clock c.loop-clock.self.rest.now c.clock_row.new.self.rest.now row in
     let Fits : Option ClockRow → Type 0 = λ row. IfSome row (IsClockOf c.args.goods c.args.bidders c.loop-clock.clock) in
-    one-more-clock c.args.goods c.args.bidders c.loop-clock.clock c.args.self.now.rest.now c.loop-clock.self.rest.now c.clock_row.new.self.rest.now c.loop-clock.rows.items c.push.new.items.items c.in-Ok-Some.row
-    c.loop-clock.invariant c.loop-clock-test.true (subst Fits c.in-Ok-Some.field-0-is c.in-Ok-Some.ensures.fit) (subst Takes c.in-Ok-Some.field-0-is c.in-Ok-Some.ensures.back) c.in_ok-push-in-Ok-Some.ensures
+    one-more-clock c.args.goods c.args.bidders c.loop-clock.clock c.args.self.now.rest.now c.loop-clock.self.rest.now c.clock_row.new.self.rest.now c.loop-clock.rows.items c.push.new.self.items c.in-Ok-Some.row
+    c.loop-clock.invariant c.loop-clock-test.true (subst Fits c.in-Ok-Some.field-0-is c.in-Ok-Some.ensures.fit) (subst Takes c.in-Ok-Some.field-0-is c.in-Ok-Some.ensures.back) c.in_ok-push-in-Ok-Some.ensures.items
 
 pub returns-clause-back : goal.returns-clause-back
 returns-clause-back c = λ rows behind are e.

@@ -1,5 +1,0 @@
-use Rattle.settlement.proofs.Auction.{AreFirst}
-use Rattle.outcome_text.proofs.tests.clocks_of.Given as goal
-
-abbrev pub invariant-loop-number : goal.invariant-loop-number
-invariant-loop-number g l = AreFirst l.terms l.number l.clocks.items
