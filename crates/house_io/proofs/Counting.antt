@@ -39,7 +39,7 @@ with_name-there (t ∷ ts) name zero is = rw (is.here t) refl
 with_name-there (t ∷ ts) name (suc place) is =
     rw (is.first zero t (omega arith)) (ap (λ names. string_bytes t.name ∷ names) (with_name-there ts name place (record { inside = omega (arith, is.inside); here = is.here; first = λ k other below. is.first (suc k) other (omega arith) })))
 
--- and one that has none is put behind them
+-- and one that has none is put after them
 pub with_name-new : (ts : List Tally) (name : List ℕ) → HasNo ts name → with_name name (names_of (counts_in ts)) ≡ names_of (counts_in ts) ++ name ∷ []
 with_name-new [] name absent = refl
 with_name-new (t ∷ ts) name absent =

@@ -3,7 +3,7 @@ use Rattle.std.proofs.Common.{◌≡◌, ◌⊎◌, inl, inr, ⊎_elim, ℕ, zer
 use Rattle.house_io.specs.Moments.{Moment, IsImage, IsOutside, Torn, end_of, overlaid}
 use Rattle.house_io.specs.Ranges.{latest_first}
 use Rattle.house_io.specs.Fills.{filled_with}
-use Rattle.house_io.specs.declared.recorded_file.Range.{Range}
+use Rattle.house_io.specs.declared.memory.recorded_file.Range.{Range}
 
 no_shorter_end : (n : ℕ) (ranges : List (ℕ × ℕ)) → n ≤ end_of n ranges
 no_shorter_end n [] = omega arith

@@ -8,5 +8,3 @@ pub mod Overlays
 mod Replays
 mod Images
 mod Shelving
-mod SureShelving
-mod ListShelving

@@ -3,8 +3,8 @@ use Rattle.std.proofs.Common.{◌≡◌, ℕ, ◌+◌, ◌≤◌, List, [], ◌�
 use Rattle.std.proofs.lemmas.List.{take-append-le, drop-append-le, take_all}
 use Rattle.house_io.specs.Moments.{Moments, IsImage, overlaid, opened, wrote, synced_at}
 use Rattle.house_io.specs.Calls.{replay, total, tore}
-use Rattle.house_io.specs.declared.recorded_file.Call.{Call}
-use Rattle.house_io.specs.declared.recorded_file.Call.TheVariants.{Write, Tear, Sync}
+use Rattle.house_io.specs.declared.memory.recorded_file.Call.{Call}
+use Rattle.house_io.specs.declared.memory.recorded_file.Call.TheVariants.{Write, Tear, Sync}
 use Rattle.house_io.proofs.Moments.{settled_torn, image_now, image-written}
 use Rattle.house_io.proofs.Overlays.{overlaid_torn}
 

@@ -1,100 +1,116 @@
--- Finding a thing by its name in a list that stands for entries: with one more, and with one in another's place.
-use Rattle.std.proofs.Common.{◌≡◌, ◌≢◌, ◌<◌, ℕ, zero, suc, List, [], ◌∷◌, ◌++◌, length, map, bytes_eq, slice_index_or, slice_set, true, false, cond, Bool, Option, Some, None, refl, sym, ◌∙◌, ap, arith}
+-- Finding a file by its name among those of a shelf in memory, with one more and with one in another's place; what the shelf
+-- shows of its files, and the disk that it opens.
+use Rattle.std.proofs.Common.{◌≡◌, ◌≢◌, ◌<◌, ℕ, zero, suc, List, [], ◌∷◌, ◌++◌, length, bytes_eq, slice_index_or, slice_set, true, false, cond, Bool, Option, Some, None, refl, sym, ◌∙◌, ap, arith}
 use Rattle.std.proofs.lemmas.Slice.Eq.{bytes_eq-Decides}
-use Rattle.std.specs.Prelude.{find, option_map}
+use Rattle.std.specs.Prelude.{option_map, unwrap_or}
+use Rattle.house_io.specs.Moments.{opened}
 use Rattle.house_io.specs.Places.{HasNone, IsFirstAt}
+use Rattle.house_io.specs.Shelves.{NamedFile, file_of, bytes_of, moments_at}
+use Rattle.house_io.specs.ShelvedFiles.{ShelvedFile, ShelvedDisk, shelved_file, shown_file, shown_files, disk_at, disk_on, new_disk}
+
+-- no file has this name
+abbrev pub HasNo : List ShelvedFile → List ℕ → Type 0
+HasNo files name = HasNone (λ file. file.name) files name
+
+-- the place of the first file of this name
+abbrev pub IsPlace : List ShelvedFile → List ℕ → ℕ → Type 0
+IsPlace files name place = IsFirstAt (λ file. file.name) files name place
 
 not-true : (b : Bool) → (b ≡ true → ⊥) → b ≡ false
 not-true true h = absurd (h refl)
 not-true false h = refl
 
 -- what has this name has no other
-pub other-name : (xs name other : List ℕ) → bytes_eq xs name ≡ true → other ≢ name → bytes_eq xs other ≡ false
+other-name : (xs name other : List ℕ) → bytes_eq xs name ≡ true → other ≢ name → bytes_eq xs other ≡ false
 other-name xs name other here ne = not-true (bytes_eq xs other) (λ same. ne (sym ((bytes_eq-Decides xs other).0 same) ∙ (bytes_eq-Decides xs name).0 here))
 
-pub own-name : (name : List ℕ) → bytes_eq name name ≡ true
+own-name : (name : List ℕ) → bytes_eq name name ≡ true
 own-name name = (bytes_eq-Decides name name).1 refl
 
-module _ {F : Type 0} (name_in : F → List ℕ) where
-  abbrev pub found : List F → List ℕ → Option F
-  found all name = find (λ x. bytes_eq (name_in x) name) all
+-- one more of a name that none had
+pub found-push : (files : List ShelvedFile) (x : ShelvedFile) → shelved_file files x.name ≡ None → shelved_file (files ++ x ∷ []) x.name ≡ Some x
+found-push [] x none = rw (own-name x.name) refl
+found-push (y ∷ files) x none =
+    elim (bytes_eq y.name x.name)
+    as (λ b. cond b (Some y) (shelved_file files x.name) ≡ None → cond b (Some y) (shelved_file (files ++ x ∷ []) x.name) ≡ Some x)
+    [ true ↦ (λ e. cc) | false ↦ (λ e. found-push files x e) ] none
 
-  -- what is shown of the one that is found
-  pub found-shown : {G : Type 0} (shown : F → G) (name_of : G → List ℕ) → ((x : F) → name_of (shown x) ≡ name_in x) → (all : List F) (name : List ℕ)
-      → find (λ y. bytes_eq (name_of y) name) (map shown all) ≡ option_map shown (found all name)
-  found-shown shown name_of same [] name = refl
-  found-shown {G} shown name_of same (x ∷ all) name =
-      ap (λ n. cond (bytes_eq n name) (Some (shown x)) (find (λ y. bytes_eq (name_of y) name) (map shown all))) (same x)
-      ∙ elim (bytes_eq (name_in x) name)
-      as (λ b. cond b (Some (shown x)) (find (λ y. bytes_eq (name_of y) name) (map shown all)) ≡ option_map shown (cond b (Some x) (found all name)))
-      [ true ↦ refl | false ↦ found-shown shown name_of same all name ]
+-- one more of another name
+pub found-push_other : (files : List ShelvedFile) (x : ShelvedFile) (other : List ℕ) → other ≢ x.name → shelved_file (files ++ x ∷ []) other ≡ shelved_file files other
+found-push_other [] x other ne = rw (other-name x.name x.name other (own-name x.name) ne) refl
+found-push_other (y ∷ files) x other ne = ap (λ (o : Option ShelvedFile). cond (bytes_eq y.name other) (Some y) o) (found-push_other files x other ne)
 
-  -- one more of a name that none had
-  pub found-push : (all : List F) (x : F) (name : List ℕ) → found all name ≡ None → bytes_eq (name_in x) name ≡ true → found (all ++ x ∷ []) name ≡ Some x
-  found-push [] x name none here = rw here refl
-  found-push (y ∷ all) x name none here =
-      elim (bytes_eq (name_in y) name)
-      as (λ b. cond b (Some y) (found all name) ≡ None → cond b (Some y) (found (all ++ x ∷ []) name) ≡ Some x)
-      [ true ↦ (λ e. cc) | false ↦ (λ e. found-push all x name e here) ] none
+pub found-none : (files : List ShelvedFile) (name : List ℕ) → HasNo files name → shelved_file files name ≡ None
+found-none [] name absent = refl
+found-none (x ∷ files) name absent =
+    rw (absent zero x (omega arith)) (found-none files name (λ k d below. absent (suc k) d (omega arith)))
 
-  -- one more of another name
-  pub found-push_other : (all : List F) (x : F) (other : List ℕ) → bytes_eq (name_in x) other ≡ false → found (all ++ x ∷ []) other ≡ found all other
-  found-push_other [] x other another = rw another refl
-  found-push_other (y ∷ all) x other another =
-      ap (λ (o : Option F). cond (bytes_eq (name_in y) other) (Some y) o) (found-push_other all x other another)
+-- the place of the first in the rest
+later : {x : ShelvedFile} {files : List ShelvedFile} {name : List ℕ} {place : ℕ} → IsPlace (x ∷ files) name (suc place) → IsPlace files name place
+later is = record { inside = omega (arith, is.inside); here = is.here; first = λ k other below. is.first (suc k) other (omega arith) }
 
-  module _ {E : Type 0} (f : E → F) where
-    abbrev name_of : E → List ℕ
-    name_of e = name_in (f e)
+found-place : (files : List ShelvedFile) (name : List ℕ) (place : ℕ) (d : ShelvedFile) → IsPlace files name place → shelved_file files name ≡ Some (slice_index_or files place d)
+found-place [] name place d is = absurd (omega (arith, is.inside))
+found-place (x ∷ files) name zero d is = rw (is.here d) refl
+found-place (x ∷ files) name (suc place) d is = rw (is.first zero x (omega arith)) (found-place files name place d (later is))
 
-    pub found-none : (es : List E) (name : List ℕ) → HasNone name_of es name → found (map f es) name ≡ None
-    found-none [] name absent = refl
-    found-none (e ∷ es) name absent =
-        rw (absent zero e (omega arith)) (found-none es name (λ k d below. absent (suc k) d (omega arith)))
+-- the same at the file itself
+pub found-at : {files : List ShelvedFile} {name : List ℕ} {place : ℕ} {x : ShelvedFile} → IsPlace files name place → x ≡ slice_index_or files place x → shelved_file files name ≡ Some x
+found-at is here = found-place _ _ _ _ is ∙ ap (λ (y : ShelvedFile). Some y) (sym here)
 
-    pub found-place : (es : List E) (name : List ℕ) (place : ℕ) (d : E) → IsFirstAt name_of es name place → found (map f es) name ≡ Some (f (slice_index_or es place d))
-    found-place [] name place d is = absurd (omega (arith, is.inside))
-    found-place (e ∷ es) name zero d is = rw (is.here d) refl
-    found-place (e ∷ es) name (suc place) d is =
-        rw (is.first zero e (omega arith)) (found-place es name place d (record { inside = omega (arith, is.inside); here = is.here; first = λ k other below. is.first (suc k) other (omega arith) }))
+-- a file in the place of one of the same name
+found-set : (files : List ShelvedFile) (name : List ℕ) (place : ℕ) (x : ShelvedFile) → IsPlace files name place → bytes_eq x.name name ≡ true → shelved_file (slice_set files place x) name ≡ Some x
+found-set [] name place x is same = absurd (omega (arith, is.inside))
+found-set (y ∷ files) name zero x is same = rw same refl
+found-set (y ∷ files) name (suc place) x is same = rw (is.first zero y (omega arith)) (found-set files name place x (later is) same)
 
-    -- the same at the entry itself
-    pub found-at : (es : List E) (name : List ℕ) (place : ℕ) (e : E) → IsFirstAt name_of es name place → e ≡ slice_index_or es place e → found (map f es) name ≡ Some (f e)
-    found-at es name place e is here = found-place es name place e is ∙ ap (λ (x : E). Some (f x)) (sym here)
+found-set_other : (files : List ShelvedFile) (other : List ℕ) (place : ℕ) (x d : ShelvedFile) → place < length files → bytes_eq (slice_index_or files place d).name other ≡ false → bytes_eq x.name other ≡ false
+    → shelved_file (slice_set files place x) other ≡ shelved_file files other
+found-set_other [] other place x d inside was another = absurd (omega arith)
+found-set_other (y ∷ files) other zero x d inside was another = rw (another, was) refl
+found-set_other (y ∷ files) other (suc place) x d inside was another =
+    ap (λ (o : Option ShelvedFile). cond (bytes_eq y.name other) (Some y) o) (found-set_other files other place x d (omega arith) was another)
 
-    -- an entry in the place of one of the same name
-    found-set : (es : List E) (name : List ℕ) (place : ℕ) (e : E) → IsFirstAt name_of es name place → bytes_eq (name_of e) name ≡ true → found (map f (slice_set es place e)) name ≡ Some (f e)
-    found-set [] name place e is same = absurd (omega (arith, is.inside))
-    found-set (x ∷ es) name zero e is same = rw same refl
-    found-set (x ∷ es) name (suc place) e is same =
-        rw (is.first zero x (omega arith)) (found-set es name place e (record { inside = omega (arith, is.inside); here = is.here; first = λ k other below. is.first (suc k) other (omega arith) }) same)
+-- a file that keeps its name, in its own place
+pub found-put : {files : List ShelvedFile} {name : List ℕ} {place : ℕ} (x : ShelvedFile) {d : ShelvedFile} → IsPlace files name place → x.name ≡ d.name → d ≡ slice_index_or files place d
+    → shelved_file (slice_set files place x) name ≡ Some x
+found-put {name = name} x {d = d} is same here =
+    found-set _ _ _ x is (ap (λ n. bytes_eq n name) same ∙ ap (λ (y : ShelvedFile). bytes_eq y.name name) here ∙ is.here d)
 
-    found-set_other : (es : List E) (other : List ℕ) (place : ℕ) (e d : E) → place < length es → bytes_eq (name_of (slice_index_or es place d)) other ≡ false → bytes_eq (name_of e) other ≡ false
-        → found (map f (slice_set es place e)) other ≡ found (map f es) other
-    found-set_other [] other place e d inside was another = absurd (omega arith)
-    found-set_other (x ∷ es) other zero e d inside was another = rw (another, was) refl
-    found-set_other (x ∷ es) other (suc place) e d inside was another =
-        ap (λ (o : Option F). cond (bytes_eq (name_of x) other) (Some (f x)) o) (found-set_other es other place e d (omega arith) was another)
+-- and the other names
+pub others-put : {files : List ShelvedFile} {name : List ℕ} {place : ℕ} (x : ShelvedFile) {d : ShelvedFile} → IsPlace files name place → x.name ≡ d.name → d ≡ slice_index_or files place d
+    → (other : List ℕ) → (other ≡ name → ⊥) → shelved_file (slice_set files place x) other ≡ shelved_file files other
+others-put {files = files} {name = name} {place = place} x {d = d} is same here other ne =
+    let was : bytes_eq (slice_index_or files place d).name other ≡ false = other-name (slice_index_or files place d).name name other (is.here d) ne in
+    let name_is : x.name ≡ (slice_index_or files place d).name = same ∙ ap (λ (y : ShelvedFile). y.name) here in
+    found-set_other files other place x d is.inside was (ap (λ n. bytes_eq n other) name_is ∙ was)
 
-    -- an entry that keeps its name, in its own place
-    pub found-put : (es : List E) (name : List ℕ) (place : ℕ) (e d : E) → IsFirstAt name_of es name place → name_of e ≡ name_of d → d ≡ slice_index_or es place d
-        → found (map f (slice_set es place e)) name ≡ Some (f e)
-    found-put es name place e d is same here =
-        found-set es name place e is (ap (λ n. bytes_eq n name) same ∙ ap (λ (x : E). bytes_eq (name_of x) name) here ∙ is.here d)
+-- what is shown of the file that is found
+pub file_of-shown : (files : List ShelvedFile) (name : List ℕ) → file_of (shown_files files) name ≡ option_map shown_file (shelved_file files name)
+file_of-shown [] name = refl
+file_of-shown (x ∷ files) name =
+    elim (bytes_eq x.name name)
+    as (λ b. cond b (Some (shown_file x)) (file_of (shown_files files) name) ≡ option_map shown_file (cond b (Some x) (shelved_file files name)))
+    [ true ↦ refl | false ↦ file_of-shown files name ]
 
-    -- and the other names
-    pub others-put : (es : List E) (name : List ℕ) (place : ℕ) (e d : E) → IsFirstAt name_of es name place → name_of e ≡ name_of d → d ≡ slice_index_or es place d
-        → (other : List ℕ) → (other ≡ name → ⊥) → found (map f (slice_set es place e)) other ≡ found (map f es) other
-    others-put es name place e d is same here other ne =
-        let was : bytes_eq (name_of (slice_index_or es place d)) other ≡ false = other-name (name_of (slice_index_or es place d)) name other (is.here d) ne in
-        let name_is : name_of e ≡ name_of (slice_index_or es place d) = same ∙ ap name_of here in
-        found-set_other es other place e d is.inside was (ap (λ n. bytes_eq n other) name_is ∙ was)
+-- what is found under a name is shown of it
+pub shown-same : (now before : List ShelvedFile) (other : List ℕ) → shelved_file now other ≡ shelved_file before other → file_of (shown_files now) other ≡ file_of (shown_files before) other
+shown-same now before other same = file_of-shown now other ∙ ap (option_map shown_file) same ∙ sym (file_of-shown before other)
 
-    map-same : (es : List E) (place : ℕ) (e d : E) → f e ≡ f (slice_index_or es place d) → map f (slice_set es place e) ≡ map f es
-    map-same [] place e d same = refl
-    map-same (x ∷ es) zero e d same = ap (λ (y : F). y ∷ map f es) same
-    map-same (x ∷ es) (suc place) e d same = ap (λ (ys : List F). f x ∷ ys) (map-same es place e d same)
+pub bytes_of-shown : (files : List ShelvedFile) (name : List ℕ) {file : Option ShelvedFile} → shelved_file files name ≡ file → bytes_of (shown_files files) name ≡ option_map (λ (y : NamedFile). y.moments.now.read) (option_map shown_file file)
+bytes_of-shown files name is = ap (option_map (λ (y : NamedFile). y.moments.now.read)) (file_of-shown files name ∙ ap (option_map shown_file) is)
 
-    -- an entry that stands for the same thing
-    pub same-put : (es : List E) (place : ℕ) (e d : E) → f e ≡ f d → d ≡ slice_index_or es place d → map f (slice_set es place e) ≡ map f es
-    same-put es place e d same here = map-same es place e d (same ∙ ap f here)
+moments_on : (room : ℕ) (bytes failing : List ℕ) (closed : Option ShelvedDisk) → (unwrap_or closed (new_disk room bytes failing)).moments ≡ unwrap_or (option_map (λ disk. disk.moments) closed) (opened bytes)
+moments_on room bytes failing None = refl
+moments_on room bytes failing (Some disk) = refl
+
+moments_in : (room : ℕ) (file : Option ShelvedFile)
+    → (unwrap_or (option_map (disk_on room) file) (new_disk room [] [])).moments ≡ unwrap_or (option_map (λ (y : NamedFile). y.moments) (option_map shown_file file)) (opened [])
+moments_in room None = refl
+moments_in room (Some file) = moments_on room file.bytes file.failing file.closed
+
+-- the disk that is opened stands as the file does
+pub moments_at-shown : (files : List ShelvedFile) (room : ℕ) (name : List ℕ) → (disk_at files room name).moments ≡ moments_at (shown_files files) name
+moments_at-shown files room name =
+    moments_in room (shelved_file files name)
+    ∙ sym (ap (λ (o : Option NamedFile). unwrap_or (option_map (λ (y : NamedFile). y.moments) o) (opened [])) (file_of-shown files name))

@@ -28,7 +28,7 @@ wrote-front old now new text rest done e p q =
     let n : length done ≡ length z - length x = omega (arith, size) in
     all ∙ ap (λ xs. x ++ xs) (sym (front-of done rest text e) ∙ ap (λ k. take k text) n))
 
--- a front with nothing behind it is the whole text
+-- a front with nothing after it is the whole text
 pub wrote-all : (old now : Option (List ℕ)) (text rest done : List ℕ) → length rest ≡ 0 → text ≡ done ++ rest → IfTold old now (Appends done) → IfTold old now (Appends text)
 wrote-all old now text [] done n e p = told-map old now _ _ p (λ x y f. f ∙ ap (λ xs. x ++ xs) (sym (e ∙ append-nil done)))
 wrote-all old now text (r ∷ rest) done n e p = absurd (omega arith)

@@ -1,8 +1,8 @@
 -- The moments that a record of calls stands for.
 use Rattle.std.specs.Prelude.{ℕ, ◌+◌, ◌-◌, List, [], ◌∷◌, take, drop}
 use Rattle.house_io.specs.Moments.{Moments, written, then, wrote, synced_at}
-use Rattle.house_io.specs.declared.recorded_file.Call.{Call}
-use Rattle.house_io.specs.declared.recorded_file.Call.TheVariants.{Write, Tear, Sync}
+use Rattle.house_io.specs.declared.memory.recorded_file.Call.{Call}
+use Rattle.house_io.specs.declared.memory.recorded_file.Call.TheVariants.{Write, Tear, Sync}
 
 -- a write that failed and changed no byte that a read gives
 abbrev pub tore : ℕ → ℕ → Moments → Moments

@@ -1,8 +1,8 @@
 -- What a crash leaves of the ranges that were written since the last good sync, as it is asked for.
 use Rattle.std.specs.Prelude.{ℕ, List, [], ◌∷◌, replicate}
 use Rattle.house_io.specs.Moments.{Moment, overlaid}
-use Rattle.house_io.specs.declared.recorded_file.Fill.{Fill}
-use Rattle.house_io.specs.declared.recorded_file.Fill.TheVariants.{Old, New, Byte}
+use Rattle.house_io.specs.declared.memory.recorded_file.Fill.{Fill}
+use Rattle.house_io.specs.declared.memory.recorded_file.Fill.TheVariants.{Old, New, Byte}
 
 -- the file with this byte throughout these ranges
 abbrev pub filled_with : ℕ → List (ℕ × ℕ) → List ℕ → List ℕ

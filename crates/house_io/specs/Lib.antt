@@ -7,6 +7,7 @@ pub mod Shelves
 pub mod Counts
 pub mod Tallies
 pub mod SureForms
+pub mod ShelvedFiles
 pub mod SureFiles
 pub mod ListForms
 pub mod ListShelves
@@ -17,6 +18,8 @@ pub mod Recorded
 pub mod Ranges
 pub mod Fills
 pub mod Opened
+pub mod OpenFiles
+pub mod Folders
 pub mod Places
 pub mod RowsDisks
 pub mod RowsCounts

@@ -1,6 +1,6 @@
 -- The ranges that were written since the last sync.
 use Rattle.std.specs.Prelude.{ℕ, List, [], ◌∷◌}
-use Rattle.house_io.specs.declared.recorded_file.Range.{Range}
+use Rattle.house_io.specs.declared.memory.recorded_file.Range.{Range}
 
 -- the ranges, the latest first, before others
 abbrev pub latest_first : List Range → List (ℕ × ℕ) → List (ℕ × ℕ)

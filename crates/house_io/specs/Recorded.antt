@@ -2,7 +2,7 @@
 use Rattle.std.specs.Prelude.{◌≡◌, ◌↔◌, ℕ, ◌+◌, ◌≤◌, IsTrue}
 use Rattle.house_io.specs.Moments.{Moments, opened}
 use Rattle.house_io.specs.Calls.{replay, Room}
-use Rattle.house_io.specs.declared.recorded_file.RecordedFile.{RecordedFile}
+use Rattle.house_io.specs.declared.memory.recorded_file.RecordedFile.{RecordedFile}
 
 abbrev pub moments_of : RecordedFile → Moments
 moments_of f = replay f.calls.items f.written.items (opened f.start.items)

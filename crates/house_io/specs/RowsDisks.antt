@@ -5,8 +5,8 @@ use Rattle.std.proofs.Common.{inl, inr, ap, ◌∙◌, arith}
 use Rattle.house_io.specs.Moments.{Moment, Moments, IsImage, IsOutside, Torn, overlaid, settled, opened, written, wrote, synced_at, HasTorn}
 use Rattle.house_io.specs.Calls.{replay, tore, total, room_for}
 use Rattle.house_io.specs.Fills.{image_of}
-use Rattle.house_io.specs.declared.recorded_file.Fill.TheVariants.{Old, New, Byte}
-use Rattle.house_io.specs.declared.recorded_file.Call.TheVariants.{Write, Tear, Sync}
+use Rattle.house_io.specs.declared.memory.recorded_file.Fill.TheVariants.{Old, New, Byte}
+use Rattle.house_io.specs.declared.memory.recorded_file.Call.TheVariants.{Write, Tear, Sync}
 
 one : ℕ → List ℕ
 one x = x ∷ []
@@ -14,7 +14,7 @@ one x = x ∷ []
 two : ℕ → ℕ → List ℕ
 two x y = x ∷ y ∷ []
 
--- A write within a file, over its end, behind its end, and into an empty file: a gap is filled with zeros.
+-- A write within a file, over its end, after its end, and into an empty file: a gap is filled with zeros.
 writes :
     (overlaid (1 ∷ 2 ∷ 3 ∷ []) 1 (9 ∷ []) ≡ 1 ∷ 9 ∷ 3 ∷ []) × (overlaid (1 ∷ 2 ∷ []) 1 (8 ∷ 9 ∷ []) ≡ 1 ∷ 8 ∷ 9 ∷ [])
     × (overlaid (1 ∷ []) 3 (9 ∷ []) ≡ 1 ∷ 0 ∷ 0 ∷ 9 ∷ []) × (overlaid [] 0 (9 ∷ []) ≡ 9 ∷ [])
@@ -24,7 +24,7 @@ writes = (refl, refl, refl, refl)
 writes_of_nothing : (overlaid (1 ∷ 2 ∷ []) 1 [] ≡ 1 ∷ 2 ∷ []) × (overlaid (1 ∷ 2 ∷ []) 2 [] ≡ 1 ∷ 2 ∷ []) × (overlaid (1 ∷ []) 3 [] ≡ 1 ∷ 0 ∷ 0 ∷ [])
 writes_of_nothing = (refl, refl, refl)
 
--- the room that writes take: at the end, with a gap, of no bytes behind the end
+-- the room that writes take: at the end, with a gap, of no bytes after the end
 rooms : (room_for 2 3 2 ≡ 3) × (room_for 4 1 1 ≡ 4) × (room_for 4 0 1 ≡ 3) × (room_for 1 0 1 ≡ 0)
 rooms = (refl, refl, refl, refl)
 
@@ -63,13 +63,13 @@ not_longer : IsImage over_one (1 ∷ 9 ∷ 0 ∷ []) → ⊥
 unfolding over_one
 not_longer image = let few : 3 ≤ 2 = image.no_longer in omega arith
 
--- the moment after a byte was written behind a gap
-behind_a_gap : Moment
-behind_a_gap = written 3 1 (1 ∷ 0 ∷ 0 ∷ 9 ∷ []) (settled (1 ∷ []))
+-- the moment after a byte was written after a gap
+after_a_gap : Moment
+after_a_gap = written 3 1 (1 ∷ 0 ∷ 0 ∷ 9 ∷ []) (settled (1 ∷ []))
 
--- A crash may leave the old end, or any later one up to that of the write, with anything behind the old end, in the gap too.
-gap_images : IsImage behind_a_gap (1 ∷ []) × IsImage behind_a_gap (1 ∷ 5 ∷ 6 ∷ 7 ∷ [])
-unfolding behind_a_gap
+-- A crash may leave the old end, or any later one up to that of the write, with anything after the old end, in the gap too.
+gap_images : IsImage after_a_gap (1 ∷ []) × IsImage after_a_gap (1 ∷ 5 ∷ 6 ∷ 7 ∷ [])
+unfolding after_a_gap
 gap_images = (
   record { no_shorter = omega arith; no_longer = omega arith; same = λ i inside out. refl },
   record { no_shorter = omega arith; no_longer = omega arith; same = at },
@@ -83,14 +83,14 @@ gap_images = (
 torn_by_nothing : (x y : ℕ) → Torn 1 0 (1 ∷ 2 ∷ []) (x ∷ y ∷ []) → (x ≡ 1) × (y ≡ 2)
 torn_by_nothing x y torn = (torn.same 0 (omega arith) (inl (omega arith)), torn.same 1 (omega arith) (inr (omega arith)))
 
--- A failed write behind the end of a file of one byte leaves zeros before its range, as far as there is anything.
-torn_behind_a_gap : (new : Moments) → HasTorn 3 1 (opened (1 ∷ [])) new → (slice_index new.now.read 1 ≡ 0) × (slice_index new.now.read 2 ≡ 0)
-torn_behind_a_gap new (file, torn, is, zeros) = (
+-- A failed write after the end of a file of one byte leaves zeros before its range, as far as there is anything.
+torn_after_a_gap : (new : Moments) → HasTorn 3 1 (opened (1 ∷ [])) new → (slice_index new.now.read 1 ≡ 0) × (slice_index new.now.read 2 ≡ 0)
+torn_after_a_gap new (file, torn, is, zeros) = (
   ap (λ (ms : Moments). slice_index ms.now.read 1) is ∙ zeros 1 (omega arith) (omega arith),
   ap (λ (ms : Moments). slice_index ms.now.read 2) is ∙ zeros 2 (omega arith) (omega arith),
 )
 
--- What is left of byte 1, and of a failed write behind a gap: the bytes of then, what was written, and one byte throughout.
+-- What is left of byte 1, and of a failed write after a gap: the bytes of then, what was written, and one byte throughout.
 fills :
     (image_of Old over_one ≡ 1 ∷ 2 ∷ []) × (image_of New over_one ≡ 1 ∷ 9 ∷ []) × (image_of (Byte 5) over_one ≡ 1 ∷ 5 ∷ [])
     × (image_of (Byte 5) (tore 3 2 (opened (1 ∷ []))).now ≡ 1 ∷ 0 ∷ 0 ∷ 5 ∷ 5 ∷ [])

@@ -63,7 +63,7 @@ pub record RisesOnly (name : List ℕ) (before now : List ℕ → ℕ) : Type 0 
   pub later : before name ≤ now name
   pub others : (other : List ℕ) → other ≢ name → now other ≡ before other
 
--- refused for a fault only where the count rose; for want of memory it stays
+-- refused for a fault only where the count rose; where memory ran out it stays
 abbrev pub IsRefused : Refusal → ℕ → ℕ → Type 0
 IsRefused why.Failed before now = Rose before now
 IsRefused why.NoMemory before now = now ≡ before
@@ -83,7 +83,7 @@ CountsOpening name (Err why.NoMemory) before now = (other : List ℕ) → now ot
 abbrev pub KeepsNames : List (List ℕ) → List (List ℕ) → Type 0
 KeepsNames before now = (name : List ℕ) → Contains before name → Contains now name
 
--- the names, and this one behind them where it is not among them
+-- the names, and this one after them where it is not among them
 abbrev pub with_name : List ℕ → List (List ℕ) → List (List ℕ)
 with_name name [] = name ∷ []
 with_name name (first ∷ names) = if bytes_eq first name then first ∷ names else first ∷ with_name name names

@@ -16,12 +16,6 @@ pub trait Disk {
     /// How often it has failed.
     ghost faults: { Self → ℕ };
 
-    /// The number of moments before the present one, where it tells them; 0 of a real disk.
-    fn moment(&self) -> u64
-        ensures number { IsTrue (tells self.now) → result ≡ length (moments self.now).past }
-        // What a read gives is one of the images.
-        ensures image { IsTrue (tells self.now) → IsImage (moments self.now).now (moments self.now).now.read };
-
     /// The file's length in bytes.
     fn size(&mut self) -> Result<u64, Failed>
         ensures size { IfOk result (λ n. IsTrue (tells self.new) → n ≡ length (moments self.old).now.read) }
@@ -39,7 +33,7 @@ pub trait Disk {
         ensures moments { IsTrue (tells self.new) → moments self.new ≡ moments self.old }
         ensures cause { HasCause (faults self.old) (faults self.new) result };
 
-    /// Writes the whole piece, or fails and may have written anything in its range. A gap behind the file's end is filled with
+    /// Writes the whole piece, or fails and may have written anything in its range. A gap after the file's end is filled with
     /// zeros, also before a piece of no bytes.
     fn write_at(&mut self, at: u64, from: &[u8]) -> Result<(), Failed>
         ensures written { OnOk result (IsTrue (tells self.new)
@@ -55,4 +49,7 @@ pub trait Disk {
         ensures failed { OnErr result (IsTrue (tells self.new) → moments self.new ≡ moments self.old) }
         ensures tells { IsTrue (tells self.new) → IsTrue (tells self.old) }
         ensures cause { HasCause (faults self.old) (faults self.new) result };
+
+    /// What a read gives is one of the images.
+    ghost reads_an_image: { (disk : Self) → IsTrue (tells disk) → IsImage (moments disk).now (moments disk).now.read };
 }

@@ -1,17 +1,22 @@
-//! What no clause says of real files: which call on them fails, and that a file that is made is synced.
+//! What no clause says of real files: which calls on them fail, that a sync is one, and what an opening syncs.
 use crate::{Disk, FileDisk, FolderShelf, Shelf};
-use std::alloc::Allocator;
+use std::alloc::{Allocator, Global};
 use std::cell::Cell;
 use std::fs::{Metadata, OpenFile, OpenOptions};
-use std::io::{self, Read, Seek, SeekFrom, Write};
+use std::io::{self, ErrorKind, Read, Seek, SeekFrom, Write};
 use std::rt::Files;
+use std::sync::Arc;
+use std::sync::atomic::{AtomicU64, Ordering};
 use std::test::Fail;
 
-/// A file of ten bytes that gives one at a time and lets go of what is written. One of its calls fails.
+/// A file of ten bytes that gives one at a time, and takes three at a time and lets go of them. One of its calls fails; a
+/// flush is none.
 #[derive(Drop)]
 struct SlowFile {
     at: u64,
     calls_before_the_fault: Cell<u64>,
+    /// How often a sync of it was asked for.
+    syncs: Arc<AtomicU64>,
 }
 
 impl SlowFile {
@@ -19,7 +24,7 @@ impl SlowFile {
         let left = self.calls_before_the_fault.get();
         self.calls_before_the_fault.set(left.wrapping_sub(1));
         if left == 0 {
-            return Err(io::ErrorKind::Other.into());
+            return Err(ErrorKind::Other.into());
         }
         Ok(())
     }
@@ -40,11 +45,11 @@ impl Read for SlowFile {
 impl Write for SlowFile {
     fn write(&mut self, from: &[u8]) -> io::Result<usize> {
         self.call()?;
-        Ok(from.len())
+        Ok(from.len().min(3))
     }
 
     fn flush(&mut self) -> io::Result<()> {
-        self.call()
+        Ok(())
     }
 }
 
@@ -61,7 +66,7 @@ impl Seek for SlowFile {
 
 impl OpenFile for SlowFile {
     fn metadata(&self) -> io::Result<Metadata> {
-        Err(io::ErrorKind::Unsupported.into())
+        unsupported()
     }
 
     fn set_len(&self, _size: u64) -> io::Result<()> {
@@ -69,29 +74,39 @@ impl OpenFile for SlowFile {
     }
 
     fn sync_all(&self) -> io::Result<()> {
+        self.syncs.fetch_add(1, Ordering::SeqCst);
         self.call()
     }
 
     fn sync_data(&self) -> io::Result<()> {
-        self.call()
+        self.sync_all()
     }
 }
 
-fn slow_file(calls: u64) -> SlowFile {
-    SlowFile {
-        at: 0,
-        calls_before_the_fault: Cell::new(calls),
+fn unsupported<T>() -> io::Result<T> {
+    Err(ErrorKind::Unsupported.into())
+}
+
+/// A file whose calls go well until this one.
+fn slow_file(calls: u64, syncs: &Arc<AtomicU64>) -> io::Result<SlowFile> {
+    match Arc::clone(syncs) {
+        Ok(syncs) => Ok(SlowFile {
+            at: 0,
+            calls_before_the_fault: Cell::new(calls),
+            syncs,
+        }),
+        Err(_) => Err(ErrorKind::OutOfMemory.into()),
     }
 }
 
-/// A disk on a file whose calls go well until this one.
-fn slow_disk(calls: u64) -> FileDisk<SlowFile> {
-    FileDisk::new(slow_file(calls))
+fn slow_disk(alloc: Global, calls: u64) -> Result<FileDisk<SlowFile>, Fail> {
+    let syncs = Arc::new(alloc, AtomicU64::new(0))?;
+    Ok(FileDisk::new(slow_file(calls, &syncs)?))
 }
 
 #[test]
 fn a_disk_on_a_file_reads_on_after_a_short_read(rt: HostRuntime) -> Result<(), Fail> {
-    let mut disk = slow_disk(99);
+    let mut disk = slow_disk(rt.alloc(), 99)?;
     let mut front = [0; 4];
     assert_eq!(rt; disk.read_at(3, &mut front), Ok(4));
     assert_eq!(rt; front, [3, 4, 5, 6]);
@@ -101,48 +116,91 @@ fn a_disk_on_a_file_reads_on_after_a_short_read(rt: HostRuntime) -> Result<(), F
     Ok(())
 }
 
+/// Which calls on a disk fail, where the call of this number on its file does, and how many faults it counts. Reading two
+/// bytes is a seek and two reads; the size is a seek; writing four bytes is a seek and two writes; lengthening is a seek and
+/// one more call; and a sync is one.
+fn failing_calls(alloc: Global, call: u64) -> Result<([bool; 5], u64), Fail> {
+    let mut disk = slow_disk(alloc, call)?;
+    let mut front = [0; 2];
+    let failing = [
+        disk.read_at(0, &mut front).is_err(),
+        disk.size().is_err(),
+        disk.write_at(0, b"lots").is_err(),
+        disk.write_at(40, b"").is_err(),
+        disk.sync().is_err(),
+    ];
+    Ok((failing, disk.faults()))
+}
+
 #[test]
 fn each_call_of_a_file_that_fails_is_a_counted_fault(rt: HostRuntime) -> Result<(), Fail> {
-    for call in 0..4 {
-        let mut disk = slow_disk(call);
-        let mut front = [0; 2];
-        // A seek and two reads, and then a seek.
-        assert_eq!(rt;
-            disk.read_at(0, &mut front).is_err(),
-            call < 3,
-            "at the call {call}"
-        );
-        assert_eq!(rt; disk.size().is_err(), call == 3, "at the call {call}");
-        assert_eq!(rt; disk.faults(), 1, "at the call {call}");
-    }
-    for call in 0..5 {
-        let mut disk = slow_disk(call);
-        // A seek and a write, a seek and a lengthening, and then a sync.
-        assert_eq!(rt;
-            disk.write_at(0, b"lots").is_err(),
-            call < 2,
-            "at the call {call}"
-        );
-        assert_eq!(rt;
-            disk.write_at(40, b"").is_err(),
-            call == 2 || call == 3,
-            "at the call {call}"
-        );
-        assert_eq!(rt; disk.sync().is_err(), call == 4, "at the call {call}");
-        assert_eq!(rt; disk.faults(), 1, "at the call {call}");
+    for (call, failing) in [0, 0, 0, 1, 2, 2, 2, 3, 3, 4].iter().enumerate() {
+        let mut expected = [false; 5];
+        expected[*failing] = true;
+        let found = failing_calls(rt.alloc(), call as u64)?;
+        assert_eq!(rt; found, (expected, 1), "at the call {call}");
     }
     Ok(())
 }
 
-/// A folder that has a file, `log`, and a folder, `kept`. Of the calls on each file, and on each folder, one fails.
+/// A folder in which one file stands, or may be made.
 #[derive(Drop)]
 struct SlowFolder {
-    calls_of_a_file: u64,
-    calls_of_a_folder: u64,
+    folder: &'static str,
+    file: &'static str,
+    is_made: Cell<bool>,
+    /// Which sync fails.
+    fails: Cell<Fails>,
+    /// How often it was asked to open something, to sync the file, and to sync the folder.
+    openings: Cell<u64>,
+    file_syncs: Arc<AtomicU64>,
+    folder_syncs: Arc<AtomicU64>,
 }
 
-fn unsupported<T>() -> io::Result<T> {
-    Err(io::ErrorKind::Unsupported.into())
+#[derive(Clone, Copy, PartialEq, Eq)]
+enum Fails {
+    Nothing,
+    File,
+    Folder,
+}
+
+fn slow_folder(
+    alloc: Global,
+    folder: &'static str,
+    file: &'static str,
+) -> Result<SlowFolder, Fail> {
+    Ok(SlowFolder {
+        folder,
+        file,
+        is_made: Cell::new(false),
+        fails: Cell::new(Fails::Nothing),
+        openings: Cell::new(0),
+        file_syncs: Arc::new(alloc, AtomicU64::new(0))?,
+        folder_syncs: Arc::new(alloc, AtomicU64::new(0))?,
+    })
+}
+
+impl SlowFolder {
+    fn asked(&self) -> [u64; 3] {
+        [
+            self.openings.get(),
+            self.file_syncs.load(Ordering::SeqCst),
+            self.folder_syncs.load(Ordering::SeqCst),
+        ]
+    }
+
+    /// Whether the file is opened, where it is made if asked for.
+    fn finds(&self, how: &OpenOptions) -> io::Result<()> {
+        let may_make = how.asks_create() || how.asks_create_new();
+        if !self.is_made.get() && !may_make {
+            return Err(ErrorKind::NotFound.into());
+        }
+        if self.is_made.get() && how.asks_create_new() {
+            return Err(ErrorKind::AlreadyExists.into());
+        }
+        self.is_made.set(true);
+        Ok(())
+    }
 }
 
 impl Files for SlowFolder {
@@ -151,14 +209,19 @@ impl Files for SlowFolder {
     type Dir = SlowFile;
 
     fn open_file(&self, how: &OpenOptions, path: &str) -> io::Result<SlowFile> {
+        self.openings.set(self.openings.get().saturating_add(1));
         how.check()?;
-        if path == "." || path == "kept" {
-            return Ok(slow_file(self.calls_of_a_folder));
+        let fails = self.fails.get();
+        if path == self.folder {
+            let calls = u64::from(fails != Fails::Folder);
+            return slow_file(calls, &self.folder_syncs);
         }
-        if path == "log" || how.asks_create_new() {
-            return Ok(slow_file(self.calls_of_a_file));
+        if path != self.file {
+            return Err(ErrorKind::NotFound.into());
         }
-        Err(io::ErrorKind::NotFound.into())
+        self.finds(how)?;
+        let calls = u64::from(fails != Fails::File);
+        slow_file(calls, &self.file_syncs)
     }
 
     fn open_dir(&self, _path: &str) -> io::Result<SlowFile> {
@@ -198,39 +261,90 @@ impl Files for SlowFolder {
     }
 }
 
+/// Whether a disk is opened on a file of this name, by a shelf of its own.
+fn opens(alloc: Global, files: &SlowFolder, name: &str) -> bool {
+    let mut shelf = FolderShelf::new(alloc, files);
+    shelf.disk(alloc, name).is_ok()
+}
+
+/// An opening opens and syncs the file, and then its folder. One that fails is not tried again.
 #[test]
-fn a_file_that_is_made_is_synced_and_so_is_its_folder(rt: HostRuntime) -> Result<(), Fail> {
-    let alloc = rt.alloc();
-    // The file's name, which call on it fails, and which on its folder; whether it is opened all the same.
-    for (name, calls_of_a_file, calls_of_a_folder, opens) in [
-        ("journal", 0, 1, false),
-        ("journal", 1, 0, false),
-        ("journal", 1, 1, true),
-        ("kept/journal", 1, 0, false),
-        ("kept/journal", 1, 1, true),
-        ("absent/journal", 1, 1, false),
-        ("log", 0, 0, true),
+fn an_opening_syncs_the_file_and_its_folder(rt: HostRuntime) -> Result<(), Fail> {
+    for (folder, file, name, fails, good, asked) in [
+        (".", "journal", "journal", Fails::Nothing, true, [2, 1, 1]),
+        (
+            "kept",
+            "kept/journal",
+            "kept/journal",
+            Fails::Nothing,
+            true,
+            [2, 1, 1],
+        ),
+        (
+            "a/b",
+            "a/b/journal",
+            "a/b/journal",
+            Fails::Nothing,
+            true,
+            [2, 1, 1],
+        ),
+        ("/", "/journal", "/journal", Fails::Nothing, true, [2, 1, 1]),
+        (
+            ".",
+            "journal",
+            "absent/journal",
+            Fails::Nothing,
+            false,
+            [1, 0, 0],
+        ),
+        (
+            "kept",
+            "journal",
+            "journal",
+            Fails::Nothing,
+            false,
+            [2, 1, 0],
+        ),
+        (".", "journal", "journal", Fails::File, false, [1, 1, 0]),
+        (".", "journal", "journal", Fails::Folder, false, [2, 1, 1]),
     ] {
-        let folder = SlowFolder {
-            calls_of_a_file,
-            calls_of_a_folder,
-        };
-        let mut shelf = FolderShelf::new(alloc, &folder);
-        let disk = shelf.disk(alloc, name);
-        assert_eq!(rt; disk.is_ok(), opens, "{name}");
+        let files = slow_folder(rt.alloc(), folder, file)?;
+        files.fails.set(fails);
+        assert_eq!(rt; opens(rt.alloc(), &files, name), good, "{name} in {folder}");
+        assert_eq!(rt; files.asked(), asked, "{name} in {folder}");
     }
     Ok(())
 }
 
+/// The second opening finds a file that may have been made without its folder, and syncs both.
 #[test]
-fn a_log_that_is_there_is_opened(rt: HostRuntime) -> Result<(), Fail> {
-    let alloc = rt.alloc();
-    let folder = SlowFolder {
-        calls_of_a_file: 0,
-        calls_of_a_folder: 0,
-    };
-    let mut shelf = FolderShelf::new(alloc, &folder);
-    assert!(rt; shelf.source(alloc, "log").is_ok());
-    assert!(rt; shelf.source(alloc, "absent").is_err());
+fn a_file_that_is_found_is_synced_and_so_is_its_folder(rt: HostRuntime) -> Result<(), Fail> {
+    let files = slow_folder(rt.alloc(), ".", "journal")?;
+    for (fails, good, asked) in [
+        (Fails::Folder, false, [2, 1, 1]),
+        (Fails::Nothing, true, [4, 2, 2]),
+    ] {
+        files.fails.set(fails);
+        assert_eq!(rt; opens(rt.alloc(), &files, "journal"), good);
+        assert_eq!(rt; files.asked(), asked);
+    }
+    Ok(())
+}
+
+/// Whether a source is opened on a file of this name.
+fn source_opens(alloc: Global, files: &SlowFolder, name: &str) -> bool {
+    let mut shelf = FolderShelf::new(alloc, files);
+    shelf.source(alloc, name).is_ok()
+}
+
+/// A file that is opened to be read is not made, nor synced.
+#[test]
+fn a_source_is_opened_on_a_file_that_is_there(rt: HostRuntime) -> Result<(), Fail> {
+    let files = slow_folder(rt.alloc(), ".", "log")?;
+    for (is_made, asked) in [(false, [1, 0, 0]), (true, [2, 0, 0])] {
+        files.is_made.set(is_made);
+        assert_eq!(rt; source_opens(rt.alloc(), &files, "log"), is_made);
+        assert_eq!(rt; files.asked(), asked);
+    }
     Ok(())
 }

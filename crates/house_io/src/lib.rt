@@ -2,38 +2,32 @@
 //! and contents that are told or untold.
 #![tactic(auto)]
 
+// The traits.
 pub mod disk;
-mod failing;
-pub mod file_disk;
-pub mod folder_shelf;
-pub mod list;
-pub mod list_disk;
-pub mod list_shelf;
-pub mod real;
-pub mod recorded_file;
-mod shelved;
 pub mod shelves;
 pub mod sinks;
 pub mod sources;
-pub mod sure;
-pub mod sure_disk;
-pub mod sure_shelf;
+
+// Their forms.
+pub mod memory;
+mod named;
+pub mod real;
 mod tallies;
 
 pub use disk::Disk;
-pub use file_disk::FileDisk;
-pub use folder_shelf::FolderShelf;
-pub use list::{ListSink, ListSource};
-pub use list_disk::ListDisk;
-pub use list_shelf::{ListFile, ListShelf};
-pub use real::{FileSource, StdoutSink};
-pub use recorded_file::{Fill, RecordedFile};
+pub use memory::list::{ListSink, ListSource};
+pub use memory::list_disk::ListDisk;
+pub use memory::list_shelf::{ListFile, ListShelf};
+pub use memory::recorded_file::{Fill, RecordedFile};
+pub use memory::sure::{SureSink, SureSource};
+pub use memory::sure_disk::SureDisk;
+pub use memory::sure_shelf::{SureFile, SureShelf};
+pub use real::file_disk::FileDisk;
+pub use real::folder_shelf::FolderShelf;
+pub use real::streams::{FileSource, StdoutSink};
 pub use shelves::{Refusal, Shelf};
 pub use sinks::{Sink, write_whole};
 pub use sources::{ReadWhole, Source, read_whole};
-pub use sure::{SureSink, SureSource};
-pub use sure_disk::SureDisk;
-pub use sure_shelf::{SureFile, SureShelf};
 
 /// A call on something outside failed.
 #[derive(Clone, Copy, Debug, PartialEq, Eq)]

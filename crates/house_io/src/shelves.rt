@@ -17,7 +17,8 @@ pub trait Shelf {
 
     type Source: Source;
 
-    type Disk: Disk;
+    // A thread may own it.
+    type Disk: Disk + Send;
 
     /// The files, where it tells them.
     ghost files: { Self → Option (List NamedFile) };

@@ -49,10 +49,31 @@ pub fn read_whole<R: Source>(
     ensures failed { result ≡ Err ReadWhole.Failed → Rose (R.faults source.old) (R.faults source.new) }
     ensures steady { StaysUnlessFailed result (R.faults source.old) (R.faults source.new) }
 {
+    // A piece is too long for the stack of a thread.
+    match vec![in alloc; 0u8; CHUNK] {
+        Ok(mut chunk) => read_pieces(alloc, source, limit, &mut chunk),
+        Err(_) => Err(ReadWhole::NoMemory),
+    }
+}
+
+/// The same, by pulls into this piece.
+fn read_pieces<R: Source>(
+    alloc: Global,
+    source: &mut R,
+    limit: u64,
+    chunk: &mut [u8],
+) -> Result<Vec<u8>, ReadWhole>
+    requires { length chunk.old ≡ CHUNK }
+    ensures short { IfOk result (λ text. length text.items ≤ limit) }
+    ensures bytes { IfTold (R.left source.old) (R.left source.new) (Reads limit result) }
+    ensures later { R.faults source.old ≤ R.faults source.new }
+    ensures failed { result ≡ Err ReadWhole.Failed → Rose (R.faults source.old) (R.faults source.new) }
+    ensures steady { StaysUnlessFailed result (R.faults source.old) (R.faults source.new) }
+{
     let mut text = Vec::new(alloc);
-    let mut chunk = [0u8; CHUNK];
     'pulls: while text.len() as u64 <= limit {
         let room = (limit - text.len() as u64).min(CHUNK as u64 - 1) as usize + 1;
+        // The memory before the pull: no byte that was taken is lost for lack of it.
         if text.reserve(room).is_err() {
             return Err(ReadWhole::NoMemory);
         }

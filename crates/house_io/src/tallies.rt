@@ -1,9 +1,9 @@
 //! Counts of faults by name.
-ghost use Rattle.std.specs.Prelude.{◌≡◌, [], ℕ, List, length, take, OnOk, OnErr, Contains, MatchOption};
+ghost use Rattle.std.specs.Prelude.{◌≡◌, [], ℕ, List, length, take, OnOk, OnErr, Contains};
 ghost use Rattle.house_io.specs.Shelves.{Adds, KeepsNames, with_name};
 ghost use Rattle.house_io.specs.Counts.{NamedCount, count_of, names_of};
-ghost use Rattle.house_io.specs.Tallies.{IsPlace, HasNo};
 
+use crate::named::{Named, place_of};
 use std::alloc::{AllocError, Global};
 use std::marker::Model;
 
@@ -11,12 +11,14 @@ use std::marker::Model;
 #[derive(Drop)]
 pub(crate) struct Tally {
     name: String,
+    /// How often they failed, up to the last value of 64 bits.
     faults: u64,
 }
 
 /// How often the calls on each of some names failed.
 #[derive(Drop)]
 pub(crate) struct Tallies {
+    /// One for each name, in the order in which they were opened.
     list: Vec<Tally>,
 }
 
@@ -64,7 +66,7 @@ impl Tallies {
         self.list.len()
     }
 
-    /// Lets go of the tallies behind the first so many.
+    /// Lets go of the tallies after the first so many.
     pub(crate) fn cut(&mut self, length: usize)
         ensures { self.new ≡ take length self.old }
     {
@@ -76,6 +78,7 @@ impl Tallies {
         requires { Contains (names_of self.old) name.now }
         ensures added { Adds name.now faults (count_of self.old) (count_of self.new) }
         ensures names { names_of self.new ≡ names_of self.old }
+        ensures kept { KeepsNames (names_of self.old) (names_of self.new) }
     {
         if let Some(place) = place_of(&self.list, name) {
             let tally = &mut self.list[place];
@@ -84,14 +87,12 @@ impl Tallies {
     }
 }
 
-/// The place of the first tally of a name.
-fn place_of(tallies: &[Tally], name: &str) -> Option<usize>
-    ensures { MatchOption result (HasNo tallies.now name.now) (λ place. IsPlace tallies.now name.now place) }
-{
-    for (place, tally) in tallies.iter().enumerate() {
-        if tally.name.as_str() == name {
-            return Some(place);
-        }
+impl Named for Tally {
+    ghost use Rattle.std.specs.Prelude.{string_bytes};
+
+    ghost name_of = { λ tally. string_bytes tally.name };
+
+    fn name(&self) -> &str {
+        &self.name
     }
-    None
 }

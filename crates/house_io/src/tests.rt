@@ -1,8 +1,7 @@
-//! What no clause says: that the calls succeed with ample memory, and what the real objects do.
+//! What no clause says: that the calls succeed with ample memory, and what the real streams do.
 use crate::{
     Failed, FileSource, FolderShelf, ListFile, ListShelf, ListSink, ListSource, ReadWhole, Refusal,
-    Shelf, Sink, Source, StdoutSink, SureFile, SureShelf, SureSink, SureSource, read_whole,
-    write_whole,
+    Shelf, Sink, StdoutSink, SureFile, SureShelf, SureSink, SureSource, read_whole, write_whole,
 };
 use std::alloc::Global;
 use std::cell::Cell;
@@ -14,131 +13,96 @@ use std::test::Fail;
 /// More than two of the pieces in which a source is read.
 const LONG: usize = 150_000;
 
-fn long_text(alloc: Global) -> Result<Vec<u8>, Fail> {
+/// A text of so many bytes.
+pub(crate) fn text_of(alloc: Global, length: usize) -> Result<Vec<u8>, Fail> {
     let mut text = Vec::new(alloc);
-    for place in 0..LONG {
+    for place in 0..length {
         text.push((place % 251) as u8)?;
     }
     Ok(text)
 }
 
-#[test]
-fn a_long_source_is_read_whole(rt: HostRuntime) -> Result<(), Fail> {
-    let alloc = rt.alloc();
-    let text = long_text(alloc)?;
-    let mut source = SureSource::new(alloc, text.clone()?)?;
-    let read = read_whole(alloc, &mut source, u64::MAX)?;
-    assert_eq!(rt; read.as_slice(), text.as_slice());
-    Ok(())
+/// The one number.
+pub(crate) fn one(alloc: Global, number: u64) -> Result<Vec<u64>, Fail> {
+    let mut numbers = Vec::new(alloc);
+    numbers.push(number)?;
+    Ok(numbers)
 }
 
-#[test]
-fn a_source_of_the_limit_is_read_and_one_byte_more_is_too_long(
-    rt: HostRuntime,
-) -> Result<(), Fail> {
-    let alloc = rt.alloc();
-    for (limit, left) in [(4, None), (3, Some(0)), (2, Some(1)), (0, Some(3))] {
-        let mut source = SureSource::new(alloc, b"lots".to_vec(alloc)?)?;
-        match (read_whole(alloc, &mut source, limit), left) {
-            (Ok(text), None) => assert_eq!(rt; text.as_slice(), b"lots".as_slice()),
-            (Err(ReadWhole::TooLong), Some(left)) => {
-                let rest = read_whole(alloc, &mut source, 4)?;
-                assert_eq!(rt; rest.len(), left, "at the limit {limit}");
-            }
-            _ => assert!(rt; false, "at the limit {limit}"),
-        }
-    }
-    Ok(())
+/// A source of a long text of which the call of this number fails.
+fn long_source(alloc: Global, failing: u64) -> Result<ListSource, Fail> {
+    let text = text_of(alloc, LONG)?;
+    let failing = one(alloc, failing)?;
+    Ok(ListSource::new(alloc, text, failing)?)
 }
 
-#[test]
-fn each_pull_can_fail_and_what_was_taken_stays_taken(rt: HostRuntime) -> Result<(), Fail> {
-    let alloc = rt.alloc();
-    let text = long_text(alloc)?;
-    for (call, taken) in [(0, 0), (1, 65_536), (2, 131_072), (3, LONG)] {
-        let failing = [call].to_vec(alloc)?;
-        let mut source = ListSource::new(alloc, text.clone()?, failing)?;
-        match read_whole(alloc, &mut source, u64::MAX) {
-            Err(ReadWhole::Failed) => {}
-            _ => assert!(rt; false, "at the call {call}"),
-        }
-        let rest = read_whole(alloc, &mut source, u64::MAX)?;
-        assert_eq!(rt; rest.len() + taken, LONG, "at the call {call}");
-    }
-    let mut source = ListSource::new(alloc, text.clone()?, [4].to_vec(alloc)?)?;
-    let read = read_whole(alloc, &mut source, u64::MAX)?;
-    assert_eq!(rt; read.len(), LONG);
-    Ok(())
-}
-
-/// A sink that takes three bytes at a time, of which one call fails.
-#[derive(Drop)]
-struct NarrowSink {
-    bytes: Vec<u8>,
-    calls_before_the_fault: usize,
-    faults: u64,
-}
-
-impl Sink for NarrowSink {
-    ghost use Rattle.std.specs.Prelude.{None};
-
-    ghost written = { λ _. None };
-
-    ghost faults = { λ sink. sink.faults };
-
-    fn push(&mut self, from: &[u8]) -> Result<usize, Failed> {
-        let count = from.len().min(3);
-        if self.calls_before_the_fault == 0
-            || self.bytes.extend_from_slice(&from[..count]).is_err()
-        {
-            self.faults = self.faults.saturating_add(1);
-            return Err(Failed);
-        }
-        self.calls_before_the_fault -= 1;
-        Ok(count)
+fn length_of(read: Result<Vec<u8>, ReadWhole>) -> Result<usize, ReadWhole> {
+    match read {
+        Ok(text) => Ok(text.len()),
+        Err(error) => Err(error),
     }
 }
 
+/// How many bytes are read up to a limit, and how many are left to be read then.
+fn read_up_to(
+    alloc: Global,
+    failing: u64,
+    limit: u64,
+) -> Result<(Result<usize, ReadWhole>, usize), Fail> {
+    let mut source = long_source(alloc, failing)?;
+    let read = length_of(read_whole(alloc, &mut source, limit));
+    let rest = length_of(read_whole(alloc, &mut source, u64::MAX))?;
+    Ok((read, rest))
+}
+
 #[test]
-fn a_text_is_written_in_pieces_until_a_push_fails(rt: HostRuntime) -> Result<(), Fail> {
-    let alloc = rt.alloc();
-    let text = b"seven lots";
-    for (calls, written) in [(0, 0), (1, 3), (2, 6), (3, 9), (4, 10)] {
-        let mut sink = NarrowSink {
-            bytes: Vec::new(alloc),
-            calls_before_the_fault: calls,
-            faults: 0,
-        };
-        let answer = write_whole(&mut sink, text);
-        assert_eq!(rt; answer.is_ok(), calls == 4, "after {calls} calls");
+fn a_source_is_read_up_to_a_limit_or_a_fault(rt: HostRuntime) -> Result<(), Fail> {
+    for (failing, limit, read, rest) in [
+        (9, u64::MAX, Ok(LONG), 0),
+        (9, 150_000, Ok(LONG), 0),
+        (9, 149_999, Err(ReadWhole::TooLong), 0),
+        (9, 3, Err(ReadWhole::TooLong), LONG - 4),
+        (0, u64::MAX, Err(ReadWhole::Failed), LONG),
+        (1, u64::MAX, Err(ReadWhole::Failed), LONG - 65_536),
+        (3, u64::MAX, Err(ReadWhole::Failed), 0),
+    ] {
+        let found = read_up_to(rt.alloc(), failing, limit)?;
         assert_eq!(rt;
-            sink.bytes.as_slice(),
-            &text[..written],
-            "after {calls} calls"
+            found,
+            (read, rest),
+            "at the call {failing} and the limit {limit}"
         );
     }
     Ok(())
 }
 
-#[test]
-fn a_sink_in_memory_keeps_what_its_room_holds(rt: HostRuntime) -> Result<(), Fail> {
-    let alloc = rt.alloc();
+fn sure_source_gives(alloc: Global) -> Result<bool, Fail> {
+    let mut source = SureSource::new(alloc, text_of(alloc, 9)?)?;
+    Ok(length_of(read_whole(alloc, &mut source, 9)) == Ok(9))
+}
+
+fn sure_sink_keeps(alloc: Global) -> Result<bool, Fail> {
     let mut sink = SureSink::new(alloc, 5)?;
     write_whole(&mut sink, b"lots")?;
-    assert_eq!(rt; sink.written(), b"lots".as_slice());
-    assert_eq!(rt; sink.push(b"of"), Ok(2));
-    assert_eq!(rt; sink.written(), b"lots".as_slice());
-    Ok(())
+    Ok(sink.written() == b"lots".as_slice())
+}
+
+/// The second piece fails.
+fn list_sink_keeps(alloc: Global) -> Result<bool, Fail> {
+    let mut sink = ListSink::new(alloc, 20, one(alloc, 1)?)?;
+    let answers = [
+        write_whole(&mut sink, b"seven "),
+        write_whole(&mut sink, b"eight "),
+        write_whole(&mut sink, b"lots"),
+    ];
+    Ok(answers == [Ok(()), Err(Failed), Ok(())] && sink.written() == b"seven lots".as_slice())
 }
 
 #[test]
-fn a_push_that_is_to_fail_writes_nothing(rt: HostRuntime) -> Result<(), Fail> {
-    let alloc = rt.alloc();
-    let mut sink = ListSink::new(alloc, 20, [1].to_vec(alloc)?)?;
-    write_whole(&mut sink, b"seven ")?;
-    assert_eq!(rt; write_whole(&mut sink, b"eight "), Err(Failed));
-    write_whole(&mut sink, b"lots")?;
-    assert_eq!(rt; sink.written(), b"seven lots".as_slice());
+fn streams_in_memory_answer(rt: HostRuntime) -> Result<(), Fail> {
+    assert!(rt; sure_source_gives(rt.alloc())?);
+    assert!(rt; sure_sink_keeps(rt.alloc())?);
+    assert!(rt; list_sink_keeps(rt.alloc())?);
     Ok(())
 }
 
@@ -154,61 +118,80 @@ fn shelved<S: Shelf>(alloc: Global, shelf: &mut S, name: &str) -> Result<Vec<u8>
     read
 }
 
+/// Whether a shelf gives this text for a name.
+fn gives<S: Shelf>(alloc: Global, shelf: &mut S, name: &str, text: &str) -> bool {
+    match shelved(alloc, shelf, name) {
+        Ok(bytes) => bytes.as_slice() == text.as_bytes(),
+        Err(_) => false,
+    }
+}
+
+/// Whether a shelf answers a fault for a name.
+fn fails<S: Shelf>(alloc: Global, shelf: &mut S, name: &str) -> bool {
+    length_of(shelved(alloc, shelf, name)) == Err(ReadWhole::Failed)
+}
+
+fn sure_file(alloc: Global, name: &str, text: &str) -> Result<SureFile, Fail> {
+    let name = String::from_str(alloc, name)?;
+    let bytes = text.as_bytes().to_vec(alloc)?;
+    Ok(SureFile { name, bytes })
+}
+
+fn sure_files(alloc: Global) -> Result<Vec<SureFile>, Fail> {
+    let mut files = Vec::new(alloc);
+    for (name, text) in [("log", "one"), ("auction", "two"), ("log", "three")] {
+        files.push(sure_file(alloc, name, text)?)?;
+    }
+    Ok(files)
+}
+
+pub(crate) fn sure_shelf(alloc: Global) -> Result<SureShelf, Fail> {
+    Ok(SureShelf::new(alloc, sure_files(alloc)?, 40)?)
+}
+
 #[test]
 fn a_sure_shelf_gives_its_files_and_nothing_for_an_absent_name(
     rt: HostRuntime,
 ) -> Result<(), Fail> {
-    let alloc = rt.alloc();
-    let mut files = Vec::new(alloc);
-    for (name, bytes) in [("log", "one"), ("auction", "two"), ("log", "three")] {
-        files.push(SureFile {
-            name: String::from_str(alloc, name)?,
-            bytes: bytes.as_bytes().to_vec(alloc)?,
-        })?;
+    let mut shelf = sure_shelf(rt.alloc())?;
+    for (name, text) in [("auction", "two"), ("log", "one"), ("journal", "")] {
+        assert!(rt; gives(rt.alloc(), &mut shelf, name, text), "{name}");
     }
-    let mut shelf = SureShelf::new(alloc, files, 0)?;
-    assert_eq!(rt;
-        shelved(alloc, &mut shelf, "auction")?.as_slice(),
-        b"two".as_slice()
-    );
-    assert_eq!(rt;
-        shelved(alloc, &mut shelf, "log")?.as_slice(),
-        b"one".as_slice()
-    );
-    assert_eq!(rt; shelved(alloc, &mut shelf, "journal")?.len(), 0);
-    assert_eq!(rt; shelf.file("auction"), Some(b"two".as_slice()));
-    assert_eq!(rt; shelf.file("journal"), None);
     Ok(())
+}
+
+fn list_file(alloc: Global, name: &str, failing: u64) -> Result<ListFile, Fail> {
+    let name = String::from_str(alloc, name)?;
+    let bytes = b"lots".to_vec(alloc)?;
+    let failing = one(alloc, failing)?;
+    Ok(ListFile {
+        name,
+        bytes,
+        failing,
+    })
+}
+
+fn list_files(alloc: Global) -> Result<Vec<ListFile>, Fail> {
+    let mut files = Vec::new(alloc);
+    for (name, failing) in [("sound", 9), ("torn", 1), ("journal", 5)] {
+        files.push(list_file(alloc, name, failing)?)?;
+    }
+    Ok(files)
+}
+
+/// A shelf of which the third opening fails.
+pub(crate) fn list_shelf(alloc: Global) -> Result<ListShelf, Fail> {
+    Ok(ListShelf::new(alloc, list_files(alloc)?, 40, one(alloc, 2)?)?)
 }
 
 #[test]
 fn a_list_shelf_fails_at_chosen_calls_and_absent_names(rt: HostRuntime) -> Result<(), Fail> {
-    let alloc = rt.alloc();
-    let mut files = Vec::new(alloc);
-    files.push(ListFile {
-        name: String::from_str(alloc, "sound")?,
-        bytes: b"lots".to_vec(alloc)?,
-        failing: Vec::new(alloc),
-    })?;
-    files.push(ListFile {
-        name: String::from_str(alloc, "torn")?,
-        bytes: b"lots".to_vec(alloc)?,
-        failing: [1].to_vec(alloc)?,
-    })?;
-    let mut shelf = ListShelf::new(alloc, files, 0, [2].to_vec(alloc)?)?;
-    let answers = [
-        ("sound", true),
-        ("torn", false),
-        ("sound", false),
-        ("absent", false),
-        ("sound", true),
-    ];
-    for (call, (name, good)) in answers.iter().enumerate() {
-        let answer = shelved(alloc, &mut shelf, name);
-        assert_eq!(rt; answer.is_ok(), *good, "at the opening {call}");
+    let mut shelf = list_shelf(rt.alloc())?;
+    assert!(rt; gives(rt.alloc(), &mut shelf, "sound", "lots"));
+    for name in ["torn", "sound", "absent"] {
+        assert!(rt; fails(rt.alloc(), &mut shelf, name), "{name}");
     }
-    assert_eq!(rt; shelf.file("torn"), Some(b"lots".as_slice()));
-    assert_eq!(rt; shelf.file("absent"), None);
+    assert!(rt; gives(rt.alloc(), &mut shelf, "sound", "lots"));
     Ok(())
 }
 
@@ -216,17 +199,13 @@ fn a_list_shelf_fails_at_chosen_calls_and_absent_names(rt: HostRuntime) -> Resul
 fn a_folder_shelf_reads_a_real_file_and_fails_at_an_absent_one(
     rt: HostRuntime,
 ) -> Result<(), Fail> {
-    let alloc = rt.alloc();
     let name = "a_real_file_of_house_io";
     fs::write(&rt, name, "lots")?;
-    let mut shelf = FolderShelf::new(alloc, &rt);
-    let read = shelved(alloc, &mut shelf, name);
+    let mut shelf = FolderShelf::new(rt.alloc(), &rt);
+    let found = gives(rt.alloc(), &mut shelf, name, "lots");
     fs::remove_file(&rt, name)?;
-    assert_eq!(rt; read?.as_slice(), b"lots".as_slice());
-    match shelved(alloc, &mut shelf, name) {
-        Err(ReadWhole::Failed) => {}
-        _ => assert!(rt; false, "an absent file was read"),
-    }
+    assert!(rt; found);
+    assert!(rt; fails(rt.alloc(), &mut shelf, name));
     Ok(())
 }
 
@@ -247,23 +226,19 @@ impl Read for FailsOnce {
 }
 
 #[test]
-fn a_read_that_fails_in_mid_stream_is_a_counted_fault(rt: HostRuntime) -> Result<(), Fail> {
-    let alloc = rt.alloc();
+fn a_read_that_fails_in_mid_stream_is_a_counted_fault(rt: HostRuntime) {
     let mut source = FileSource::new(FailsOnce { calls: 0 });
-    match read_whole(alloc, &mut source, 9) {
-        Err(ReadWhole::Failed) => {}
-        _ => assert!(rt; false, "the fault was passed over"),
+    for read in [Err(ReadWhole::Failed), Ok(1)] {
+        assert_eq!(rt; length_of(read_whole(rt.alloc(), &mut source, 9)), read);
+        assert_eq!(rt; source.faults(), 1);
     }
-    assert_eq!(rt; source.faults(), 1);
-    assert_eq!(rt; read_whole(alloc, &mut source, 9)?.len(), 1);
-    assert_eq!(rt; source.faults(), 1);
-    Ok(())
 }
 
-/// An output that takes so many bytes, one at a time, and then none. A full stop it refuses.
+/// An output that takes at most so many bytes a call, and so many in all. A full stop it refuses.
 #[derive(Drop)]
 struct SmallOutput {
-    room: Cell<u8>,
+    a_call: usize,
+    room: Cell<usize>,
 }
 
 impl Print for SmallOutput {
@@ -280,32 +255,53 @@ impl Print for SmallOutput {
     }
 
     fn write_some(&self, bytes: &[u8]) -> io::Result<usize> {
-        let room = self.room.get();
-        if room == 0 || bytes.is_empty() {
-            return Ok(0);
-        }
-        if bytes[0] == b'.' {
+        if !bytes.is_empty() && bytes[0] == b'.' {
             return Err(io::ErrorKind::Other.into());
         }
-        self.room.set(room - 1);
-        Ok(1)
+        let room = self.room.get();
+        let count = bytes.len().min(self.a_call).min(room);
+        self.room.set(room - count);
+        Ok(count)
     }
 }
 
 #[test]
-fn a_write_that_takes_nothing_is_a_fault(rt: HostRuntime) -> Result<(), Fail> {
-    let output = SmallOutput { room: Cell::new(4) };
+fn a_write_that_takes_nothing_is_a_fault(rt: HostRuntime) {
+    let output = SmallOutput {
+        a_call: 1,
+        room: Cell::new(4),
+    };
     let mut sink = StdoutSink::new(&output);
-    assert_eq!(rt; sink.push(b"."), Err(Failed));
-    assert_eq!(rt; write_whole(&mut sink, b"lots"), Ok(()));
-    assert_eq!(rt; write_whole(&mut sink, b"!"), Err(Failed));
-    assert_eq!(rt; write_whole(&mut sink, b""), Ok(()));
+    for (text, answer) in [
+        (".", Err(Failed)),
+        ("lots", Ok(())),
+        ("!", Err(Failed)),
+        ("", Ok(())),
+    ] {
+        assert_eq!(rt; write_whole(&mut sink, text.as_bytes()), answer, "{text}");
+    }
+    assert_eq!(rt; output.room.get(), 0);
+}
+
+#[test]
+fn an_output_that_takes_all_is_given_a_long_piece_whole(rt: HostRuntime) -> Result<(), Fail> {
+    let output = SmallOutput {
+        a_call: usize::MAX,
+        room: Cell::new(80_000),
+    };
+    let mut sink = StdoutSink::new(&output);
+    for length in [5_000, 70_000] {
+        let text = text_of(rt.alloc(), length)?;
+        assert_eq!(rt; sink.push(&text), Ok(length));
+    }
+    assert_eq!(rt; output.room.get(), 5_000);
     Ok(())
 }
 
 #[test]
-fn standard_output_takes_a_text(rt: HostRuntime) -> Result<(), Fail> {
+fn standard_output_takes_a_long_text(rt: HostRuntime) -> Result<(), Fail> {
+    let text = vec![in rt.alloc(); b'l'; 5_000]?;
     let mut sink = StdoutSink::new(&rt);
-    assert_eq!(rt; write_whole(&mut sink, b"lots\n"), Ok(()));
+    assert_eq!(rt; write_whole(&mut sink, &text), Ok(()));
     Ok(())
 }

@@ -30,3 +30,6 @@ pub returns-in_default-clause-added : goal.returns-in_default-clause-added
 returns-in_default-clause-added c =
     let P : List Tally → Type 0 = λ tallies. HasNo tallies c.args.name.now in
     absurd (no-name c.self.inside.list.items c.args.name.now (subst P c.deref.ensures.value c.in_default.ensures) (subst (λ counts. Contains (names_of counts) c.args.name.now) (sym c.self.view_is) c.requires))
+
+pub returns-in-Some-clause-kept : goal.returns-in-Some-clause-kept
+returns-in-Some-clause-kept c name before = subst (λ names. Contains names name) (sym (returns-in-Some-clause-names c)) before

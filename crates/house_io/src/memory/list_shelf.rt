@@ -1,0 +1,232 @@
+//! Files in memory of which chosen calls fail.
+ghost use Rattle.std.specs.Prelude.{◌≡◌, ◌↔◌, ℕ, List, Some, None, Err, IfOk, IfErr, OnOk, OnErr, IsTrue, IsSome, Contains, MatchOption, option_map};
+ghost use Rattle.house_io.specs.Recorded.{moments_of};
+ghost use Rattle.house_io.specs.declared.shelves.Refusal.TheVariants as why;
+ghost use Rattle.house_io.specs.Shelves.{Adds, CountsOpening, KeepsNames, names_after, RisesOnly, IsRefused, bytes_of, file_of, moments_at};
+ghost use Rattle.house_io.specs.Counts.{count_of, names_of};
+ghost use Rattle.house_io.specs.ListShelves.{Answers, fresh_shelf, source_on, plan_after};
+ghost use Rattle.house_io.specs.ListForms.{IsToFail};
+ghost use Rattle.house_io.specs.ListFiles.{disk_as_listed, files_as_listed};
+ghost use Rattle.house_io.specs.ShelvedFiles.{shelved_file, shown_file, shown_files, disk_at, file_opened, with_closed};
+
+use crate::memory::failing::FailingCalls;
+use crate::memory::shelved::{Entry, disk_of, file_named, keep};
+use crate::tallies::Tallies;
+use crate::{ListDisk, ListSource, Refusal, Shelf};
+use lot_base::NoMemory;
+use std::alloc::{AllocError, Global};
+use std::marker::Model;
+
+/// A named file in memory, with the numbers of the calls that fail on a source that is opened on it.
+#[derive(Drop)]
+pub struct ListFile {
+    pub name: String,
+    pub bytes: Vec<u8>,
+    /// The numbers of the calls that fail on a source, or on a new disk, that is opened on it.
+    pub failing: Vec<u64>,
+}
+
+/// Files in memory, of which chosen calls fail. An absent name fails as a source, and is an empty disk. It tells until a
+/// disk that ceased to tell is closed.
+#[derive(Drop)]
+pub struct ListShelf {
+    /// The files, of which the first of a name counts.
+    files: Vec<Entry<ListDisk>>,
+    /// Which openings fail.
+    plan: FailingCalls,
+    /// The names that were opened, and the faults of each.
+    tallies: Tallies,
+    /// The room of each new disk, in bytes and in calls.
+    room: u32,
+    /// It tells its files.
+    told: bool,
+}
+
+impl Model for ListShelf {
+    ghost use Rattle.house_io.specs.ListShelves.{ListedShelf};
+
+    ghost Value = { ListedShelf };
+
+    ghost view = { λ shelf. record {
+      files = shelf.files.items;
+      plan = shelf.plan;
+      counts = shelf.tallies;
+      room = shelf.room;
+      told = shelf.told;
+    } };
+}
+
+impl ListShelf {
+    /// A shelf with these files, of which the openings with these numbers fail. The room is that of each disk that
+    /// is opened on it.
+    pub fn new(
+        alloc: Global,
+        files: Vec<ListFile>,
+        room: u32,
+        failing: Vec<u64>,
+    ) -> Result<ListShelf, NoMemory>
+        ensures { IfOk result (λ shelf. shelf ≡ fresh_shelf (files_as_listed files.items) room failing.items) }
+    {
+        let files = entries_of(alloc, files)?;
+        Ok(ListShelf {
+            files,
+            plan: FailingCalls::new(failing),
+            tallies: Tallies::new(alloc),
+            room,
+            told: true,
+        })
+    }
+
+    /// The bytes of a file.
+    pub fn file(&self, name: &str) -> Option<&[u8]>
+        ensures { MatchOption result (shelved_file self.now.files name.now ≡ None) (λ bytes. option_map (λ file. (shown_file file).moments.now.read) (shelved_file self.now.files name.now) ≡ Some bytes.now) }
+    {
+        Some(file_named(&self.files, name)?.bytes())
+    }
+}
+
+fn entries_of(alloc: Global, files: Vec<ListFile>) -> Result<Vec<Entry<ListDisk>>, AllocError>
+    ensures { IfOk result (λ entries. entries.items ≡ files_as_listed files.items) }
+{
+    let mut entries = Vec::new(alloc);
+    for file in files {
+        let ListFile {
+            name,
+            bytes,
+            failing,
+        } = file;
+        entries.push(Entry::new(name, bytes, failing))?;
+    }
+    Ok(entries)
+}
+
+/// A source on a copy of the file of a name, if there is one.
+fn source_named(
+    alloc: Global,
+    files: &[Entry<ListDisk>],
+    name: &str,
+) -> Result<Option<ListSource>, AllocError>
+    ensures source { IfOk result (λ source. source ≡ option_map source_on (shelved_file files.now name.now)) }
+    ensures bytes { IfOk result (λ source. MatchOption source (bytes_of (shown_files files.now) name.now ≡ None) (λ source. bytes_of (shown_files files.now) name.now ≡ Some source.left)) }
+{
+    let file = match file_named(files, name) {
+        Some(file) => file,
+        None => return Ok(None),
+    };
+    let bytes = file.bytes().to_vec(alloc)?;
+    let failing = file.failing.to_vec(alloc)?;
+    Ok(Some(ListSource::whole(bytes, failing)))
+}
+
+impl Shelf for ListShelf {
+    ghost use Rattle.house_io.specs.ShelvedFiles.{told_files};
+
+    type Source = ListSource;
+
+    type Disk = ListDisk;
+
+    ghost files = { λ shelf. told_files shelf.told shelf.files };
+
+    ghost faults = { λ shelf name. count_of shelf.counts name };
+
+    ghost opened = { λ shelf. names_of shelf.counts };
+
+    fn source(&mut self, alloc: Global, name: &str) -> Result<ListSource, Refusal>
+        ensures answer { Answers self.old name.now result self.new }
+        ensures bytes { IfOk result (λ source. bytes_of (shown_files self.old.files) name.now ≡ Some source.left) }
+        ensures opened { OnOk result (Contains (names_of self.new.counts) name.now) }
+        ensures names { names_of self.new.counts ≡ names_after result name.now (names_of self.old.counts) }
+        ensures kept { KeepsNames (names_of self.old.counts) (names_of self.new.counts) }
+    {
+        // The memory before the plan: an opening that finds none is no call.
+        let source = match source_named(alloc, &self.files, name) {
+            Ok(source) => source,
+            Err(_) => return Err(Refusal::NoMemory),
+        };
+        if let Err(_) = self.tallies.begin(alloc, name) {
+            return Err(Refusal::NoMemory);
+        }
+        if self.plan.next_fails() {
+            self.tallies.raise(name, 1);
+            return Err(Refusal::Failed);
+        }
+        match source {
+            Some(source) => Ok(source),
+            None => {
+                self.tallies.raise(name, 1);
+                Err(Refusal::Failed)
+            }
+        }
+    }
+
+    fn close_source(&mut self, name: &str, source: ListSource)
+        requires { Contains (names_of self.old.counts) name.now }
+        ensures added { Adds name.now source.faults (count_of self.old.counts) (count_of self.new.counts) }
+        ensures rest { self.new ≡ record self.old { counts = self.new.counts } }
+        ensures names { names_of self.new.counts ≡ names_of self.old.counts }
+    {
+        self.tallies.raise(name, source.faults());
+    }
+
+    fn disk(&mut self, alloc: Global, name: &str) -> Result<ListDisk, Refusal>
+        ensures told { IfOk result (λ disk. IsTrue disk.file.told × (disk.faults ≡ 0)) }
+        ensures disk { IfOk result (λ disk. disk_as_listed disk ≡ disk_at self.old.files self.old.room name.now) }
+        ensures taken { OnOk result (shelved_file self.new.files name.now ≡ Some (file_opened self.old.files name.now)) }
+        ensures failed { result ≡ Err why.Failed → IsToFail self.old.plan }
+        ensures planned { OnOk result (IsToFail self.old.plan → ⊥) }
+        ensures plan { self.new.plan ≡ plan_after result self.old.plan }
+        ensures memory { result ≡ Err why.NoMemory → self.new ≡ self.old }
+        ensures unchanged { OnErr result ((other : List ℕ) → shelved_file self.new.files other ≡ shelved_file self.old.files other) }
+        ensures others { (other : List ℕ) → (other ≡ name.now → ⊥) → shelved_file self.new.files other ≡ shelved_file self.old.files other }
+        ensures counting { CountsOpening name.now result (count_of self.old.counts) (count_of self.new.counts) }
+        // And so, of what the shelf tells:
+        ensures moments { IfOk result (λ disk. moments_of disk.file ≡ moments_at (shown_files self.old.files) name.now) }
+        ensures same_shown { OnErr result ((other : List ℕ) → file_of (shown_files self.new.files) other ≡ file_of (shown_files self.old.files) other) }
+        ensures others_shown { (other : List ℕ) → (other ≡ name.now → ⊥) → file_of (shown_files self.new.files) other ≡ file_of (shown_files self.old.files) other }
+        ensures counts { RisesOnly name.now (count_of self.old.counts) (count_of self.new.counts) }
+        ensures refused { IfErr result (λ refusal. IsRefused refusal (count_of self.old.counts name.now) (count_of self.new.counts name.now)) }
+        ensures rest { (self.new.room ≡ self.old.room) × (self.new.told ≡ self.old.told) }
+        ensures opened { OnOk result (Contains (names_of self.new.counts) name.now) }
+        ensures names { names_of self.new.counts ≡ names_after result name.now (names_of self.old.counts) }
+        ensures kept { KeepsNames (names_of self.old.counts) (names_of self.new.counts) }
+    {
+        let names = self.tallies.len();
+        if let Err(_) = self.tallies.begin(alloc, name) {
+            return Err(Refusal::NoMemory);
+        }
+        // Memory may still run out, and then this was no call: so the plan is asked, and moves on below.
+        if self.plan.is_failing() {
+            let _ = self.plan.next_fails();
+            self.tallies.raise(name, 1);
+            return Err(Refusal::Failed);
+        }
+        match disk_of(alloc, &mut self.files, name, self.room) {
+            Ok(disk) => {
+                let _ = self.plan.next_fails();
+                Ok(disk)
+            }
+            Err(NoMemory) => {
+                self.tallies.cut(names);
+                Err(Refusal::NoMemory)
+            }
+        }
+    }
+
+    fn close_disk(&mut self, name: &str, disk: ListDisk)
+        requires { Contains (names_of self.old.counts) name.now }
+        ensures added { Adds name.now disk.faults (count_of self.old.counts) (count_of self.new.counts) }
+        ensures told { IsTrue self.new.told ↔ (IsTrue self.old.told × IsTrue disk.file.told × IsSome (shelved_file self.old.files name.now)) }
+        ensures closed { IsTrue self.new.told → shelved_file self.new.files name.now ≡ option_map (with_closed (disk_as_listed disk)) (shelved_file self.old.files name.now) }
+        ensures others { (other : List ℕ) → (other ≡ name.now → ⊥) → shelved_file self.new.files other ≡ shelved_file self.old.files other }
+        // And so, of what the shelf tells:
+        ensures left { IsTrue self.new.told → IsTrue disk.file.told × (option_map (λ file. file.moments) (file_of (shown_files self.new.files) name.now) ≡ Some (moments_of disk.file)) }
+        ensures others_shown { (other : List ℕ) → (other ≡ name.now → ⊥) → file_of (shown_files self.new.files) other ≡ file_of (shown_files self.old.files) other }
+        ensures rest { (self.new.room ≡ self.old.room) × (self.new.plan ≡ self.old.plan) }
+        ensures names { names_of self.new.counts ≡ names_of self.old.counts }
+    {
+        self.tallies.raise(name, disk.faults);
+        // The shelf has counted them, so the disk counts from 0 when it is opened again.
+        let disk = ListDisk { faults: 0, ..disk };
+        self.told = disk.file.told && keep(&mut self.files, name, disk) && self.told;
+    }
+}
