@@ -8,7 +8,7 @@ work="${TMPDIR:-/tmp}/journal_bench"
 crate="$work/crates/journal_bench"
 mkdir -p "$crate/src"
 cp "$root/HANDLES" "$work/"
-printf '%s\n' 'lot_base:' 'house_io: lot_base' 'report_journal: house_io' 'journal_bench: house_io report_journal anyhow' > "$work/crates.txt"
+printf '%s\n' 'lot_base:' 'house_io: lot_base' 'report_journal: house_io lot_base' 'journal_bench: house_io report_journal anyhow' > "$work/crates.txt"
 for name in lot_base house_io report_journal; do
     rm -rf "$work/crates/$name"
     cp -r "$root/crates/$name" "$work/crates/"

@@ -4,20 +4,22 @@ use Rattle.std.proofs.lemmas.List.{take_at, drop_at, get_or_at}
 use Rattle.std.proofs.lemmas.Nat.{from_be_bytes-to_be_bytes_4}
 use Rattle.std.specs.Int.{w32, to_be_bytes, from_be_bytes}
 use Rattle.std.specs.List.{AllByRecursion}
+use Rattle.lot_base.specs.declared.limits.TheConstants.{GREATEST_PAYLOAD, GREATEST_FILE}
+use Rattle.report_journal.specs.declared.spellings.TheConstants.{OPEN}
 use Rattle.report_journal.specs.Format.{records, body, IsPayload, length_at, HasNoRecord}
 
 -- a record with this payload stands at this open gate
 pub record IsRecord (payload : List ℕ) (gate : ℕ) (file : List ℕ) : Type 0 where
-  pub opened : get_or file gate 0 ≡ 0xa5
+  pub opened : get_or file gate 0 ≡ OPEN
   pub spelled : length_at file gate ≡ to_be_bytes w32 (length payload)
   pub bytes : take (length payload) (drop (gate + 5) file) ≡ payload
-  pub short : length payload ≤ 32768
+  pub short : length payload ≤ GREATEST_PAYLOAD
   pub whole : gate + 6 + length payload ≤ length file
-  pub limit : gate + 6 + length payload ≤ 67108864
+  pub limit : gate + 6 + length payload ≤ GREATEST_FILE
 
 -- the list of records ends here: at a closed gate, or at an open one with no record
 abbrev pub IsEnd : ℕ → List ℕ → Type 0
-IsEnd gate file = (get_or file gate 0 ≢ 0xa5) ⊎ ((get_or file gate 0 ≡ 0xa5) × HasNoRecord file gate)
+IsEnd gate file = (get_or file gate 0 ≢ OPEN) ⊎ ((get_or file gate 0 ≡ OPEN) × HasNoRecord file gate)
 
 -- these records follow one another from this gate to that end
 abbrev pub IsChain : List ℕ → ℕ → List (List ℕ) → ℕ → Type 0
@@ -51,32 +53,32 @@ one_chain file (p ∷ ps) (q ∷ qs) gate end other chain ends chain' ends' =
     λ i. same i ∷ rest i
 
 -- a record in a file of three parts
-module _ (pre payload more : List ℕ) (gate : ℕ) (is : length pre ≡ gate) (short : length payload ≤ 32768) (some : 1 ≤ length more) (limit : gate + 6 + length payload ≤ 67108864) where
+module _ (pre payload more : List ℕ) (gate : ℕ) (is : length pre ≡ gate) (short : length payload ≤ GREATEST_PAYLOAD) (some : 1 ≤ length more) (limit : gate + 6 + length payload ≤ GREATEST_FILE) where
   abbrev size : List ℕ
   size = to_be_bytes w32 (length payload)
 
   abbrev file : List ℕ
-  file = pre ++ 0xa5 ∷ body payload ++ more
+  file = pre ++ OPEN ∷ body payload ++ more
 
-  by_gate : file ≡ (pre ++ 0xa5 ∷ []) ++ (size ++ (payload ++ more))
+  by_gate : file ≡ (pre ++ OPEN ∷ []) ++ (size ++ (payload ++ more))
   by_gate = simp append_assoc
 
-  by_size : file ≡ (pre ++ 0xa5 ∷ size) ++ (payload ++ more)
+  by_size : file ≡ (pre ++ OPEN ∷ size) ++ (payload ++ more)
   by_size = simp append_assoc
 
   pub record_at : IsRecord payload gate file
   record_at = record {
-    opened = ap (λ (l : List ℕ). get_or l gate 0) (append_assoc pre (0xa5 ∷ body payload) more) ∙ get_or_at pre 0xa5 (body payload ++ more) 0 gate is;
+    opened = ap (λ (l : List ℕ). get_or l gate 0) (append_assoc pre (OPEN ∷ body payload) more) ∙ get_or_at pre OPEN (body payload ++ more) 0 gate is;
     spelled =
         ap (λ (l : List ℕ). take 4 (drop (gate + 1) l)) by_gate
-        ∙ ap (λ (l : List ℕ). take 4 l) (drop_at (pre ++ 0xa5 ∷ []) (size ++ (payload ++ more)) (gate + 1) (omega (arith, is, length-append pre (0xa5 ∷ []))))
+        ∙ ap (λ (l : List ℕ). take 4 l) (drop_at (pre ++ OPEN ∷ []) (size ++ (payload ++ more)) (gate + 1) (omega (arith, is, length-append pre (OPEN ∷ []))))
         ∙ take_at size (payload ++ more) 4 refl;
     bytes =
         ap (λ (l : List ℕ). take (length payload) (drop (gate + 5) l)) by_size
-        ∙ ap (λ (l : List ℕ). take (length payload) l) (drop_at (pre ++ 0xa5 ∷ size) (payload ++ more) (gate + 5) (omega (arith, is, length-append pre (0xa5 ∷ size))))
+        ∙ ap (λ (l : List ℕ). take (length payload) l) (drop_at (pre ++ OPEN ∷ size) (payload ++ more) (gate + 5) (omega (arith, is, length-append pre (OPEN ∷ size))))
         ∙ take_at payload more (length payload) refl;
     short = short;
-    whole = omega (arith, is, some, ap length by_size, length-append (pre ++ 0xa5 ∷ size) (payload ++ more), length-append pre (0xa5 ∷ size), length-append payload more);
+    whole = omega (arith, is, some, ap length by_size, length-append (pre ++ OPEN ∷ size) (payload ++ more), length-append pre (OPEN ∷ size), length-append payload more);
     limit = limit;
   }
 
@@ -88,17 +90,17 @@ regroup_on pre one others more = simp append_assoc
 
 -- a file with these records in its midst
 pub chain_of : (pre : List ℕ) (payloads : List (List ℕ)) (more : List ℕ) (gate : ℕ) → length pre ≡ gate → AllByRecursion IsPayload payloads → 1 ≤ length more
-    → gate + length (records payloads) + 1 ≤ 67108864 → IsChain (pre ++ records payloads ++ more) gate payloads (gate + length (records payloads))
+    → gate + length (records payloads) + 1 ≤ GREATEST_FILE → IsChain (pre ++ records payloads ++ more) gate payloads (gate + length (records payloads))
 chain_of pre [] more gate is all some limit = omega arith
 chain_of pre (p ∷ payloads) more gate is all some limit =
     let sizes : length (records (p ∷ payloads)) ≡ 5 + length p + length (records payloads) =
-    omega (arith, length-append (0xa5 ∷ body p) (records payloads), length-append (to_be_bytes w32 (length p)) p) in
-    let next = pre ++ 0xa5 ∷ body p in
-    let next_is : length next ≡ gate + 5 + length p = omega (arith, is, length-append pre (0xa5 ∷ body p), length-append (to_be_bytes w32 (length p)) p) in
+    omega (arith, length-append (OPEN ∷ body p) (records payloads), length-append (to_be_bytes w32 (length p)) p) in
+    let next = pre ++ OPEN ∷ body p in
+    let next_is : length next ≡ gate + 5 + length p = omega (arith, is, length-append pre (OPEN ∷ body p), length-append (to_be_bytes w32 (length p)) p) in
     let here = record_at pre p (records payloads ++ more) gate is all.0 (omega (arith, some, length-append (records payloads) more)) (omega (arith, limit, sizes)) in
     let rest = chain_of next payloads more (gate + 5 + length p) next_is all.1 some (omega (arith, limit, sizes)) in
     let end_is : (gate + 5 + length p) + length (records payloads) ≡ gate + length (records (p ∷ payloads)) = omega (arith, sizes) in
     let P : List ℕ → Type 0 = λ f. IsRecord p gate f in
     let Q : List ℕ → Type 0 = λ f. IsChain f (gate + 5 + length p) payloads ((gate + 5 + length p) + length (records payloads)) in
     let R : ℕ → Type 0 = λ e. IsChain (pre ++ records (p ∷ payloads) ++ more) (gate + 5 + length p) payloads e in
-    (subst P (sym (regroup pre (0xa5 ∷ body p) (records payloads) more)) here, subst R end_is (subst Q (sym (regroup_on pre (0xa5 ∷ body p) (records payloads) more)) rest))
+    (subst P (sym (regroup pre (OPEN ∷ body p) (records payloads) more)) here, subst R end_is (subst Q (sym (regroup_on pre (OPEN ∷ body p) (records payloads) more)) rest))

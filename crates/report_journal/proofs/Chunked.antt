@@ -8,10 +8,10 @@ pub chunk_within : (bytes file : List ℕ) (at filled : ℕ) → IsChunk bytes a
 chunk_within bytes file at filled is within =
     omega (arith, ap length is, length-take filled bytes, length-take filled (drop at file), length-drop at file, within)
 
--- the bytes behind an offset in a chunk are the file's there
-pub chunk_behind : (bytes file : List ℕ) (at filled gate n : ℕ) → IsChunk bytes at filled file → at ≤ gate → gate - at + n ≤ filled
+-- the bytes after an offset in a chunk are the file's there
+pub chunk_after : (bytes file : List ℕ) (at filled gate n : ℕ) → IsChunk bytes at filled file → at ≤ gate → gate - at + n ≤ filled
     → take n (drop (gate - at) (take filled bytes)) ≡ take n (drop gate file)
-chunk_behind bytes file at filled gate n is below room =
+chunk_after bytes file at filled gate n is below room =
     let rest = filled - (gate - at) in
     let split : filled ≡ (gate - at) + rest = omega (arith, room) in
     let place : at + (gate - at) ≡ gate = omega (arith, below) in
@@ -22,13 +22,13 @@ chunk_behind bytes file at filled gate n is below room =
     ∙ ap (λ (l : List ℕ). take n l) (drop-drop (gate - at) at file)
     ∙ ap (λ (k : ℕ). take n (drop k file)) place
 
--- what was copied of a chunk that has all five bytes behind an offset
+-- what was copied of a chunk that has all five bytes after an offset
 pub copied_held : (bytes file : List ℕ) (at filled gate count : ℕ) (into : List ℕ) → IsChunk bytes at filled file → filled ≤ length bytes
     → at ≤ gate → gate + 5 ≤ at + filled → count ≡ min 5 (filled - (gate - at)) → take count into ≡ take count (drop (gate - at) (take filled bytes))
     → (count ≡ min 5 (length file - gate)) × (take count into ≡ take count (drop gate file))
 copied_held bytes file at filled gate count into is within below held size same = (
   omega (arith, size, below, held, chunk_within bytes file at filled is within),
-  same ∙ chunk_behind bytes file at filled gate count is below (omega (arith, size, below, held)),
+  same ∙ chunk_after bytes file at filled gate count is below (omega (arith, size, below, held)),
 )
 
 -- a chunk of nothing

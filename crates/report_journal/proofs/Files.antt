@@ -6,8 +6,8 @@ use Rattle.house_io.specs.Moments.{Torn}
 
 module _ (pre : List ℕ) (at : ℕ) (is : length pre ≡ at) where
   -- the first part stays
-  pub torn_behind : (n : ℕ) (free c : List ℕ) → Torn at n (pre ++ free) c → c ≡ pre ++ drop at c
-  torn_behind n free c torn =
+  pub torn_after : (n : ℕ) (free c : List ℕ) → Torn at n (pre ++ free) c → c ≡ pre ++ drop at c
+  torn_after n free c torn =
       let long : at ≤ length c = omega (arith, torn.no_shorter, length-append pre free) in
       let same : take at c ≡ pre = ext_get_or 0 (take at c) pre (length-take-le at c long ∙ sym is) (λ i below.
       let under : i < at = omega (arith, below, length-take-le at c long) in
@@ -27,12 +27,12 @@ module _ (pre : List ℕ) (at : ℕ) (is : length pre ≡ at) where
           | inl here ↦ ap (λ (k : ℕ). get_or c k 0) here ∙ sym (get_or_at pre y free 0 i (is ∙ sym here))
           | inr there ↦
               let past : at + 1 ≤ i = omega (arith, more, there) in
-              torn.same i (omega (arith, below, size)) (inr past) ∙ get_or-append_right pre (x ∷ free) at i 0 is more ∙ behind i past ∙ sym (get_or-append_right pre (y ∷ free) at i 0 is more)
+              torn.same i (omega (arith, below, size)) (inr past) ∙ get_or-append_right pre (x ∷ free) at i 0 is more ∙ after i past ∙ sym (get_or-append_right pre (y ∷ free) at i 0 is more)
         ]
       ])
     where
-      behind : (i : ℕ) → at + 1 ≤ i → get_or (x ∷ free) (i - at) 0 ≡ get_or (get_or c at 0 ∷ free) (i - at) 0
-      behind i past = shifted (i - at) (omega (arith, past))
+      after : (i : ℕ) → at + 1 ≤ i → get_or (x ∷ free) (i - at) 0 ≡ get_or (get_or c at 0 ∷ free) (i - at) 0
+      after i past = shifted (i - at) (omega (arith, past))
         where
           shifted : (k : ℕ) → 1 ≤ k → get_or (x ∷ free) k 0 ≡ get_or (get_or c at 0 ∷ free) k 0
           shifted zero some = absurd (omega arith)

@@ -1,3 +1,4 @@
+pub mod Prefixes
 pub mod Files
 pub mod Writes
 pub mod Records

@@ -1,11 +1,12 @@
 -- The payload of one number, and of one place.
-use Rattle.std.proofs.Common.{◌≡◌, ℕ, zero, suc, ◌+◌, ◌-◌, ◌≤◌, min, List, [], ◌∷◌, ◌++◌, length, take, drop, Some, None, refl, sym, ◌∙◌, ap, subst, arith, length-drop}
+use Rattle.std.proofs.Common.{◌≡◌, ℕ, zero, suc, ◌+◌, ◌-◌, ◌*◌, ◌≤◌, min, List, [], ◌∷◌, ◌++◌, length, take, drop, Some, None, refl, sym, ◌∙◌, ap, subst, arith, length-drop}
 use Rattle.std.proofs.lemmas.List.{take_at, take_all, length-take}
 use Rattle.std.proofs.lemmas.Option.{slice_get-map}
 use Rattle.std.specs.List.{slice_get}
 use Rattle.std.specs.Option.{option_map}
+use Rattle.lot_base.specs.declared.limits.TheConstants.{GREATEST_PAYLOAD}
 use Rattle.report_journal.specs.Journals.{payload_at, payloads_at, ArePlaced}
-use Rattle.report_journal.specs.Scans.{FollowFrom, gate_behind}
+use Rattle.report_journal.specs.Scans.{FollowFrom, gate_after}
 use Rattle.report_journal.specs.declared.places.Place.{Place}
 
 -- a place that was read whole into a buffer of its length
@@ -32,11 +33,16 @@ nth_length file gate (q ∷ places) zero place are is =
     subst P same (sym are.1)
 nth_length file gate (q ∷ places) (suc i) place are is = nth_length file (gate + 5 + length (payload_at file q)) places i place are.2 is
 
--- one more record behind those that follow one another
-pub follow_push : (places : List Place) (place : Place) (gate : ℕ) → FollowFrom gate places → place.at ≡ gate_behind gate places + 5 → place.length ≤ 32768 → FollowFrom gate (places ++ place ∷ [])
+-- one more record after those that follow one another
+pub follow_push : (places : List Place) (place : Place) (gate : ℕ) → FollowFrom gate places → place.at ≡ gate_after gate places + 5 → place.length ≤ GREATEST_PAYLOAD → FollowFrom gate (places ++ place ∷ [])
 follow_push [] place gate follow at short = (at, short, tt)
 follow_push (p ∷ places) place gate follow at short = (follow.0, follow.1, follow_push places place (gate + 5 + p.length) follow.2 at short)
 
-pub behind_push : (places : List Place) (place : Place) (gate : ℕ) → gate_behind gate (places ++ place ∷ []) ≡ gate_behind gate places + 5 + place.length
-behind_push [] place gate = refl
-behind_push (p ∷ places) place gate = behind_push places place (gate + 5 + p.length)
+pub after_push : (places : List Place) (place : Place) (gate : ℕ) → gate_after gate (places ++ place ∷ []) ≡ gate_after gate places + 5 + place.length
+after_push [] place gate = refl
+after_push (p ∷ places) place gate = after_push places place (gate + 5 + p.length)
+
+-- each record takes five bytes at least
+pub after_roomy : (places : List Place) (gate : ℕ) → gate + 5 * length places ≤ gate_after gate places
+after_roomy [] gate = omega arith
+after_roomy (p ∷ places) gate = omega (arith, after_roomy places (gate + 5 + p.length))

@@ -1,8 +1,9 @@
 -- What two writes within one range change of a file.
-use Rattle.std.proofs.Common.{◌≡◌, ◌⊎◌, inl, inr, ℕ, suc, ◌+◌, ◌<◌, ◌≤◌, List, [], ◌∷◌, ◌++◌, length, get_or, take, drop, refl, sym, ◌∙◌, ap, arith, append_assoc, length-append, take-append-drop}
+use Rattle.std.proofs.Common.{◌≡◌, ◌⊎◌, inl, inr, ℕ, suc, ◌+◌, ◌<◌, ◌≤◌, List, [], ◌∷◌, ◌++◌, length, get_or, take, drop, refl, sym, ◌∙◌, ap, subst, arith, append_assoc, length-append, take-append-drop}
 use Rattle.std.proofs.lemmas.List.{length-take-le, drop_more, drop-drop}
-use Rattle.house_io.specs.Moments.{Moments, Torn, overlaid, AtEach, IsSettled}
+use Rattle.house_io.specs.Moments.{Moment, Moments, Torn, overlaid, AtEach, IsSettled, settled}
 use Rattle.house_io.proofs.Moments.{at_start, at_both, at_weaker, at_now, leaves_here, settled_torn}
+use Rattle.report_journal.specs.Puts.{IsStage}
 use Rattle.house_io.proofs.Overlays.{overlaid_behind}
 
 -- nothing was written
@@ -50,8 +51,8 @@ module _ (file : List ℕ) (at : ℕ) (some : at + 1 ≤ length file) (bytes : L
   abbrev rest : List ℕ
   rest = drop (at + 1) file
 
-  abbrev behind : List ℕ
-  behind = bytes ++ drop (length bytes) rest
+  abbrev after : List ℕ
+  after = bytes ++ drop (length bytes) rest
 
   pre_is : length pre ≡ at
   pre_is = length-take-le at file (omega (arith, some))
@@ -59,18 +60,18 @@ module _ (file : List ℕ) (at : ℕ) (some : at + 1 ≤ length file) (bytes : L
   split : file ≡ pre ++ y ∷ rest
   split = sym (take-append-drop at file) ∙ ap (λ (l : List ℕ). pre ++ l) (drop_more file at 0 (omega (arith, some)))
 
-  first : overlaid file (at + 1) bytes ≡ pre ++ y ∷ behind
+  first : overlaid file (at + 1) bytes ≡ pre ++ y ∷ after
   first =
       ap (λ (l : List ℕ). overlaid l (at + 1) bytes) (split ∙ sym (append_assoc pre (y ∷ []) rest))
       ∙ overlaid_behind (pre ++ y ∷ []) (at + 1) (omega (arith, length-append pre (y ∷ []), pre_is)) rest bytes
       ∙ append_assoc (pre ++ y ∷ []) bytes (drop (length bytes) rest)
-      ∙ append_assoc pre (y ∷ []) behind
+      ∙ append_assoc pre (y ∷ []) after
 
   pub overlaid_twice : overlaid (overlaid file (at + 1) bytes) at (x ∷ []) ≡ overlaid file at (x ∷ bytes)
   overlaid_twice =
       ap (λ (l : List ℕ). overlaid l at (x ∷ [])) first
-      ∙ overlaid_behind pre at pre_is (y ∷ behind) (x ∷ [])
-      ∙ append_assoc pre (x ∷ []) behind
+      ∙ overlaid_behind pre at pre_is (y ∷ after) (x ∷ [])
+      ∙ append_assoc pre (x ∷ []) after
       ∙ sym (append_assoc pre (x ∷ bytes) (drop (length bytes) rest))
       ∙ sym (overlaid_behind pre at pre_is (y ∷ rest) (x ∷ bytes))
       ∙ ap (λ (l : List ℕ). overlaid l at (x ∷ bytes)) (sym split)
@@ -83,3 +84,13 @@ overlaid_over file bytes x y =
     ∙ overlaid_behind [] 0 refl (y ∷ drop 1 file) (x ∷ bytes)
     ∙ ap (λ (l : List ℕ). (x ∷ bytes) ++ l) (drop-drop (length bytes) 1 file ∙ ap (λ (n : ℕ). drop n file) e)
     ∙ sym (overlaid_behind [] 0 refl file (x ∷ bytes))
+
+-- the two writes, one after the other
+pub at_stages : (gate : ℕ) (bytes : List ℕ) (old mid new : Moments) → AtEach (Torn (gate + 1) (length bytes) old.now.read) old mid
+    → mid.now ≡ settled (overlaid old.now.read (gate + 1) bytes) → AtEach (Torn gate 1 mid.now.read) mid new → AtEach (IsStage gate bytes old.now.read) old new
+at_stages gate bytes old mid new first mid_is second =
+    let P = IsStage gate bytes old.now.read in
+    let mid_read : mid.now.read ≡ overlaid old.now.read (gate + 1) bytes = ap (λ (m : Moment). m.read) mid_is in
+    at_both P old mid new
+    (at_weaker (Torn (gate + 1) (length bytes) old.now.read) P old mid (λ c torn. inl torn) first)
+    (at_weaker (Torn gate 1 mid.now.read) P mid new (λ c torn. inr (subst (λ (f : List ℕ). Torn gate 1 f c) mid_read torn)) second)

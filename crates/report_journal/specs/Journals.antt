@@ -1,7 +1,9 @@
 -- A journal as its callers see it: a disk, the payloads that count, and the one that is in doubt.
-use Rattle.std.specs.Prelude.{◌≡◌, ℕ, ◌+◌, ◌≤◌, ◌<◌, List, [], ◌∷◌, ◌++◌, length, take, drop, map, Option, Some, None}
+use Rattle.std.specs.Prelude.{◌≡◌, ℕ, ◌+◌, ◌*◌, ◌≤◌, ◌<◌, List, [], ◌∷◌, ◌++◌, length, take, drop, map, Option, Some, None}
 use Rattle.house_io.specs.Moments.{Moments, Leaves, IsSettled}
-use Rattle.report_journal.specs.Format.{Contents, StandsFor, Fits, front}
+use Rattle.lot_base.specs.declared.limits.TheConstants.{GREATEST_FILE}
+use Rattle.report_journal.specs.declared.headers.Header.{Header}
+use Rattle.report_journal.specs.Format.{Contents, IsHeader, StandsFor, Fits, front, first_gate}
 use Rattle.report_journal.specs.Puts.{with_one_more, IsBeforeOrAfter}
 use Rattle.report_journal.specs.declared.places.Place.{Place}
 
@@ -16,18 +18,16 @@ pub record JournalOf (D : Type 0) : Type 0 where
   -- the payload in doubt: that of an append that failed on the disk and was not mended
   pub pending : Option (List ℕ)
 
--- Of two states of a journal: clock and digest are the same, and so are the records in number and place.
+-- Of two states of a journal: the header is the same, and so are the records in number and place.
 pub record KeepsRecords {D : Type 0} (old new : JournalOf D) : Type 0 where
-  pub clock : new.contents.clock ≡ old.contents.clock
-  pub digest : new.contents.digest ≡ old.contents.digest
+  pub header : new.contents.header ≡ old.contents.header
   pub count : length new.contents.payloads ≡ length old.contents.payloads
   pub places : new.places ≡ old.places
   pub end : new.end ≡ old.end
 
--- Clock and digest are the same, and one record of this length stands behind the old ones.
+-- The header is the same, and one record of this length stands after the old ones.
 pub record AddsRecord {D : Type 0} (size : ℕ) (old new : JournalOf D) : Type 0 where
-  pub clock : new.contents.clock ≡ old.contents.clock
-  pub digest : new.contents.digest ≡ old.contents.digest
+  pub header : new.contents.header ≡ old.contents.header
   pub count : length new.contents.payloads ≡ length old.contents.payloads + 1
   pub places : new.places ≡ old.places ++ record { at = old.end + 5; length = size } ∷ []
   pub end : new.end ≡ old.end + 5 + size
@@ -39,8 +39,8 @@ abbrev pub payloads_at : List ℕ → List Place → List (List ℕ)
 payloads_at file places = map (payload_at file) places
 
 -- what a header and the places of records say of a file
-abbrev pub said : ℕ → List ℕ → List Place → List ℕ → Contents
-said clock digest places file = record { clock = clock; digest = digest; payloads = payloads_at file places }
+abbrev pub said : Header → List Place → List ℕ → Contents
+said header places file = record { header = header; payloads = payloads_at file places }
 
 -- these payloads lie at these places, the first record's gate at this offset
 abbrev pub ArePlaced : ℕ → List Place → List (List ℕ) → Type 0
@@ -57,10 +57,17 @@ Stands x (Some payload) ms = Leaves (IsBeforeOrAfter x payload) ms.now × Fits (
 -- what a journal keeps where its disk tells
 pub record IsKept (x : Contents) (places : List Place) (end : ℕ) (pending : Option (List ℕ)) (ms : Moments) : Type 0 where
   pub stands : Stands x pending ms
-  pub placed : ArePlaced 41 places x.payloads
+  pub placed : ArePlaced (first_gate x.header) places x.payloads
   pub size : length (front x) ≡ end
 
 -- the record in doubt fits, and its place has room among so many
 abbrev pub HasRoom : ℕ → ℕ → ℕ → Option (List ℕ) → Type 0
 HasRoom end len capacity None = Unit {0}
-HasRoom end len capacity (Some payload) = (end + 6 + length payload ≤ 67108864) × (len < capacity)
+HasRoom end len capacity (Some payload) = (end + 6 + length payload ≤ GREATEST_FILE) × (len < capacity)
+
+-- what a journal keeps of any disk
+pub record IsWithin (header : Header) (places : List Place) (end capacity : ℕ) (pending : Option (List ℕ)) : Type 0 where
+  pub spelled : IsHeader header
+  pub limit : end + 1 ≤ GREATEST_FILE
+  pub roomy : 5 * length places ≤ end
+  pub room : HasRoom end (length places) capacity pending

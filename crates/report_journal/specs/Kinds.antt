@@ -1,6 +1,6 @@
 -- What a journal's file is: of exactly one kind.
 use Rattle.std.specs.Prelude.{◌≡◌, ℕ, ◌^◌, ◌<◌, List, slice_index}
-use Rattle.report_journal.specs.Format.{Contents, StandsFor, IsUnformed, IsDamaged, IsMisnamed}
+use Rattle.report_journal.specs.Format.{Contents, StandsFor, IsUnformed, IsDamaged, HasNoHeader}
 
 pub data Kind : Type 0 where
   Unformed : Kind
@@ -8,14 +8,14 @@ pub data Kind : Type 0 where
   Formed : Contents → Kind
   -- it has these contents, and then a record that is damaged
   Damaged : Contents → Kind
-  -- it is damaged in its header's name
-  Misnamed : Kind
+  -- it is damaged in its header
+  Headless : Kind
 
 abbrev pub IsOfKind : Kind → List ℕ → Type 0
 IsOfKind Unformed file = IsUnformed file
 IsOfKind (Formed x) file = StandsFor x file
 IsOfKind (Damaged x) file = IsDamaged x file
-IsOfKind Misnamed file = IsMisnamed file
+IsOfKind Headless file = HasNoHeader file
 
 abbrev pub AreBytes : List ℕ → Type 0
 AreBytes file = (i : ℕ) → slice_index file i < 2 ^ 8

@@ -3,3 +3,5 @@ pub mod Puts
 pub mod Journals
 pub mod Scans
 pub mod Kinds
+pub mod Fronts
+pub mod Calls

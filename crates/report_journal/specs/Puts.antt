@@ -1,19 +1,21 @@
 -- What the calls of a journal change of the contents that its file stands for.
-use Rattle.std.specs.Prelude.{◌≡◌, ◌≢◌, ◌⊎◌, ℕ, ◌^◌, ◌<◌, ◌≤◌, List, [], ◌∷◌, ◌++◌, length, slice_index}
-use Rattle.house_io.specs.Moments.{Moments, synced_at}
-use Rattle.report_journal.specs.Format.{Contents, header, body, front, Fits, StandsFor, IsUnformed}
+use Rattle.std.specs.Prelude.{◌≡◌, ◌≢◌, ◌⊎◌, ℕ, ◌+◌, ◌≤◌, List, [], ◌∷◌, ◌++◌, length, slice_index}
+use Rattle.house_io.specs.Moments.{Moments, Torn, overlaid, synced_at}
+use Rattle.report_journal.specs.declared.headers.Header.{Header}
+use Rattle.report_journal.specs.declared.spellings.TheConstants.{OPEN}
+use Rattle.report_journal.specs.Format.{Contents, IsHeader, header_bytes, body, front, Fits, StandsFor, IsUnformed}
 
-abbrev pub empty : ℕ → List ℕ → Contents
-empty clock digest = record { clock = clock; digest = digest; payloads = [] }
+abbrev pub empty : Header → Contents
+empty header = record { header = header; payloads = [] }
 
 abbrev pub with_one_more : Contents → List ℕ → Contents
-with_one_more x payload = record { clock = x.clock; digest = x.digest; payloads = x.payloads ++ payload ∷ [] }
+with_one_more x payload = record { header = x.header; payloads = x.payloads ++ payload ∷ [] }
 
 abbrev pub IsBeforeOrAfter : Contents → List ℕ → List ℕ → Type 0
 IsBeforeOrAfter x payload file = StandsFor x file ⊎ StandsFor (with_one_more x payload) file
 
-abbrev pub IsUnformedOrEmpty : ℕ → List ℕ → List ℕ → Type 0
-IsUnformedOrEmpty clock digest file = IsUnformed file ⊎ StandsFor (empty clock digest) file
+abbrev pub IsUnformedOrEmpty : Header → List ℕ → Type 0
+IsUnformedOrEmpty header file = IsUnformed file ⊎ StandsFor (empty header) file
 
 -- A record for this payload may be put at the closed gate: the bytes are its body and a closed gate.
 pub record Takes (x : Contents) (payload : List ℕ) (gate : ℕ) (bytes file : List ℕ) : Type 0 where
@@ -22,16 +24,20 @@ pub record Takes (x : Contents) (payload : List ℕ) (gate : ℕ) (bytes file : 
   pub spelled : bytes ≡ body payload ++ 0 ∷ []
   pub fits : Fits (with_one_more x payload)
 
+-- What a crash may leave of a file while these bytes are put after this gate: first they are torn, and once they are there
+-- the gate is.
+abbrev pub IsStage : ℕ → List ℕ → List ℕ → List ℕ → Type 0
+IsStage gate bytes old file = Torn (gate + 1) (length bytes) old file ⊎ Torn gate 1 (overlaid old (gate + 1) bytes) file
+
 -- the file has a first gate, and it is closed
 pub record IsShut (file : List ℕ) : Type 0 where
   pub some : 1 ≤ length file
-  pub shut : slice_index file 0 ≢ 0xa5
+  pub shut : slice_index file 0 ≢ OPEN
 
--- the bytes of a header and a closed gate
-pub record IsHeader (clock : ℕ) (digest bytes : List ℕ) : Type 0 where
-  pub spelled : bytes ≡ header clock digest ++ 0 ∷ []
-  pub fits : clock < 2 ^ 32
-  pub long : length digest ≡ 32
+-- the bytes of a header that can be spelled, and a closed gate
+pub record IsHead (h : Header) (bytes : List ℕ) : Type 0 where
+  pub spelled : bytes ≡ header_bytes h ++ 0 ∷ []
+  pub header : IsHeader h
 
 -- the disk was synced, or nothing happened to it
 abbrev pub IsSynced : Moments → Moments → Type 0

@@ -1,55 +1,53 @@
 //! A journal of payloads, each on the disk before it is acknowledged.
-ghost use Rattle.std.specs.Prelude.{◌≡◌, ◌≢◌, ◌+◌, ◌-◌, ◌^◌, ◌<◌, ◌≤◌, ◌++◌, [], ◌∷◌, ◌↔◌, List, ℕ, length, vec_len, vec_capacity, slice_get, slice_index, IsTrue, IfOk, IfErr, OnOk, OnErr, IsSome, IfSome, None, Some, ◌⊎◌};
-ghost use Rattle.house_io.specs.Faults.{Rose};
-ghost use Rattle.house_io.specs.Moments.{AtEach, Leaves, IsSettled, Torn, overlaid};
-ghost use Rattle.report_journal.specs.Format.{StandsFor, IsUnformed, front, header, body};
-ghost use Rattle.report_journal.specs.Journals.{Stands, ArePlaced, KeepsRecords, AddsRecord, payload_at};
-ghost use Rattle.report_journal.specs.Puts.{empty, with_one_more, IsBeforeOrAfter, IsUnformedOrEmpty, IsSynced};
-ghost use Rattle.report_journal.specs.Scans.{IsFormed, HasLimits, IsScan, contents_of, places_in, end_in};
+ghost use Rattle.std.specs.Prelude.{◌≡◌, ◌+◌, ◌-◌, ◌≤◌, ◌<◌, ◌++◌, [], ◌∷◌, length, vec_len, vec_capacity, slice_get, IsTrue, IfOk, IfErr, IfSome, None, Some};
+ghost use Rattle.house_io.specs.Moments.{IsSettled};
+ghost use Rattle.lot_base.specs.declared.limits.TheConstants.{GREATEST_PAYLOAD, GREATEST_FILE};
+ghost use Rattle.report_journal.specs.Calls.{OnlyReads, CountsFaults, CountsReading, Appends, AppendEnds, AppendLeaves, Mends, MendEnds, MendLeaves, KeepsAll, Forms, FailsToForm, Attaches};
+ghost use Rattle.report_journal.specs.Format.{IsHeader, IsUnformed};
+ghost use Rattle.report_journal.specs.Journals.{IsKept, payload_at};
+ghost use Rattle.report_journal.specs.Scans.{IsFormed, IsScan, IsInOrder};
 
 use crate::faults::{JournalFault, Mended, NotFormed};
+use crate::headers::{Header, head_bytes};
 use crate::places::Place;
 use crate::scanning::Scanned;
-use crate::spellings::{GREATEST_END, header_bytes, record_bytes};
+use crate::spellings::record_bytes;
 use crate::steps::{form_file, is_open_now, put_record};
 use house_io::{Disk, Failed};
+use lot_base::limits::GREATEST_FILE;
 use std::alloc::Global;
 use std::marker::Model;
-
-/// The offset of a new journal's first gate.
-const FIRST_GATE: u32 = 41;
 
 /// A journal on a disk. Where the disk tells, its file stands for the journal's contents, and at most one payload is in
 /// doubt.
 #[derive(Drop)]
 pub struct Journal<D: Disk> {
     disk: D,
-    clock: u32,
-    digest: [u8; 32],
+    header: Header,
     places: Vec<Place>,
     /// The gate that ends the list.
     end: u32,
+    /// The payload in doubt: that of an append that failed on the disk and was not mended.
     pending: Option<Vec<u8>>,
 }
 
 impl<D: Disk> Model for Journal<D> {
-    ghost use Rattle.std.specs.Prelude.{ℕ, ◌≡◌, ◌+◌, ◌*◌, ◌≤◌, List, length, vec_len, vec_capacity, IsTrue, Some, None};
+    ghost use Rattle.std.specs.Prelude.{vec_capacity, IsTrue};
     ghost use Rattle.std.specs.Option.{option_map};
-    ghost use Rattle.report_journal.specs.Journals.{JournalOf, said, HasRoom, IsKept};
+    ghost use Rattle.report_journal.specs.Journals.{JournalOf, said, IsWithin, IsKept};
 
     ghost Value = { JournalOf D };
 
     ghost view = { λ j. record {
       disk = j.disk;
-      contents = said j.clock j.digest j.places.items (D.moments j.disk).now.read;
+      contents = said j.header j.places.items (D.moments j.disk).now.read;
       places = j.places.items;
       end = j.end;
       pending = option_map (λ p. p.items) j.pending;
     } };
 
-    ghost invariant = { λ j. (j.end + 1 ≤ 67108864) × (41 + 5 * length j.places.items ≤ j.end)
-        × HasRoom j.end (vec_len j.places) (vec_capacity j.places) (option_map (λ p. p.items) j.pending)
-        × (IsTrue (D.tells j.disk) → IsKept (said j.clock j.digest j.places.items (D.moments j.disk).now.read)
+    ghost invariant = { λ j. IsWithin j.header j.places.items j.end (vec_capacity j.places) (option_map (λ p. p.items) j.pending)
+        × (IsTrue (D.tells j.disk) → IsKept (said j.header j.places.items (D.moments j.disk).now.read)
         j.places.items j.end (option_map (λ p. p.items) j.pending) (D.moments j.disk)) };
 }
 
@@ -58,20 +56,13 @@ impl<D: Disk> Journal<D> {
     pub fn count(&self) -> u32
         ensures payloads { result ≡ length self.now.contents.payloads }
         ensures places { result ≡ length self.now.places }
+        // What the type keeps.
+        ensures kept { IsTrue (D.tells self.now.disk)
+            → IsKept self.now.contents self.now.places self.now.end self.now.pending (D.moments self.now.disk) }
+        ensures limit { self.now.end + 1 ≤ GREATEST_FILE }
+        ensures header { IsHeader self.now.contents.header }
     {
         self.places.len() as u32
-    }
-
-    /// The number of moments of the disk before the present one.
-    pub fn moment(&self) -> u64
-        ensures number { IsTrue (D.tells self.now.disk) → result ≡ length (D.moments self.now.disk).past }
-        // What the type keeps.
-        ensures stands { IsTrue (D.tells self.now.disk) → Stands self.now.contents self.now.pending (D.moments self.now.disk) }
-        ensures end { IsTrue (D.tells self.now.disk) → self.now.end ≡ length (front self.now.contents) }
-        ensures placed { IsTrue (D.tells self.now.disk) → ArePlaced 41 self.now.places self.now.contents.payloads }
-        ensures limit { self.now.end + 1 ≤ 67108864 }
-    {
-        self.disk.moment()
     }
 
     /// Gives the disk back. Takes no memory.
@@ -80,8 +71,7 @@ impl<D: Disk> Journal<D> {
     {
         let Journal {
             disk,
-            clock: _,
-            digest: _,
+            header: _,
             places: _,
             end: _,
             pending: _,
@@ -94,39 +84,20 @@ impl<D: Disk> Journal<D> {
     /// Adds a record and answers its number, from 1. At `Ok` every image has it. After `DiskFault` it is in doubt until a
     /// mend succeeds. Its memory is taken before the first write.
     pub fn append(&mut self, alloc: Global, payload: &[u8]) -> Result<u32, JournalFault>
-        requires { length payload.now ≤ 32768 }
-        ensures ok { OnOk result (IsTrue (D.tells self.new.disk)
-            → self.new.contents ≡ with_one_more self.old.contents payload.now) }
-        ensures every_image { OnOk result (IsTrue (D.tells self.new.disk)
-            → Leaves (StandsFor (with_one_more self.old.contents payload.now)) (D.moments self.new.disk).now) }
-        ensures number { IfOk result (λ n. n ≡ length self.new.contents.payloads) }
-        ensures grown { OnOk result ((self.new.end ≡ self.old.end + 5 + length payload.now) × (self.new.pending ≡ None)) }
-        ensures adds_record { OnOk result (AddsRecord (length payload.now) self.old self.new) }
-        ensures keeps_records { OnErr result (KeepsRecords self.old self.new) }
-        ensures not_mended { result ≡ Err JournalFault.NotMended ↔ IsSome self.old.pending }
-        ensures full { (needed : ℕ) → (result ≡ Err (JournalFault.Full needed))
-            ↔ ((self.old.pending ≡ None) × (needed ≡ self.old.end + 6 + length payload.now) × (67108864 < needed)) }
-        ensures doubt { result ≡ Err JournalFault.DiskFault → (self.new.pending ≡ Some payload.now) × (self.new.end ≡ self.old.end)
-            × (IsTrue (D.tells self.new.disk) → self.new.contents ≡ self.old.contents) }
-        ensures cause { result ≡ Err JournalFault.DiskFault → Rose (D.faults self.old.disk) (D.faults self.new.disk) }
-        ensures same { IfErr result (λ e. (e ≡ JournalFault.DiskFault) ⊎ (self.new ≡ self.old)) }
+        requires { length payload.now ≤ GREATEST_PAYLOAD }
+        ensures answer { Appends payload.now self.old self.new result }
+        ensures end { IsTrue (D.tells self.new.disk) → AppendEnds payload.now self.old.contents self.new.contents self.old.end
+            (D.moments self.old.disk) (D.moments self.new.disk) result }
         ensures moments { self.old.pending ≡ None → IsTrue (D.tells self.new.disk)
-            → AtEach (IsBeforeOrAfter self.old.contents payload.now) (D.moments self.old.disk) (D.moments self.new.disk) }
-        // Its bytes, and no others.
-        ensures written { OnOk result (IsTrue (D.tells self.new.disk) → (D.moments self.new.disk).now.read
-            ≡ overlaid (D.moments self.old.disk).now.read self.old.end (0xa5 ∷ body payload.now ++ 0 ∷ [])) }
-        ensures range { self.old.pending ≡ None → IsTrue (D.tells self.new.disk)
-            → AtEach (Torn self.old.end (6 + length payload.now) (D.moments self.old.disk).now.read)
-            (D.moments self.old.disk) (D.moments self.new.disk) }
+            → AppendLeaves payload.now self.old.contents self.old.end (D.moments self.old.disk) (D.moments self.new.disk) }
         ensures tells { IsTrue (D.tells self.new.disk) → IsTrue (D.tells self.old.disk) }
-        ensures faults { D.faults self.old.disk ≤ D.faults self.new.disk }
-        ensures steady { OnOk result (D.faults self.new.disk ≡ D.faults self.old.disk) }
+        ensures faults { CountsFaults (D.faults self.old.disk) (D.faults self.new.disk) result }
     {
         if self.pending.is_some() {
             return Err(JournalFault::NotMended);
         }
         let needed = self.end + 6 + payload.len() as u32;
-        if needed > GREATEST_END {
+        if needed > GREATEST_FILE {
             return Err(JournalFault::Full(needed));
         }
         let bytes = record_bytes(alloc, payload)?;
@@ -153,31 +124,13 @@ impl<D: Disk> Journal<D> {
 impl<D: Disk> Journal<D> {
     /// Counts or drops the record in doubt: it counts where its gate is open after a sync. Takes no memory.
     pub fn mend(&mut self) -> Result<Mended, JournalFault>
-        ensures nothing { (result ≡ Ok Mended.Nothing) ↔ (self.old.pending ≡ None) }
-        ensures same { (result ≡ Ok Mended.Nothing) → self.new ≡ self.old }
-        ensures ok { OnOk result (self.new.pending ≡ None) }
-        ensures counted { result ≡ Ok Mended.Counted → IsTrue (D.tells self.new.disk) → (payload : List ℕ)
-            → self.old.pending ≡ Some payload → (self.new.contents ≡ with_one_more self.old.contents payload)
-            × Leaves (StandsFor (with_one_more self.old.contents payload)) (D.moments self.new.disk).now }
-        ensures dropped { result ≡ Ok Mended.Dropped → IsTrue (D.tells self.new.disk)
-            → (self.new.contents ≡ self.old.contents) × Leaves (StandsFor self.old.contents) (D.moments self.new.disk).now }
-        ensures adds_record { result ≡ Ok Mended.Counted → (payload : List ℕ) → self.old.pending ≡ Some payload
-            → AddsRecord (length payload) self.old self.new }
-        ensures keeps_records { (result ≡ Ok Mended.Counted) ⊎ KeepsRecords self.old self.new }
-        ensures open { result ≡ Ok Mended.Counted → IsTrue (D.tells self.new.disk)
-            → slice_index (D.moments self.old.disk).now.read self.old.end ≡ 0xa5 }
-        ensures shut { result ≡ Ok Mended.Dropped → IsTrue (D.tells self.new.disk)
-            → slice_index (D.moments self.old.disk).now.read self.old.end ≢ 0xa5 }
-        ensures err { OnErr result ((result ≡ Err JournalFault.DiskFault) × (self.new.pending ≡ self.old.pending)
-            × (IsTrue (D.tells self.new.disk) → self.new.contents ≡ self.old.contents)
-            × (self.new.end ≡ self.old.end)
-            × Rose (D.faults self.old.disk) (D.faults self.new.disk)) }
-        ensures synced { IsTrue (D.tells self.new.disk) → IsSynced (D.moments self.old.disk) (D.moments self.new.disk) }
-        ensures moments { IsTrue (D.tells self.new.disk) → (payload : List ℕ) → self.old.pending ≡ Some payload
-            → AtEach (IsBeforeOrAfter self.old.contents payload) (D.moments self.old.disk) (D.moments self.new.disk) }
+        ensures answer { Mends self.old self.new result }
+        ensures end { IsTrue (D.tells self.new.disk) → MendEnds self.old.pending self.old.contents self.new.contents self.old.end
+            (D.moments self.old.disk) (D.moments self.new.disk) result }
+        ensures moments { IsTrue (D.tells self.new.disk)
+            → MendLeaves self.old.pending self.old.contents (D.moments self.old.disk) (D.moments self.new.disk) }
         ensures tells { IsTrue (D.tells self.new.disk) → IsTrue (D.tells self.old.disk) }
-        ensures faults { D.faults self.old.disk ≤ D.faults self.new.disk }
-        ensures steady { OnOk result (D.faults self.new.disk ≡ D.faults self.old.disk) }
+        ensures faults { CountsFaults (D.faults self.old.disk) (D.faults self.new.disk) result }
     {
         let length = match &self.pending {
             None => return Ok(Mended::Nothing),
@@ -209,20 +162,13 @@ impl<D: Disk> Journal<D> {
         requires { (1 ≤ number) × (number ≤ length self.old.contents.payloads) }
         ensures payload { IfOk result (λ payload. IsTrue (D.tells self.new.disk)
             → slice_get self.old.contents.payloads (number - 1) ≡ Some payload.items) }
-        ensures contents { IsTrue (D.tells self.new.disk) → self.new.contents ≡ self.old.contents }
         ensures long { IfOk result (λ payload. IfSome (slice_get self.old.places (number - 1)) (λ place. length payload.items ≡ place.length)) }
-        ensures keeps_records { KeepsRecords self.old self.new }
-        ensures same { (self.new.end ≡ self.old.end) × (self.new.pending ≡ self.old.pending) }
-        ensures moments { IsTrue (D.tells self.new.disk) → D.moments self.new.disk ≡ D.moments self.old.disk }
-        ensures tells { IsTrue (D.tells self.new.disk) → IsTrue (D.tells self.old.disk) }
-        ensures cause { result ≡ Err JournalFault.DiskFault → Rose (D.faults self.old.disk) (D.faults self.new.disk) }
-        ensures errors { IfErr result (λ e. (e ≡ JournalFault.DiskFault) ⊎ (e ≡ JournalFault.NoMemory)) }
-        ensures faults { D.faults self.old.disk ≤ D.faults self.new.disk }
-        ensures steady { OnOk result (D.faults self.new.disk ≡ D.faults self.old.disk) }
-        ensures memory { result ≡ Err JournalFault.NoMemory → D.faults self.new.disk ≡ D.faults self.old.disk }
+        ensures keeps { KeepsAll D.tells self.old self.new }
+        ensures reads { OnlyReads D.tells D.moments self.old.disk self.new.disk }
+        ensures faults { CountsReading (D.faults self.old.disk) (D.faults self.new.disk) result }
     {
         let place = self.places[number as usize - 1];
-        read_place(alloc, &mut self.disk, place)
+        read_payload(alloc, &mut self.disk, place)
     }
 }
 
@@ -230,17 +176,12 @@ impl<D: Disk> Journal<D> {
     /// The journal that a scan found. Takes no memory.
     pub fn attach(disk: D, scan: Scanned) -> Journal<D>
         requires formed { IsFormed scan }
-        requires limits { HasLimits scan }
+        requires in_order { IsInOrder scan }
         requires scanned { IsTrue (D.tells disk) → IsSettled (D.moments disk).now × IsScan scan (D.moments disk).now.read }
-        ensures disk { result.disk ≡ disk }
-        ensures pending { result.pending ≡ None }
-        ensures contents { result.contents ≡ contents_of scan (D.moments disk).now.read }
-        ensures places { result.places ≡ places_in scan }
-        ensures end { result.end ≡ end_in scan }
+        ensures { Attaches D.moments disk scan result }
     {
         let Scanned::Formed {
-            clock,
-            digest,
+            header,
             records,
             end,
         } = scan
@@ -249,42 +190,21 @@ impl<D: Disk> Journal<D> {
         };
         Journal {
             disk,
-            clock,
-            digest,
+            header,
             places: records.into_vec(),
             end,
             pending: None,
         }
     }
 
-    /// Forms an unformed file.
-    pub fn form(
-        alloc: Global,
-        disk: D,
-        clock: u8,
-        digest: [u8; 32],
-    ) -> Result<Journal<D>, NotFormed<D>>
-        requires { IsTrue (D.tells disk) → IsSettled (D.moments disk).now × IsUnformed (D.moments disk).now.read }
-        ensures ok { IfOk result (λ j. (j.pending ≡ None) × (j.end ≡ 41) × (j.contents ≡ empty clock digest)) }
-        ensures places { IfOk result (λ j. j.places ≡ []) }
-        ensures every_image { IfOk result (λ j. IsTrue (D.tells j.disk)
-            → Leaves (StandsFor (empty clock digest)) (D.moments j.disk).now) }
-        ensures moments { IfOk result (λ j. IsTrue (D.tells j.disk)
-            → AtEach (IsUnformedOrEmpty clock digest) (D.moments disk) (D.moments j.disk)) }
-        // The header's bytes, and no others.
-        ensures written { IfOk result (λ j. IsTrue (D.tells j.disk) → (D.moments j.disk).now.read
-            ≡ overlaid (D.moments disk).now.read 0 (0xa5 ∷ header clock digest ++ 0 ∷ [])) }
-        ensures range { IfOk result (λ j. IsTrue (D.tells j.disk)
-            → AtEach (Torn 0 42 (D.moments disk).now.read) (D.moments disk) (D.moments j.disk)) }
-        ensures err_range { IfErr result (λ e. IsTrue (D.tells e.disk)
-            → AtEach (Torn 0 42 (D.moments disk).now.read) (D.moments disk) (D.moments e.disk)) }
-        ensures tells { IfOk result (λ j. IsTrue (D.tells j.disk) → IsTrue (D.tells disk)) }
-        ensures steady { IfOk result (λ j. D.faults j.disk ≡ D.faults disk) }
-        ensures err { IfErr result (λ e. (IsTrue (D.tells e.disk) → AtEach (IsUnformedOrEmpty clock digest) (D.moments disk) (D.moments e.disk))
-            × (IsTrue (D.tells e.disk) → IsTrue (D.tells disk)) × (D.faults disk ≤ D.faults e.disk)
-            × (((e.fault ≡ JournalFault.NoMemory) × (e.disk ≡ disk)) ⊎ ((e.fault ≡ JournalFault.DiskFault) × Rose (D.faults disk) (D.faults e.disk)))) }
+    /// Forms an unformed file. Its memory is taken before the first write.
+    pub fn form(alloc: Global, disk: D, header: &Header) -> Result<Journal<D>, NotFormed<D>>
+        requires header { IsHeader header.now }
+        requires unformed { IsTrue (D.tells disk) → IsSettled (D.moments disk).now × IsUnformed (D.moments disk).now.read }
+        ensures ok { IfOk result (λ j. Forms D.tells D.moments D.faults header.now disk j) }
+        ensures err { IfErr result (λ e. FailsToForm D.tells D.moments D.faults header.now disk e.disk e.fault) }
     {
-        let Ok(bytes) = header_bytes(alloc, clock, &digest) else {
+        let Ok(bytes) = head_bytes(alloc, header) else {
             return Err(NotFormed {
                 disk,
                 fault: JournalFault::NoMemory,
@@ -298,10 +218,9 @@ impl<D: Disk> Journal<D> {
             }),
             Ok(()) => Ok(Journal {
                 disk,
-                clock: clock as u32,
-                digest,
+                header: *header,
                 places: Vec::new(alloc),
-                end: FIRST_GATE,
+                end: header.first_gate(),
                 pending: None,
             }),
         }
@@ -317,18 +236,17 @@ fn push_reserved(places: &mut Vec<Place>, place: Place)
 }
 
 /// Reads a payload at its place; bytes that a disk has not are 0.
-fn read_place<D: Disk>(alloc: Global, disk: &mut D, place: Place) -> Result<Vec<u8>, JournalFault>
+pub fn read_payload<D: Disk>(
+    alloc: Global,
+    disk: &mut D,
+    place: Place,
+) -> Result<Vec<u8>, JournalFault>
     ensures long { IfOk result (λ payload. length payload.items ≡ place.length) }
     ensures payload { IfOk result (λ payload. IsTrue (D.tells disk.new)
         → length (payload_at (D.moments disk.old).now.read place) ≡ place.length
         → payload.items ≡ payload_at (D.moments disk.old).now.read place) }
-    ensures moments { IsTrue (D.tells disk.new) → D.moments disk.new ≡ D.moments disk.old }
-    ensures tells { IsTrue (D.tells disk.new) → IsTrue (D.tells disk.old) }
-    ensures cause { result ≡ Err JournalFault.DiskFault → Rose (D.faults disk.old) (D.faults disk.new) }
-    ensures errors { IfErr result (λ e. (e ≡ JournalFault.DiskFault) ⊎ (e ≡ JournalFault.NoMemory)) }
-    ensures faults { D.faults disk.old ≤ D.faults disk.new }
-    ensures steady { OnOk result (D.faults disk.new ≡ D.faults disk.old) }
-    ensures memory { result ≡ Err JournalFault.NoMemory → D.faults disk.new ≡ D.faults disk.old }
+    ensures reads { OnlyReads D.tells D.moments disk.old disk.new }
+    ensures faults { CountsReading (D.faults disk.old) (D.faults disk.new) result }
 {
     let mut payload = vec![in alloc; 0; place.length as usize]?;
     disk.read_at(place.at as u64, &mut payload)?;

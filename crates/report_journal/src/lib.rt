@@ -3,6 +3,7 @@
 
 mod chunks;
 mod faults;
+mod headers;
 mod heads;
 mod journal;
 pub mod laws;
@@ -12,7 +13,8 @@ mod spellings;
 mod steps;
 
 pub use faults::{JournalFault, Mended, NotFormed};
-pub use journal::Journal;
+pub use headers::Header;
+pub use journal::{Journal, read_payload};
 pub use places::{Place, Places};
 pub use scanning::{Scanned, scan};
 

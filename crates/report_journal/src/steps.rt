@@ -1,11 +1,13 @@
 //! The steps of a journal's calls on its disk: each writes a piece and syncs it.
-ghost use Rattle.std.specs.Prelude.{◌≡◌, ◌+◌, ◌^◌, ◌<◌, ◌≤◌, ◌↔◌, ◌⊎◌, [], ◌∷◌, List, ℕ, length, slice_index, IsTrue, IfOk, OnOk, OnErr};
+ghost use Rattle.std.specs.Prelude.{◌≡◌, ◌+◌, ◌^◌, ◌<◌, ◌≤◌, ◌↔◌, ◌⊎◌, [], ◌∷◌, List, ℕ, length, slice_index, IsTrue, IfOk, OnOk};
 ghost use Rattle.house_io.specs.Faults.{HasCause};
 ghost use Rattle.house_io.specs.Moments.{settled, IsSettled, overlaid, Torn, AtEach};
 ghost use Rattle.report_journal.specs.Format.{Contents, StandsFor, IsUnformed};
-ghost use Rattle.report_journal.specs.Puts.{Takes, with_one_more, empty, IsBeforeOrAfter, IsUnformedOrEmpty, IsShut, IsHeader, IsSynced};
+ghost use Rattle.report_journal.specs.Puts.{Takes, IsStage, with_one_more, empty, IsBeforeOrAfter, IsUnformedOrEmpty, IsShut, IsHead, IsSynced};
+ghost use Rattle.report_journal.specs.declared.headers.Header.{Header};
+ghost use Rattle.report_journal.specs.declared.spellings.TheConstants.{OPEN};
 
-use crate::spellings::{HEADER_LENGTH, OPEN};
+use crate::spellings::{OPEN, SHORTEST_FORMED, SHUT};
 use house_io::{Disk, Failed};
 
 /// Writes and syncs.
@@ -19,12 +21,34 @@ pub fn write_synced<D: Disk>(disk: &mut D, at: u64, bytes: &[u8]) -> Result<(), 
     ensures tells { IsTrue (D.tells disk.new) → IsTrue (D.tells disk.old) }
     ensures cause { HasCause (D.faults disk.old) (D.faults disk.new) result }
 {
+    // The sync comes after the write and before the answer: without it a crash could take back what a caller goes on to
+    // acknowledge (must-fail/acknowledged_before_the_sync.edit).
     disk.write_at(at, bytes)?;
     disk.sync()?;
     Ok(())
 }
 
-/// Puts the body of a record behind the closed gate, and then opens the gate.
+/// Writes the bytes after the closed gate, and then opens the gate.
+fn put_after_gate<D: Disk>(disk: &mut D, gate: u64, bytes: &[u8]) -> Result<(), Failed>
+    requires room { gate < 2 ^ 63 }
+    requires settled { IsTrue (D.tells disk.old) → IsSettled (D.moments disk.old).now }
+    requires within { IsTrue (D.tells disk.old) → gate + 1 ≤ length (D.moments disk.old).now.read }
+    ensures done { OnOk result (IsTrue (D.tells disk.new)
+        → (D.moments disk.new).now ≡ settled (overlaid (D.moments disk.old).now.read gate (OPEN ∷ bytes.now))) }
+    ensures moments { IsTrue (D.tells disk.new)
+        → AtEach (IsStage gate bytes.now (D.moments disk.old).now.read) (D.moments disk.old) (D.moments disk.new) }
+    ensures range { IsTrue (D.tells disk.new)
+        → AtEach (Torn gate (1 + length bytes.now) (D.moments disk.old).now.read) (D.moments disk.old) (D.moments disk.new) }
+    ensures tells { IsTrue (D.tells disk.new) → IsTrue (D.tells disk.old) }
+    ensures cause { HasCause (D.faults disk.old) (D.faults disk.new) result }
+{
+    // The bytes are on the disk before the gate is open: the other way round a crash could leave an open gate, and after it
+    // neither a record nor a header (must-fail/gate_first.edit).
+    write_synced(disk, gate + 1, bytes)?;
+    write_synced(disk, gate, &[OPEN])
+}
+
+/// Puts the body of a record after the closed gate, and then opens the gate.
 pub fn put_record<D: Disk>(disk: &mut D, gate: u64, bytes: &[u8]) -> Result<(), Failed>
     requires room { gate < 2 ^ 63 }
     requires settled { IsTrue (D.tells disk.old) → IsSettled (D.moments disk.old).now }
@@ -37,14 +61,13 @@ pub fn put_record<D: Disk>(disk: &mut D, gate: u64, bytes: &[u8]) -> Result<(), 
         → Takes x payload gate bytes.now (D.moments disk.old).now.read
         → AtEach (IsBeforeOrAfter x payload) (D.moments disk.old) (D.moments disk.new) }
     ensures written { OnOk result (IsTrue (D.tells disk.new)
-        → (D.moments disk.new).now.read ≡ overlaid (D.moments disk.old).now.read gate (0xa5 ∷ bytes.now)) }
+        → (D.moments disk.new).now.read ≡ overlaid (D.moments disk.old).now.read gate (OPEN ∷ bytes.now)) }
     ensures range { IsTrue (D.tells disk.new)
         → AtEach (Torn gate (1 + length bytes.now) (D.moments disk.old).now.read) (D.moments disk.old) (D.moments disk.new) }
     ensures tells { IsTrue (D.tells disk.new) → IsTrue (D.tells disk.old) }
     ensures cause { HasCause (D.faults disk.old) (D.faults disk.new) result }
 {
-    write_synced(disk, gate + 1, bytes)?;
-    write_synced(disk, gate, &[OPEN])
+    put_after_gate(disk, gate, bytes)
 }
 
 /// Closes the first gate of an unformed file that is too short.
@@ -60,46 +83,47 @@ pub fn shut_gate<D: Disk>(disk: &mut D) -> Result<(), Failed>
     ensures tells { IsTrue (D.tells disk.new) → IsTrue (D.tells disk.old) }
     ensures cause { HasCause (D.faults disk.old) (D.faults disk.new) result }
 {
-    if disk.size()? >= HEADER_LENGTH as u64 {
+    if disk.size()? >= SHORTEST_FORMED as u64 {
         return Ok(());
     }
-    write_synced(disk, 0, &[0])
+    write_synced(disk, 0, &[SHUT])
 }
 
-/// Writes the header behind the closed first gate, and then opens the gate.
+/// Writes the header after the closed first gate, and then opens the gate.
 pub fn put_header<D: Disk>(disk: &mut D, bytes: &[u8]) -> Result<(), Failed>
     requires { IsTrue (D.tells disk.old) → IsSettled (D.moments disk.old).now × IsShut (D.moments disk.old).now.read }
     ensures done { OnOk result (IsTrue (D.tells disk.new) → IsSettled (D.moments disk.new).now) }
-    ensures formed { OnOk result (IsTrue (D.tells disk.new) → (clock : ℕ) (digest : List ℕ)
-        → IsHeader clock digest bytes.now → StandsFor (empty clock digest) (D.moments disk.new).now.read) }
-    ensures moments { IsTrue (D.tells disk.new) → (clock : ℕ) (digest : List ℕ)
-        → IsHeader clock digest bytes.now → AtEach (IsUnformedOrEmpty clock digest) (D.moments disk.old) (D.moments disk.new) }
+    ensures formed { OnOk result (IsTrue (D.tells disk.new) → (header : Header)
+        → IsHead header bytes.now → StandsFor (empty header) (D.moments disk.new).now.read) }
+    ensures moments { IsTrue (D.tells disk.new) → (header : Header)
+        → IsHead header bytes.now → AtEach (IsUnformedOrEmpty header) (D.moments disk.old) (D.moments disk.new) }
     ensures written { OnOk result (IsTrue (D.tells disk.new)
-        → (D.moments disk.new).now.read ≡ overlaid (D.moments disk.old).now.read 0 (0xa5 ∷ bytes.now)) }
+        → (D.moments disk.new).now.read ≡ overlaid (D.moments disk.old).now.read 0 (OPEN ∷ bytes.now)) }
     ensures range { IsTrue (D.tells disk.new)
         → AtEach (Torn 0 (1 + length bytes.now) (D.moments disk.old).now.read) (D.moments disk.old) (D.moments disk.new) }
     ensures tells { IsTrue (D.tells disk.new) → IsTrue (D.tells disk.old) }
     ensures cause { HasCause (D.faults disk.old) (D.faults disk.new) result }
 {
-    write_synced(disk, 1, bytes)?;
-    write_synced(disk, 0, &[OPEN])
+    put_after_gate(disk, 0, bytes)
 }
 
 /// Forms an unformed file.
 pub fn form_file<D: Disk>(disk: &mut D, bytes: &[u8]) -> Result<(), Failed>
     requires { IsTrue (D.tells disk.old) → IsSettled (D.moments disk.old).now × IsUnformed (D.moments disk.old).now.read }
     ensures done { OnOk result (IsTrue (D.tells disk.new) → IsSettled (D.moments disk.new).now) }
-    ensures formed { OnOk result (IsTrue (D.tells disk.new) → (clock : ℕ) (digest : List ℕ)
-        → IsHeader clock digest bytes.now → StandsFor (empty clock digest) (D.moments disk.new).now.read) }
-    ensures moments { IsTrue (D.tells disk.new) → (clock : ℕ) (digest : List ℕ)
-        → IsHeader clock digest bytes.now → AtEach (IsUnformedOrEmpty clock digest) (D.moments disk.old) (D.moments disk.new) }
+    ensures formed { OnOk result (IsTrue (D.tells disk.new) → (header : Header)
+        → IsHead header bytes.now → StandsFor (empty header) (D.moments disk.new).now.read) }
+    ensures moments { IsTrue (D.tells disk.new) → (header : Header)
+        → IsHead header bytes.now → AtEach (IsUnformedOrEmpty header) (D.moments disk.old) (D.moments disk.new) }
     ensures written { OnOk result (IsTrue (D.tells disk.new)
-        → (D.moments disk.new).now.read ≡ overlaid (D.moments disk.old).now.read 0 (0xa5 ∷ bytes.now)) }
+        → (D.moments disk.new).now.read ≡ overlaid (D.moments disk.old).now.read 0 (OPEN ∷ bytes.now)) }
     ensures range { IsTrue (D.tells disk.new)
         → AtEach (Torn 0 (1 + length bytes.now) (D.moments disk.old).now.read) (D.moments disk.old) (D.moments disk.new) }
     ensures tells { IsTrue (D.tells disk.new) → IsTrue (D.tells disk.old) }
     ensures cause { HasCause (D.faults disk.old) (D.faults disk.new) result }
 {
+    // A short file may begin with an open gate by chance: were that not closed first, the bytes of the header would make it a
+    // file with an open gate and a torn header. `put_header` requires a closed one.
     shut_gate(disk)?;
     put_header(disk, bytes)
 }
@@ -109,7 +133,7 @@ pub fn is_open_now<D: Disk>(disk: &mut D, gate: u64) -> Result<bool, Failed>
     ensures moments { IsTrue (D.tells disk.new) → IsSynced (D.moments disk.old) (D.moments disk.new) }
     ensures settled { OnOk result (IsTrue (D.tells disk.new) → IsSettled (D.moments disk.new).now) }
     ensures open { IfOk result (λ is_open. IsTrue (D.tells disk.new)
-        → (IsTrue is_open ↔ (slice_index (D.moments disk.old).now.read gate ≡ 0xa5))) }
+        → (IsTrue is_open ↔ (slice_index (D.moments disk.old).now.read gate ≡ OPEN))) }
     ensures tells { IsTrue (D.tells disk.new) → IsTrue (D.tells disk.old) }
     ensures cause { HasCause (D.faults disk.old) (D.faults disk.new) result }
 {

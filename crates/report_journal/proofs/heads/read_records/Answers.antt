@@ -1,22 +1,22 @@
-use Rattle.std.proofs.Common.{◌≡◌, ◌+◌, ◌++◌, [], ◌∷◌, refl, sym, ◌∙◌, ap, subst, arith, length-append, lit≤, Ok}
+use Rattle.std.proofs.Common.{◌≡◌, ◌+◌, ◌++◌, [], ◌∷◌, refl, sym, ◌∙◌, ap, subst, arith, length-append, Ok}
 use Rattle.report_journal.specs.Scans.{IsChunk, AreRead, IsNext}
 use Rattle.report_journal.specs.declared.places.Place.{Place}
 use Rattle.report_journal.specs.declared.heads.Next.TheVariants.{Record}
 use Rattle.report_journal.proofs.Chunked.{chunk_none}
-use Rattle.report_journal.proofs.Placed.{follow_push, behind_push}
+use Rattle.report_journal.proofs.Placed.{follow_push, after_push}
 use Rattle.report_journal.proofs.Gates.{read_start, read_more}
 use Rattle.report_journal.proofs.heads.read_records.Goals as goal
 
 pub records-init : goal.records-init
 records-init g c = rw c.new-places.ensures.items (record {
-  limit = lit≤ tt;
-  roomy = lit≤ tt;
+  limit = c.requires.limit;
+  roomy = omega arith;
   tells = λ told. told;
   moments = λ told. refl;
-  read = λ told. read_start _ (c.requires.long told);
+  read = λ told. read_start _ c.args.first (c.requires.within told);
   chunk = λ told. chunk_none c.in_ok-chunk.chunk.bytes.items _ c.in_ok-chunk.chunk.at c.in_ok-chunk.chunk.filled c.in_ok-chunk.ensures;
   follow = tt;
-  behind = refl;
+  after = refl;
   faults = refl;
 })
 
@@ -35,14 +35,14 @@ records-preserved g c =
           let file = (g.D.Disk.moments c.args.disk.now).now.read in
           let next = subst (λ n. IsNext n c.records.gate (g.D.Disk.moments c.records.disk).now.read) c.in-Record.is (c.in_ok-next_record.ensures.found told) in
           let next_there = subst (λ ms. IsNext (Record c.in-Record.length) c.records.gate ms.now.read) (before.moments told_before) next in
-          let more = read_more c.records.places.items c.records.gate c.in-Record.length file (before.read told_before) next_there limits.0 in
+          let more = read_more c.args.first c.records.places.items c.records.gate c.in-Record.length file (before.read told_before) next_there limits.0 in
           let e : c.records.gate + 5 + c.in-Record.length ≡ c.records.gate + (5 + c.in-Record.length) = omega arith in
-          subst (λ gate. AreRead (c.records.places.items ++ place ∷ []) gate file) e more;
+          subst (λ gate. AreRead c.args.first (c.records.places.items ++ place ∷ []) gate file) e more;
       chunk = λ told.
           let told_before = c.next_record.ensures.tells told in
           subst (λ ms. IsChunk c.next_record.new.chunk.bytes.items c.next_record.new.chunk.at c.next_record.new.chunk.filled ms.now.read) (before.moments told_before) (c.in_ok-next_record.ensures.chunk told);
-      follow = follow_push c.records.places.items place 41 before.follow (omega (arith, before.behind)) limits.0;
-      behind = omega (arith, behind_push c.records.places.items place 41, before.behind);
+      follow = follow_push c.records.places.items place c.args.first before.follow (omega (arith, before.after)) limits.0;
+      after = omega (arith, after_push c.records.places.items place c.args.first, before.after);
       faults = c.in_ok-next_record.ensures.cause.steady ∙ before.faults;
     })
 

@@ -1,6 +1,7 @@
 use Rattle.std.proofs.Common.{◌+◌, ◌∷◌, length, inl, ⊎_elim, ◌∙◌, ap, arith}
 use Rattle.std.proofs.lemmas.Result.{on_ok_weaker}
 use Rattle.house_io.specs.Moments.{overlaid}
+use Rattle.report_journal.specs.declared.spellings.TheConstants.{OPEN}
 use Rattle.house_io.proofs.Moments.{at_both, at_weaker}
 use Rattle.report_journal.specs.Format.{IsUnformed}
 use Rattle.report_journal.specs.Puts.{IsUnformedOrEmpty}
@@ -8,14 +9,14 @@ use Rattle.report_journal.proofs.Spans.{at_wider, at_twice, overlaid_over}
 use Rattle.report_journal.proofs.steps.form_file.Goals as goal
 
 pub returns-in_err-shut_gate-clause-moments : goal.returns-in_err-shut_gate-clause-moments
-returns-in_err-shut_gate-clause-moments g c told clock digest is_header =
-    at_weaker IsUnformed (IsUnformedOrEmpty clock digest) _ _ (λ f unformed. inl unformed) (c.shut_gate.ensures.moments told)
+returns-in_err-shut_gate-clause-moments g c told header is_header =
+    at_weaker IsUnformed (IsUnformedOrEmpty header) _ _ (λ f unformed. inl unformed) (c.shut_gate.ensures.moments told)
 
 pub returns-clause-moments : goal.returns-clause-moments
-returns-clause-moments g c told clock digest is_header =
-    at_both (IsUnformedOrEmpty clock digest) _ _ _
-    (at_weaker IsUnformed (IsUnformedOrEmpty clock digest) _ _ (λ f unformed. inl unformed) (c.shut_gate.ensures.moments (c.put_header.ensures.tells told)))
-    (c.put_header.ensures.moments told clock digest is_header)
+returns-clause-moments g c told header is_header =
+    at_both (IsUnformedOrEmpty header) _ _ _
+    (at_weaker IsUnformed (IsUnformedOrEmpty header) _ _ (λ f unformed. inl unformed) (c.shut_gate.ensures.moments (c.put_header.ensures.tells told)))
+    (c.put_header.ensures.moments told header is_header)
 
 pub returns-in_err-shut_gate-clause-range : goal.returns-in_err-shut_gate-clause-range
 returns-in_err-shut_gate-clause-range g c told =
@@ -29,6 +30,6 @@ pub returns-clause-written : goal.returns-clause-written
 returns-clause-written g c = on_ok_weaker c.put_header.result (λ done told.
     let file = (g.D.Disk.moments c.args.disk.now).now.read in
     ⊎_elim
-    (λ same. done told ∙ ap (λ f. overlaid f 0 (0xa5 ∷ c.args.bytes.now)) same)
-    (λ shut. done told ∙ ap (λ f. overlaid f 0 (0xa5 ∷ c.args.bytes.now)) shut ∙ overlaid_over file c.args.bytes.now 0xa5 0)
+    (λ same. done told ∙ ap (λ f. overlaid f 0 (OPEN ∷ c.args.bytes.now)) same)
+    (λ shut. done told ∙ ap (λ f. overlaid f 0 (OPEN ∷ c.args.bytes.now)) shut ∙ overlaid_over file c.args.bytes.now OPEN 0)
     (c.in_ok-shut_gate.ensures.written (c.put_header.ensures.tells told))) c.put_header.ensures.written

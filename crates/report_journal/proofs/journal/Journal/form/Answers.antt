@@ -1,13 +1,56 @@
-use Rattle.std.proofs.Common.{refl, inl, sym, subst, arith}
+use Rattle.std.proofs.Common.{◌∷◌, ◌∙◌, refl, sym, ap, subst, arith}
+use Rattle.house_io.specs.Moments.{overlaid}
 use Rattle.house_io.proofs.Moments.{leaves_here}
-use Rattle.report_journal.specs.Puts.{IsHeader}
-use Rattle.report_journal.proofs.Forming.{not_begun}
+use Rattle.report_journal.specs.declared.spellings.TheConstants.{OPEN}
+use Rattle.report_journal.specs.Puts.{IsHead}
+use Rattle.report_journal.proofs.Forming.{not_written, form_leaves, empty_size}
+use Rattle.report_journal.proofs.Prefixes.{header_within}
 use Rattle.report_journal.proofs.journal.Journal.form.Goals as goal
 
 pub returns-in_default-clause-err : goal.returns-in_default-clause-err
-returns-in_default-clause-err g c = (λ told. not_begun _ _ _ (c.requires told), λ told. told, omega arith, inl (refl, refl))
+returns-in_default-clause-err g c = record {
+  refuses = refl;
+  told = λ told. told;
+  leaves = λ told. not_written c.args.header.now _ (c.requires.unformed told);
+}
 
-pub returns-clause-every_image : goal.returns-clause-every_image
-returns-clause-every_image g c told =
-    let is_header = subst (IsHeader c.args.clock c.args.digest) (sym c.deref.ensures.value) c.in-Ok.ensures in
-    leaves_here _ _ (c.in-Ok-form_file.ensures.done told) (c.in-Ok-form_file.ensures.formed told _ _ is_header)
+pub returns-in-Err-clause-err : goal.returns-in-Err-clause-err
+returns-in-Err-clause-err g c =
+    let is_head = subst (IsHead c.args.header.now) (sym c.deref.ensures.value) c.in-Ok.ensures in
+    record {
+      refuses = (c.in-Err.ensures.cause.later, c.in-Err.ensures.cause.failed);
+      told = λ told. c.form_file.ensures.tells told;
+      leaves = λ told. form_leaves c.args.header.now c.deref.result.now is_head _ _ (c.form_file.ensures.moments told c.args.header.now is_head) (c.form_file.ensures.range told);
+    }
+
+pub invariant_of-result : goal.invariant_of-result
+invariant_of-result g c =
+    let is_head = subst (IsHead c.args.header.now) (sym c.deref.ensures.value) c.in-Ok.ensures in
+    rw c.new.ensures.items (
+      record {
+        spelled = c.requires.header;
+        limit = omega (arith, c.first_gate.ensures, header_within c.args.header.now c.requires.header);
+        roomy = omega arith;
+        room = tt;
+      },
+      λ told. record {
+        stands = (c.in-Ok-form_file.ensures.done told, c.in-Ok-form_file.ensures.formed told c.args.header.now is_head);
+        placed = tt;
+        size = empty_size c.args.header.now ∙ sym c.first_gate.ensures;
+      },
+    )
+
+pub returns-clause-ok : goal.returns-clause-ok
+returns-clause-ok g c =
+    let is_head = subst (IsHead c.args.header.now) (sym c.deref.ensures.value) c.in-Ok.ensures in
+    rw c.new.ensures.items (record {
+      contents = refl;
+      places = refl;
+      end = c.first_gate.ensures;
+      pending = refl;
+      steady = c.in-Ok-form_file.ensures.cause.steady;
+      told = λ told. c.form_file.ensures.tells told;
+      every_image = λ told. leaves_here _ _ (c.in-Ok-form_file.ensures.done told) (c.in-Ok-form_file.ensures.formed told c.args.header.now is_head);
+      written = λ told. c.in-Ok-form_file.ensures.written told ∙ ap (λ bytes. overlaid (g.D.Disk.moments c.args.disk).now.read 0 (OPEN ∷ bytes)) is_head.spelled;
+      leaves = λ told. form_leaves c.args.header.now c.deref.result.now is_head _ _ (c.form_file.ensures.moments told c.args.header.now is_head) (c.form_file.ensures.range told);
+    })

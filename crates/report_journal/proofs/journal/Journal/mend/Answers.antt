@@ -1,85 +1,82 @@
-use Rattle.std.proofs.Common.{◌≡◌, ◌+◌, ◌<◌, ◌≤◌, ◌++◌, [], ◌∷◌, length, vec_len, vec_capacity, Some, refl, ap, subst, arith, rules, length-append}
+use Rattle.std.proofs.Common.{◌≡◌, ◌+◌, ◌<◌, ◌≤◌, [], ◌∷◌, length, vec_capacity, Some, refl, ap, subst, arith, rules, length-append}
 use Rattle.std.specs.Option.{option_map}
-use Rattle.report_journal.specs.Journals.{said, HasRoom}
 use Rattle.house_io.proofs.Moments.{leaves_here}
-use Rattle.report_journal.proofs.Kept.{Counts, is_false, is_true, mend_moments, still_is, still_kept, dropped, drop_kept, counted, put_is, put_kept}
+use Rattle.lot_base.specs.declared.limits.TheConstants.{GREATEST_FILE}
+use Rattle.report_journal.specs.Journals.{HasRoom}
+use Rattle.report_journal.proofs.Kept.{is_false, is_true, mend_leaves, still_is, still_kept, dropped, drop_kept, counted, put_is, put_kept}
 use Rattle.report_journal.proofs.journal.Journal.mend.Goals as goal
 
 pub returns-in-Err-clause-moments : goal.returns-in-Err-clause-moments
-returns-in-Err-clause-moments g c = rw (← c.self.view_is) (λ told payload is.
-    let kept = rw is at (c.self.invariant.3 (c.is_open_now.ensures.tells told)) in
-    mend_moments _ _ _ _ _ (g.D.Disk.moments c.is_open_now.new.disk) payload kept (c.is_open_now.ensures.moments told))
+returns-in-Err-clause-moments g c = rw (← c.self.view_is) (λ told.
+    mend_leaves _ _ _ _ _ _ (c.self.invariant.1 (c.is_open_now.ensures.tells told)) (c.is_open_now.ensures.moments told))
 
 pub returns-in-Ok-true-clause-moments : goal.returns-in-Ok-true-clause-moments
-returns-in-Ok-true-clause-moments g c = rw (← c.self.view_is) (λ told payload is.
-    let kept = rw is at (c.self.invariant.3 (c.is_open_now.ensures.tells told)) in
-    mend_moments _ _ _ _ _ (g.D.Disk.moments c.is_open_now.new.disk) payload kept (c.is_open_now.ensures.moments told))
+returns-in-Ok-true-clause-moments g c = rw (← c.self.view_is) (λ told.
+    mend_leaves _ _ _ _ _ _ (c.self.invariant.1 (c.is_open_now.ensures.tells told)) (c.is_open_now.ensures.moments told))
 
 pub returns-in-Ok-false-clause-moments : goal.returns-in-Ok-false-clause-moments
-returns-in-Ok-false-clause-moments g c = rw (← c.self.view_is) (λ told payload is.
-    let kept = rw is at (c.self.invariant.3 (c.is_open_now.ensures.tells told)) in
-    mend_moments _ _ _ _ _ (g.D.Disk.moments c.is_open_now.new.disk) payload kept (c.is_open_now.ensures.moments told))
+returns-in-Ok-false-clause-moments g c = rw (← c.self.view_is) (λ told.
+    mend_leaves _ _ _ _ _ _ (c.self.invariant.1 (c.is_open_now.ensures.tells told)) (c.is_open_now.ensures.moments told))
 
 pub invariant_of-self : goal.invariant_of-self
 invariant_of-self g c = (
   c.self.invariant.0,
-  c.self.invariant.1,
-  c.self.invariant.2,
   λ told.
       let pending : option_map (λ p. p.items) c.self.inside.pending ≡ Some c.in-Some.payload.items = ap (option_map (λ p. p.items)) c.in-Some.is in
-      let kept = rw pending at (c.self.invariant.3 (c.is_open_now.ensures.tells told)) in
+      let kept = rw pending at (c.self.invariant.1 (c.is_open_now.ensures.tells told)) in
       let synced = c.is_open_now.ensures.moments told in
-      rw pending (still_kept _ _ _ _ _ _ c.in-Some.payload.items kept synced),
+      rw pending (still_kept _ _ _ _ _ c.in-Some.payload.items kept synced),
 )
 
 pub invariant_of-self-in-Ok-false : goal.invariant_of-self-in-Ok-false
 invariant_of-self-in-Ok-false g c = (
-  c.self.invariant.0,
-  c.self.invariant.1,
-  tt,
+  record { spelled = c.self.invariant.0.spelled; limit = c.self.invariant.0.limit; roomy = c.self.invariant.0.roomy; room = tt },
   λ told.
       let pending : option_map (λ p. p.items) c.self.inside.pending ≡ Some c.in-Some.payload.items = ap (option_map (λ p. p.items)) c.in-Some.is in
-      let kept = rw pending at (c.self.invariant.3 (c.is_open_now.ensures.tells told)) in
+      let kept = rw pending at (c.self.invariant.1 (c.is_open_now.ensures.tells told)) in
       let synced = c.is_open_now.ensures.moments told in
-      drop_kept _ _ _ _ _ _ c.in-Some.payload.items kept synced (c.in-Ok-false.ensures.settled told) (λ opened. is_false (c.in-Ok-false.ensures.open told) c.in-Ok-false.field-0-test opened),
+      drop_kept _ _ _ _ _ c.in-Some.payload.items kept synced (c.in-Ok-false.ensures.settled told) (λ opened. is_false (c.in-Ok-false.ensures.open told) c.in-Ok-false.field-0-test opened),
 )
 
 pub invariant_of-self-in-Ok-true : goal.invariant_of-self-in-Ok-true
 invariant_of-self-in-Ok-true g c =
-    let room : (c.self.inside.end + 6 + length c.in-Some.payload.items ≤ 67108864) × (vec_len c.self.inside.places < vec_capacity c.self.inside.places) =
-    subst (λ p. HasRoom c.self.inside.end (vec_len c.self.inside.places) (vec_capacity c.self.inside.places) p) (ap (option_map (λ p. p.items)) c.in-Some.is) c.self.invariant.2 in
+    let room : (c.self.inside.end + 6 + length c.in-Some.payload.items ≤ GREATEST_FILE) × (length c.self.inside.places.items < vec_capacity c.self.inside.places) =
+    subst (λ p. HasRoom c.self.inside.end (length c.self.inside.places.items) (vec_capacity c.self.inside.places) p) (ap (option_map (λ p. p.items)) c.in-Some.is) c.self.invariant.0.room in
     let long : c.len.result ≡ length c.in-Some.payload.items = search rules in
     rw c.push_reserved.ensures (
-      omega (arith, room, long),
-      omega (arith, c.self.invariant.1, length-append c.self.inside.places.items (record { at = c.self.inside.end + 5; length = c.len.result } ∷ [])),
-      tt,
+      record {
+        spelled = c.self.invariant.0.spelled;
+        limit = omega (arith, room, long);
+        roomy = omega (arith, c.self.invariant.0.roomy, length-append c.self.inside.places.items (record { at = c.self.inside.end + 5; length = c.len.result } ∷ []));
+        room = tt;
+      },
       λ told.
           let pending : option_map (λ p. p.items) c.self.inside.pending ≡ Some c.in-Some.payload.items = ap (option_map (λ p. p.items)) c.in-Some.is in
-          let kept = rw pending at (c.self.invariant.3 (c.is_open_now.ensures.tells told)) in
+          let kept = rw pending at (c.self.invariant.1 (c.is_open_now.ensures.tells told)) in
           let synced = c.is_open_now.ensures.moments told in
           let opened = is_true (c.in-Ok-true.ensures.open told) c.in-Ok-true.field-0-test in
-          let has_it = counted _ _ _ _ _ (g.D.Disk.moments c.is_open_now.new.disk) c.in-Some.payload.items kept synced opened in
-          put_kept _ _ _ _ _ c.in-Some.payload.items _ kept _ (g.D.Disk.moments c.is_open_now.new.disk) (c.in-Ok-true.ensures.settled told) has_it refl long _ (omega (arith, long)),
+          let has_it = counted _ _ _ _ (g.D.Disk.moments c.is_open_now.new.disk) c.in-Some.payload.items kept synced opened in
+          put_kept _ _ _ _ c.in-Some.payload.items _ kept _ (g.D.Disk.moments c.is_open_now.new.disk) (c.in-Ok-true.ensures.settled told) has_it refl long _ (omega (arith, long)),
     )
 
-pub returns-in-Ok-true-clause-counted : goal.returns-in-Ok-true-clause-counted
-returns-in-Ok-true-clause-counted g c is_counted = rw (← c.self.view_is, c.push_reserved.ensures) (λ told payload is.
+pub returns-in-Ok-true-clause-end : goal.returns-in-Ok-true-clause-end
+returns-in-Ok-true-clause-end g c = rw (← c.self.view_is, c.push_reserved.ensures) (λ told.
     let long : c.len.result ≡ length c.in-Some.payload.items = search rules in
     let pending : option_map (λ p. p.items) c.self.inside.pending ≡ Some c.in-Some.payload.items = ap (option_map (λ p. p.items)) c.in-Some.is in
-    let kept = rw pending at (c.self.invariant.3 (c.is_open_now.ensures.tells told)) in
+    let kept = rw pending at (c.self.invariant.1 (c.is_open_now.ensures.tells told)) in
     let synced = c.is_open_now.ensures.moments told in
     let opened = is_true (c.in-Ok-true.ensures.open told) c.in-Ok-true.field-0-test in
-    let has_it = counted _ _ _ _ _ (g.D.Disk.moments c.is_open_now.new.disk) c.in-Some.payload.items kept synced opened in
+    let has_it = counted _ _ _ _ (g.D.Disk.moments c.is_open_now.new.disk) c.in-Some.payload.items kept synced opened in
     let settled_now = c.in-Ok-true.ensures.settled told in
-    let same : c.in-Some.payload.items ≡ payload = cc (pending, is) in
-    subst (λ p. Counts (said c.self.inside.clock c.self.inside.digest c.self.inside.places.items (g.D.Disk.moments c.self.inside.disk).now.read) (said c.self.inside.clock c.self.inside.digest (c.self.inside.places.items ++ record { at = c.self.inside.end + 5; length = c.len.result } ∷ []) (g.D.Disk.moments c.is_open_now.new.disk).now.read) p (g.D.Disk.moments c.is_open_now.new.disk).now) same
-    (put_is _ _ _ _ _ c.in-Some.payload.items _ kept _ (g.D.Disk.moments c.is_open_now.new.disk) settled_now has_it refl long, leaves_here _ _ settled_now has_it))
+    rw pending ((put_is _ _ _ _ c.in-Some.payload.items _ kept _ (g.D.Disk.moments c.is_open_now.new.disk) settled_now has_it refl long, leaves_here _ _ settled_now has_it), opened))
 
-pub returns-in-Ok-false-clause-dropped : goal.returns-in-Ok-false-clause-dropped
-returns-in-Ok-false-clause-dropped g c is_dropped = rw (← c.self.view_is) (λ told.
+pub returns-in-Ok-false-clause-end : goal.returns-in-Ok-false-clause-end
+returns-in-Ok-false-clause-end g c = rw (← c.self.view_is) (λ told.
     let pending : option_map (λ p. p.items) c.self.inside.pending ≡ Some c.in-Some.payload.items = ap (option_map (λ p. p.items)) c.in-Some.is in
-    let kept = rw pending at (c.self.invariant.3 (c.is_open_now.ensures.tells told)) in
-    let synced = c.is_open_now.ensures.moments told in (
-      still_is _ _ _ _ _ (g.D.Disk.moments c.is_open_now.new.disk) c.in-Some.payload.items kept synced,
-      leaves_here _ _ (c.in-Ok-false.ensures.settled told) (dropped _ _ _ _ _ _ c.in-Some.payload.items kept synced (λ opened. is_false (c.in-Ok-false.ensures.open told) c.in-Ok-false.field-0-test opened)),
+    let kept = rw pending at (c.self.invariant.1 (c.is_open_now.ensures.tells told)) in
+    let synced = c.is_open_now.ensures.moments told in
+    let closed = is_false (c.in-Ok-false.ensures.open told) c.in-Ok-false.field-0-test in (
+      still_is _ _ _ _ (g.D.Disk.moments c.is_open_now.new.disk) c.in-Some.payload.items kept synced,
+      leaves_here _ _ (c.in-Ok-false.ensures.settled told) (dropped _ _ _ _ _ c.in-Some.payload.items kept synced closed),
+      closed,
     ))

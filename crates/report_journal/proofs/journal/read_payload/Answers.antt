@@ -1,6 +1,6 @@
 use Rattle.std.proofs.Common.{◌≡◌, ◌∙◌, ◌-◌, ap, min, length, drop, rules}
 use Rattle.report_journal.proofs.Placed.{read_back}
-use Rattle.report_journal.proofs.journal.read_place.Goals as goal
+use Rattle.report_journal.proofs.journal.read_payload.Goals as goal
 
 pub returns-clause-payload : goal.returns-clause-payload
 returns-clause-payload g c told whole =
