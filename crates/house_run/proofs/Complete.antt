@@ -5,7 +5,7 @@ use Rattle.std.proofs.lemmas.Fmt.{decimal_injective}
 use Rattle.std.proofs.Props.{props}
 use Rattle.house_io.specs.Faults.{Rose}
 use Rattle.house_io.specs.Shelves.{NamedFile, IfTells}
-use Rattle.lot_base.specs.Goods.{IsSupply, IsRange}
+use Rattle.lot_base.specs.Goods.{IsOpening, IsSupply, IsRange, zeros}
 use Rattle.lot_base.specs.declared.auction_terms.Terms.{Terms}
 use Rattle.auction_file.specs.AuctionFile.{auction_of}
 use Rattle.house_run.specs.Words.{Check, Command, Fold, Spells, IsFold, comma_list}
@@ -23,20 +23,49 @@ supply-one supply = hlevel props
 range-one : (low high n : ℕ) (s r : IsRange low high n) → s ≡ r
 range-one low high n = hlevel props
 
+opening-one : (supply : List ℕ) (ceiling : ℕ) (opening : List ℕ) (s r : IsOpening supply ceiling opening) → s ≡ r
+opening-one supply ceiling opening = hlevel props
+
+first-one : (version : ℕ) (goods opening : List ℕ) (s r : version ≡ 1 → opening ≡ zeros goods) → s ≡ r
+first-one version goods opening = hlevel props
+
 -- terms of the same numbers are the same
-terms-same : (t u : Terms) → t.goods ≡ u.goods → t.bidders ≡ u.bidders → t.ceiling ≡ u.ceiling → t ≡ u
-terms-same t u g b c =
-    let F : List ℕ → ℕ → ℕ → Type 0 = λ goods bidders ceiling. (s : IsSupply goods) (r : IsRange 1 12 bidders) (q : IsRange 2 10000 ceiling)
-    → t ≡ record { goods = goods; bidders = bidders; ceiling = ceiling; supply = s; bidders_in_range = r; ceiling_in_range = q } in
-    let start : F t.goods t.bidders t.ceiling = λ s r q i. record {
+terms-same : (t u : Terms) → t.goods ≡ u.goods → t.bidders ≡ u.bidders → t.ceiling ≡ u.ceiling → t.version ≡ u.version → t.opening ≡ u.opening → t ≡ u
+terms-same t u g b c v o =
+    let F : List ℕ → ℕ → ℕ → ℕ → List ℕ → Type 0 = λ goods bidders ceiling version opening.
+    (s : IsSupply goods) (r : IsRange 1 12 bidders) (q : IsRange 2 10000 ceiling) (w : IsRange 1 2 version) (p : IsOpening goods ceiling opening) (f : version ≡ 1 → opening ≡ zeros goods) → t ≡ record {
+      goods = goods;
+      bidders = bidders;
+      ceiling = ceiling;
+      version = version;
+      opening = opening;
+      supply = s;
+      bidders_in_range = r;
+      ceiling_in_range = q;
+      version_in_range = w;
+      opens = p;
+      first_opens_at_zero = f;
+    } in
+    let start : F t.goods t.bidders t.ceiling t.version t.opening = λ s r q w p f i. record {
       goods = t.goods;
       bidders = t.bidders;
       ceiling = t.ceiling;
+      version = t.version;
+      opening = t.opening;
       supply = supply-one t.goods t.supply s i;
       bidders_in_range = range-one 1 12 t.bidders t.bidders_in_range r i;
       ceiling_in_range = range-one 2 10000 t.ceiling t.ceiling_in_range q i;
+      version_in_range = range-one 1 2 t.version t.version_in_range w i;
+      opens = opening-one t.goods t.ceiling t.opening t.opens p i;
+      first_opens_at_zero = first-one t.version t.goods t.opening t.first_opens_at_zero f i;
     } in
-    subst (λ goods. F goods u.bidders u.ceiling) g (subst (λ n. F t.goods n u.ceiling) b (subst (λ n. F t.goods t.bidders n) c start)) u.supply u.bidders_in_range u.ceiling_in_range
+    let same : F u.goods u.bidders u.ceiling u.version u.opening =
+    subst (λ goods. F goods u.bidders u.ceiling u.version u.opening) g
+    (subst (λ n. F t.goods n u.ceiling u.version u.opening) b
+    (subst (λ n. F t.goods t.bidders n u.version u.opening) c
+    (subst (λ n. F t.goods t.bidders t.ceiling n u.opening) v
+    (subst (λ prices. F t.goods t.bidders t.ceiling t.version prices) o start)))) in
+    same u.supply u.bidders_in_range u.ceiling_in_range u.version_in_range u.opens u.first_opens_at_zero
 
 goods-same : (s t : List ℕ) → IsSupply s → IsSupply t → comma_list s ≡ comma_list t → s ≡ t
 goods-same s t is it e =
@@ -53,10 +82,13 @@ fold-once t u log name words is it =
     let b : decimal t.bidders ≡ decimal u.bidders = cc in
     let c : decimal t.ceiling ≡ decimal u.ceiling = cc in
     let l : log ≡ name = cc in
+    let goods = goods-same t.goods u.goods t.supply u.supply g in
     record {
-      same_terms = terms-same t u (goods-same t.goods u.goods t.supply u.supply g)
+      same_terms = terms-same t u goods
           (decimal_injective t.bidders u.bidders (let r = t.bidders_in_range.at_most in omega arith) (let r = u.bidders_in_range.at_most in omega arith) b)
-          (decimal_injective t.ceiling u.ceiling (let r = t.ceiling_in_range.at_most in omega arith) (let r = u.ceiling_in_range.at_most in omega arith) c);
+          (decimal_injective t.ceiling u.ceiling (let r = t.ceiling_in_range.at_most in omega arith) (let r = u.ceiling_in_range.at_most in omega arith) c)
+          (is.version_is ∙ sym it.version_is)
+          (t.first_opens_at_zero is.version_is ∙ ap zeros goods ∙ sym (u.first_opens_at_zero it.version_is));
       same_log = l;
     }
 

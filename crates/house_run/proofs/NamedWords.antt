@@ -71,4 +71,4 @@ spells-fold f a b c d supply bidders ceiling log words terms named supply_is bid
     let l = same-word (first_value f d) four.fourth log four.fourth_is log_is in
     let same = four.words_are ∙ (λ i. s i ∷ n i ∷ m i ∷ l i ∷ []) in
     let P : List (List ℕ) → Type 0 = λ ws. AllByRecursion IsPlainWord ws in
-    record { words_are = ap (λ ws. codes "fold" ∷ ws) same; log_is = (subst P same plain).1.1.1.0 }
+    record { version_is = read.version_is; words_are = ap (λ ws. codes "fold" ∷ ws) same; log_is = (subst P same plain).1.1.1.0 }

@@ -5,6 +5,7 @@ use Rattle.std.specs.declared.alloc.Global.{Global}
 use Rattle.house_io.specs.Faults.{Rose}
 use Rattle.house_io.specs.Told.{IfTold}
 use Rattle.house_io.specs.Shelves.{NamedFile, IfTells, ChangesNone, RisesOnly, bytes_of, with_name}
+use Rattle.lot_base.specs.declared.limits.TheConstants.{GREATEST_FILE}
 use Rattle.lot_base.specs.declared.auction_terms.Terms.{Terms}
 use Rattle.clock.specs.Reports.{ClockHistory}
 use Rattle.outcome_text.specs.Lines.{line}
@@ -86,7 +87,7 @@ pub record IsRead (shelf : ShelfSeen) (name : List ℕ) (limit : ℕ) (read : Li
 
 -- the greatest number of bytes of a log, and of an auction file
 abbrev pub log_limit : ℕ
-log_limit = 67108864
+log_limit = GREATEST_FILE
 
 abbrev pub auction_limit : ℕ
 auction_limit = 65536

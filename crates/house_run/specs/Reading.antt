@@ -4,7 +4,7 @@ use Rattle.std.specs.declared.alloc.Global.{Global}
 use Rattle.lot_base.specs.declared.raw.RawReport.{RawReport}
 use Rattle.lot_base.specs.declared.auction_terms.Terms.{Terms}
 use Rattle.demand_set.specs.declared.reports.Report.{Report}
-use Rattle.clock.specs.Reports.{ClockHistory}
+use Rattle.clock.specs.Reports.{ClockHistory, ClockOf}
 use Rattle.auction_file.specs.AuctionFile.{Listing, auction_of}
 use Rattle.auction_file.specs.declared.faults.AuctionFault.{AuctionFault}
 use Rattle.auction_file.specs.declared.faults.AuctionFault.TheVariants as refused
@@ -15,7 +15,7 @@ use Rattle.house_run.specs.Logs.{IsLogOf, IsFaultyAt}
 use Rattle.house_run.specs.Texts.{standing_of, check_text}
 
 abbrev pub spelled : RawReport → SpelledReport
-spelled r = record { bidder = r.bidder; round = r.round; goods = r.demand.goods; quantities = r.demand.quantities.items }
+spelled r = record { bidder = r.bidder; round = r.round; goods = r.demand.goods; quantities = r.demand.quantities }
 
 -- the report that is read is the one that is spelled
 abbrev pub IsSpelledAs : Option RawReport → Option SpelledReport → Type 0
@@ -28,8 +28,8 @@ IsReportIn None c found = (rest : List ℕ) → report_in c (Some found) rest �
 IsReportIn (Some r) c found = (rest : List ℕ) → report_in c (Some found) rest ≡ Some (r, rest)
 
 -- it is what the log gives, unless memory runs out
-abbrev pub IsLogOrNoMemory : Result ClockHistory LogFault → Result ClockHistory ℕ → Type 0
-IsLogOrNoMemory (Ok c) log = log ≡ Ok c
+abbrev pub IsLogOrNoMemory : Result ClockOf LogFault → Result ClockHistory ℕ → Type 0
+IsLogOrNoMemory (Ok c) log = log ≡ Ok c.history
 IsLogOrNoMemory (Err (fault.Faulty place)) log = log ≡ Err place
 IsLogOrNoMemory (Err fault.NoMemory) log = Unit {0}
 

@@ -29,4 +29,5 @@ number_of (fault.UnknownKey key) = 9
 number_of (fault.Version value) = 10
 number_of (fault.BadName key) = 11
 number_of (fault.BadSupply good value) = 12
+number_of (fault.Opening good value) = 13
 number_of fault.NoMemory = 0

@@ -25,14 +25,17 @@ pub data Command : Type 0 where
   Fold : Terms → List ℕ → Command
   Check : List ℕ → Command
 
--- the words of the terms: the supply of each good joined by commas, the number of bidders, the ceiling
+-- the words of the terms, which are of the first version: the supply of each good joined by commas, the number of bidders, the
+-- ceiling
 pub record AreTermWords (terms : Terms) (supply bidders ceiling : List ℕ) : Type 0 where
+  pub version_is : terms.version ≡ 1
   pub supply_is : supply ≡ comma_list terms.goods
   pub bidders_are : bidders ≡ decimal terms.bidders
   pub ceiling_is : ceiling ≡ decimal terms.ceiling
 
--- The words are `fold SUPPLY BIDDERS CEILING LOG`: the terms, and the name of a log.
+-- The words are `fold SUPPLY BIDDERS CEILING LOG`: the terms, which are of the first version, and the name of a log.
 pub record IsFold (terms : Terms) (log : List ℕ) (words : List (List ℕ)) : Type 0 where
+  pub version_is : terms.version ≡ 1
   pub words_are : words ≡ codes "fold" ∷ comma_list terms.goods ∷ decimal terms.bidders ∷ decimal terms.ceiling ∷ log ∷ []
   pub log_is : IsPlainWord log
 

@@ -68,5 +68,6 @@ pub(crate) fn fault_number(fault: &AuctionFault) -> u8
         AuctionFault::Version(_) => 10,
         AuctionFault::BadName(_) => 11,
         AuctionFault::BadSupply { .. } => 12,
+        AuctionFault::Opening { .. } => 13,
     }
 }

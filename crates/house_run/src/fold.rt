@@ -9,12 +9,10 @@ use crate::ends::{Ended, File};
 use crate::entries::{LogFault, replay_log};
 use crate::files::read_file;
 use house_io::{ReadWhole, Shelf};
+use lot_base::limits::GREATEST_FILE;
 use lot_base::{NoMemory, Terms};
 use outcome_text::write_standing;
 use std::alloc::Global;
-
-/// The greatest length of a log.
-const LOG_LIMIT: u64 = 67_108_864;
 
 /// The standing line of the clock of all bidders after a log, or why there is none.
 pub(crate) fn fold<H: Shelf>(
@@ -27,7 +25,7 @@ pub(crate) fn fold<H: Shelf>(
     ensures reads { OnlyReads log.now (shelf_seen H.files H.faults H.opened shelf.old shelf.new) }
     ensures quiet { IsQuietAnswer (shelf_seen H.files H.faults H.opened shelf.old shelf.new) result }
 {
-    let bytes = match read_file(alloc, shelf, log, LOG_LIMIT) {
+    let bytes = match read_file(alloc, shelf, log, GREATEST_FILE as u64) {
         Ok(bytes) => bytes,
         Err(ReadWhole::Failed) => return Err(Ended::ReadFault),
         Err(ReadWhole::TooLong) => return Err(Ended::TooLong(File::Log)),

@@ -10,7 +10,6 @@ mod fold;
 pub mod laws;
 mod positionals;
 mod runs;
-mod supplies;
 #[cfg(test)]
 mod tests;
 mod texts;

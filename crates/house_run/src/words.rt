@@ -9,7 +9,7 @@ ghost use Rattle.lot_base.specs.Goods.{IsSupply};
 ghost use Rattle.lot_base.specs.declared.auction_terms.Terms.{Terms as TermsValue};
 
 use crate::positionals::{named_words, word_of};
-use crate::supplies::Supplies;
+use lot_base::limits::{GREATEST_CEILING, LEAST_CEILING, MOST_BIDDERS, MOST_GOODS};
 use lot_base::{Goods, NoMemory, Terms};
 use std::alloc::Global;
 
@@ -59,7 +59,7 @@ fn read_fold(alloc: Global, words: &[String]) -> Result<Option<CommandWords<'_>>
     let supply = word_of(&matches, "SUPPLY");
     let bidders = word_of(&matches, "BIDDERS");
     let ceiling = word_of(&matches, "CEILING");
-    match read_terms(supply, bidders, ceiling) {
+    match read_terms(alloc, supply, bidders, ceiling)? {
         Some(terms) => Ok(Some(CommandWords::Fold {
             terms,
             log: word_of(&matches, "LOG"),
@@ -91,22 +91,27 @@ fn are_plain(words: &[String]) -> bool
 }
 
 /// The terms that these words give.
-fn read_terms(supply: &str, bidders: &str, ceiling: &str) -> Option<Terms>
-    ensures some { IfSome result (λ terms. AreTermWords terms supply.now bidders.now ceiling.now) }
-    ensures none { IfNone result ((terms : TermsValue) → AreTermWords terms supply.now bidders.now ceiling.now → ⊥) }
+fn read_terms(
+    alloc: Global,
+    supply: &str,
+    bidders: &str,
+    ceiling: &str,
+) -> Result<Option<Terms>, NoMemory>
+    ensures some { IfOk result (λ o. IfSome o (λ terms. AreTermWords terms supply.now bidders.now ceiling.now)) }
+    ensures none { IfOk result (λ o. IfNone o ((terms : TermsValue) → AreTermWords terms supply.now bidders.now ceiling.now → ⊥)) }
 {
     match (
-        read_goods(supply),
-        read_number(bidders, 1, 12),
-        read_number(ceiling, 2, 10_000),
+        read_goods(alloc, supply)?,
+        read_number(bidders, 1, MOST_BIDDERS as u32),
+        read_number(ceiling, LEAST_CEILING, GREATEST_CEILING),
     ) {
         (Some(goods), Some(bidders), Some(ceiling)) => {
             match Terms::new(goods, bidders as u8, ceiling) {
-                Ok(terms) => Some(terms),
-                Err(_) => None,
+                Ok(terms) => Ok(Some(terms)),
+                Err(_) => Ok(None),
             }
         }
-        _ => None,
+        _ => Ok(None),
     }
 }
 
@@ -121,56 +126,55 @@ fn is_plain(word: &str) -> bool
 }
 
 /// The goods whose supplies a word lists, joined by commas.
-fn read_goods(word: &str) -> Option<Goods>
-    ensures some { IfSome result (λ goods. word.now ≡ comma_list goods) }
-    ensures none { IfNone result ((supply : List ℕ) → IsSupply supply → word.now ≡ comma_list supply → ⊥) }
+fn read_goods(alloc: Global, word: &str) -> Result<Option<Goods>, NoMemory>
+    ensures some { IfOk result (λ o. IfSome o (λ goods. word.now ≡ comma_list goods)) }
+    ensures none { IfOk result (λ o. IfNone o ((supply : List ℕ) → IsSupply supply → word.now ≡ comma_list supply → ⊥)) }
 {
-    match read_supplies(word) {
-        None => None,
-        Some(supplies) => match Goods::new(supplies.as_slice()) {
-            Ok(goods) => Some(goods),
-            Err(_) => None,
+    match read_supplies(alloc, word)? {
+        None => Ok(None),
+        Some(supplies) => match Goods::new(&supplies) {
+            Ok(goods) => Ok(Some(goods)),
+            Err(_) => Ok(None),
         },
     }
 }
 
 /// The supplies that a word lists, joined by commas: at most six numbers from 1 to 2,047.
-fn read_supplies(word: &str) -> Option<Supplies>
-    ensures some { IfSome result (λ supplies. map decimal supplies ≡ slice_split (λ b. b == 44) word.now) }
-    ensures small { IfSome result (λ supplies. AllByRecursion (λ n. n ≤ 2047) supplies) }
-    ensures none { IfNone result ((supply : List ℕ) → IsSupply supply → word.now ≡ comma_list supply → ⊥) }
+fn read_supplies(alloc: Global, word: &str) -> Result<Option<Vec<u16>>, NoMemory>
+    ensures some { IfOk result (λ o. IfSome o (λ v. map decimal v.items ≡ slice_split (λ b. b == 44) word.now)) }
+    ensures small { IfOk result (λ o. IfSome o (λ v. AllByRecursion (λ n. n ≤ 2047) v.items)) }
+    ensures none { IfOk result (λ o. IfNone o ((supply : List ℕ) → IsSupply supply → word.now ≡ comma_list supply → ⊥)) }
 {
-    let mut supplies = Supplies::none();
+    let mut supplies = Vec::new(alloc);
     let mut rest = word;
     while let Some((piece, behind)) = rest.split_once(',') {
-        if !read_supply(&mut supplies, piece) {
-            return None;
+        if !read_supply(&mut supplies, piece)? {
+            return Ok(None);
         }
         rest = behind;
     }
-    if !read_supply(&mut supplies, rest) {
-        return None;
+    if !read_supply(&mut supplies, rest)? {
+        return Ok(None);
     }
-    Some(supplies)
+    Ok(Some(supplies))
 }
 
 /// Adds the supply that a piece of the list is, and says whether it is one and there was room for it.
-fn read_supply(supplies: &mut Supplies, piece: &str) -> bool
-    requires { AllByRecursion (λ n. n ≤ 2047) supplies.old }
-    ensures read { IsTrue result → (units : ℕ) × (piece.now ≡ decimal units) × (supplies.new ≡ supplies.old ++ units ∷ []) }
-    ensures small { AllByRecursion (λ n. n ≤ 2047) supplies.new }
-    ensures kept { result ≡ false → supplies.new ≡ supplies.old }
-    ensures refused { result ≡ false → (6 ≤ length supplies.old) ⊎ ((units : ℕ) → 1 ≤ units → units ≤ 2047 → piece.now ≡ decimal units → ⊥) }
+fn read_supply(supplies: &mut Vec<u16>, piece: &str) -> Result<bool, NoMemory>
+    requires { AllByRecursion (λ n. n ≤ 2047) supplies.old.items }
+    ensures read { IfOk result (λ b. IsTrue b → (units : ℕ) × (piece.now ≡ decimal units) × (supplies.new.items ≡ supplies.old.items ++ units ∷ [])) }
+    ensures small { IfOk result (λ _. AllByRecursion (λ n. n ≤ 2047) supplies.new.items) }
+    ensures refused { IfOk result (λ b. b ≡ false → (6 ≤ length supplies.old.items) ⊎ ((units : ℕ) → 1 ≤ units → units ≤ 2047 → piece.now ≡ decimal units → ⊥)) }
 {
-    if !supplies.has_room() {
-        return false;
+    if supplies.len() >= MOST_GOODS {
+        return Ok(false);
     }
     match read_number(piece, 1, 2047) {
         Some(units) => {
-            supplies.push(units as u16);
-            true
+            supplies.push(units as u16)?;
+            Ok(true)
         }
-        None => false,
+        None => Ok(false),
     }
 }
 

@@ -10,7 +10,7 @@ returns-in-Err-clause-line c = fault-said c.in-Err.fault c.args.terms.now c.args
 
 pub returns-in-Ok-write_standing-clause-line : goal.returns-in-Ok-write_standing-clause-line
 returns-in-Ok-write_standing-clause-line c = (
-  c.in-Ok.clock,
-  whole-log c.args.terms.now c.args.bytes.now c.in-Ok.clock (λ i. let fits = c.type_inv.bytes i in omega arith) c.in-Ok.ensures,
+  c.in-Ok.clock.history,
+  whole-log c.args.terms.now c.args.bytes.now c.in-Ok.clock.history (λ i. let fits = c.type_inv.bytes i in omega arith) c.in-Ok.ensures,
   c.in-Ok-write_standing.ensures ∙ (λ i. standing_line (c.number.ensures.value i) (c.look.ensures.round i) (c.look.ensures.phase i) (c.look.ensures.prices i) (c.missing.ensures i)),
 )
