@@ -85,7 +85,7 @@ pub record IsWritten (bundles : List (List ℕ)) (goods : ℕ) (quantities : Lis
   pub apart : bundles_of goods quantities ≡ bundles
   pub read_back : (supply : List ℕ) → IsDemand supply bundles → demand_of supply goods (bundles_of goods quantities) ≡ Ok bundles
 
-written-length : (bundles : List (List ℕ)) (goods : ℕ) (quantities : List ℕ) → 1 ≤ length bundles → IsRange 1 6 goods → AllByRecursion (λ x. length x ≡ goods) bundles → quantities ≡ concat bundles → IsWritten bundles goods quantities
+pub written-length : (bundles : List (List ℕ)) (goods : ℕ) (quantities : List ℕ) → 1 ≤ length bundles → IsRange 1 6 goods → AllByRecursion (λ x. length x ≡ goods) bundles → quantities ≡ concat bundles → IsWritten bundles goods quantities
 written-length bundles goods quantities some range all e =
     let apart : bundles_of goods quantities ≡ bundles = ap (bundles_of goods) e ∙ bundles_of-concat goods bundles range.at_least all in
     record {

@@ -6,3 +6,5 @@ pub mod Same
 pub mod Slopes
 pub mod Sums
 pub mod Tables
+pub mod PlaceOrder
+pub mod PackedForm

@@ -1,105 +1,99 @@
--- The quantities of a bundle on all sets of goods, when one more good is added.
-use Rattle.std.proofs.Common.{◌≡◌, ◌<◌, ◌≤◌, ℕ, zero, suc, ◌+◌, ◌-◌, ◌*◌, ◌/◌, ◌%◌, ◌^◌, nat_eq, cond, List, [], ◌∷◌, ◌++◌, length, take, get_or, replicate, refl, sym, ◌∙◌, ap, subst, arith, inl, inr, lit≤}
-use Rattle.std.proofs.Math.Nat.{pow-suc, le_of_lt}
-use Rattle.std.proofs.lemmas.Bool.{cases_lt}
-use Rattle.std.proofs.lemmas.List.{take_more, length-take-le}
-use Rattle.lot_base.specs.Goods.{quantity_in}
-use Rattle.lot_base.specs.Demands.{IsTable}
-use Rattle.demand_set.specs.Sums.{AddsGood}
+-- The quantities of a bundle on all sets of goods, by halves.
+use Rattle.std.proofs.Common.{◌≡◌, ◌<◌, ◌≤◌, ℕ, zero, suc, ◌+◌, ◌*◌, ◌/◌, ◌%◌, ◌^◌, nat_eq, Bool, true, false, cond, List, [], ◌∷◌, ◌++◌, length, get_or, refl, sym, ◌∙◌, ap, arith}
+use Rattle.std.specs.List.{AllByRecursion}
+use Rattle.std.proofs.Math.Nat.{mul-le-mul_left}
+use Rattle.lot_base.specs.Goods.{quantity_in, box_size, AtMost}
+use Rattle.demand_set.specs.Sums.{IsShort, AreSumsOf, AreHalves}
 
-one_digit : (set : ℕ) → set < 1 → set ≡ 0
-one_digit set below = omega arith
+no-units : (b : Bool) (y : ℕ) → y ≡ 0 → cond b y 0 ≡ 0
+no-units true y e = e
+no-units false y e = refl
 
--- the next good is not in a set below its power of two
-pub quantity_in-without : (xs : List ℕ) (q set : ℕ) → set < 2 ^ length xs → quantity_in (xs ++ q ∷ []) set ≡ quantity_in xs set
-quantity_in-without [] q set below = ap (λ n. cond (nat_eq (n % 2) 1) q 0 + 0) (one_digit set below)
-quantity_in-without (x ∷ xs) q set below =
-    let half : set / 2 < 2 ^ length xs = (let p = pow-suc 2 (length xs) in omega (arith, p, below)) in
-    ap (λ n. cond (nat_eq (set % 2) 1) x 0 + n) (quantity_in-without xs q (set / 2) half)
+-- zeros behind a bundle change nothing
+behind : (x ys : List ℕ) (set : ℕ) → AllByRecursion (λ y. y ≡ 0) ys → quantity_in (x ++ ys) set ≡ quantity_in x set
+behind [] [] set zeros = refl
+behind [] (y ∷ ys) set zeros =
+    let first = no-units (nat_eq (set % 2) 1) y zeros.0 in
+    let rest = behind [] ys (set / 2) zeros.1 in
+    omega (arith, first, rest)
+behind (q ∷ x) ys set zeros = ap (λ n. cond (nat_eq (set % 2) 1) q 0 + n) (behind x ys (set / 2) zeros)
 
-same_digit : (n set : ℕ) → (2 ^ suc n + set) % 2 ≡ set % 2
-same_digit n set = let p = pow-suc 2 n in omega (arith, p)
+abbrev pub six : List ℕ → List ℕ
+six x = get_or x 0 0 ∷ get_or x 1 0 ∷ get_or x 2 0 ∷ get_or x 3 0 ∷ get_or x 4 0 ∷ get_or x 5 0 ∷ []
 
-half_digits : (n set : ℕ) → (2 ^ suc n + set) / 2 ≡ 2 ^ n + set / 2
-half_digits n set = let p = pow-suc 2 n in omega (arith, p)
+pub six-sum : (x : List ℕ) (set : ℕ) → length x ≤ 6 → quantity_in (six x) set ≡ quantity_in x set
+six-sum [] set few = behind [] (0 ∷ 0 ∷ 0 ∷ 0 ∷ 0 ∷ 0 ∷ []) set (refl, (refl, (refl, (refl, (refl, (refl, tt))))))
+six-sum (a ∷ []) set few = behind (a ∷ []) (0 ∷ 0 ∷ 0 ∷ 0 ∷ 0 ∷ []) set (refl, (refl, (refl, (refl, (refl, tt)))))
+six-sum (a ∷ b ∷ []) set few = behind (a ∷ b ∷ []) (0 ∷ 0 ∷ 0 ∷ 0 ∷ []) set (refl, (refl, (refl, (refl, tt))))
+six-sum (a ∷ b ∷ c ∷ []) set few = behind (a ∷ b ∷ c ∷ []) (0 ∷ 0 ∷ 0 ∷ []) set (refl, (refl, (refl, tt)))
+six-sum (a ∷ b ∷ c ∷ d ∷ []) set few = behind (a ∷ b ∷ c ∷ d ∷ []) (0 ∷ 0 ∷ []) set (refl, (refl, tt))
+six-sum (a ∷ b ∷ c ∷ d ∷ e ∷ []) set few = behind (a ∷ b ∷ c ∷ d ∷ e ∷ []) (0 ∷ []) set (refl, tt)
+six-sum (a ∷ b ∷ c ∷ d ∷ e ∷ f ∷ []) set few = refl
+six-sum (a ∷ b ∷ c ∷ d ∷ e ∷ f ∷ g ∷ x) set few = absurd (omega arith)
 
--- and it is in that set with its power of two
-pub quantity_in-with : (xs : List ℕ) (q set : ℕ) → set < 2 ^ length xs → quantity_in (xs ++ q ∷ []) (2 ^ length xs + set) ≡ quantity_in xs set + q
-quantity_in-with [] q set below = ap (λ n. cond (nat_eq ((1 + n) % 2) 1) q 0 + 0) (one_digit set below) ∙ omega arith
-quantity_in-with (x ∷ xs) q set below =
-    let half : set / 2 < 2 ^ length xs = (let p = pow-suc 2 (length xs) in omega (arith, p, below)) in
-    let rest : quantity_in (xs ++ q ∷ []) ((2 ^ suc (length xs) + set) / 2) ≡ quantity_in xs (set / 2) + q = ap (quantity_in (xs ++ q ∷ [])) (half_digits (length xs) set) ∙ quantity_in-with xs q (set / 2) half in
-    let first : cond (nat_eq ((2 ^ suc (length xs) + set) % 2) 1) x 0 ≡ cond (nat_eq (set % 2) 1) x 0 = ap (λ n. cond (nat_eq n 1) x 0) (same_digit (length xs) set) in
-    (λ i. first i + rest i) ∙ omega arith
+-- the first three goods and the others
+pub split-sum : (a b c : ℕ) (ys : List ℕ) (row set : ℕ) → set < 8 → quantity_in (a ∷ b ∷ c ∷ ys) (8 * row + set) ≡ quantity_in (a ∷ b ∷ c ∷ []) set + quantity_in ys row
+split-sum a b c ys row set below =
+    let n = 8 * row + set in
+    let p : n % 2 ≡ set % 2 = omega arith in
+    let q : (n / 2) % 2 ≡ (set / 2) % 2 = omega arith in
+    let r : ((n / 2) / 2) % 2 ≡ ((set / 2) / 2) % 2 = omega arith in
+    let s : ((n / 2) / 2) / 2 ≡ row = omega arith in
+    (λ i. cond (nat_eq (p i) 1) a 0 + (cond (nat_eq (q i) 1) b 0 + (cond (nat_eq (r i) 1) c 0 + quantity_in ys (s i)))) ∙ omega arith
 
--- one more good: the table over its sets
-pub table-next : (xs : List ℕ) (q : ℕ) (old new : List ℕ) → IsTable (length xs) (quantity_in xs) old → AddsGood (2 ^ length xs) q old new → IsTable (suc (length xs)) (quantity_in (xs ++ q ∷ [])) new
-table-next xs q old new table adds = record {
-  entries = λ set below. elim (cases_lt set (2 ^ length xs)) as (λ _. get_or new set 0 ≡ quantity_in (xs ++ q ∷ []) set) [
-    | inl low ↦ adds.without set low ∙ table.entries set low ∙ sym (quantity_in-without xs q set low)
-    | inr high ↦
-        let below' : set - 2 ^ length xs < 2 ^ length xs = (let p = pow-suc 2 (length xs) in omega (arith, p, below, high)) in
-        let whole : 2 ^ length xs + (set - 2 ^ length xs) ≡ set = omega (arith, high) in
-        ap (λ k. get_or new k 0) (sym whole) ∙ adds.with_it (set - 2 ^ length xs) below'
-        ∙ ap (λ n. n + q) (table.entries (set - 2 ^ length xs) below')
-        ∙ sym (quantity_in-with xs q (set - 2 ^ length xs) below') ∙ ap (quantity_in (xs ++ q ∷ [])) whole
-  ];
-  others = λ set above. let p = pow-suc 2 (length xs) in adds.others set (omega (arith, p, above)) ∙ table.others set (omega (arith, p, above));
-}
+pub halves-sum : (x : List ℕ) (row set : ℕ) → length x ≤ 6 → set < 8
+    → quantity_in (get_or x 0 0 ∷ get_or x 1 0 ∷ get_or x 2 0 ∷ []) set + quantity_in (get_or x 3 0 ∷ get_or x 4 0 ∷ get_or x 5 0 ∷ []) row ≡ quantity_in x (8 * row + set)
+halves-sum x row set few below =
+    sym (split-sum (get_or x 0 0) (get_or x 1 0) (get_or x 2 0) (get_or x 3 0 ∷ get_or x 4 0 ∷ get_or x 5 0 ∷ []) row set below) ∙ six-sum x (8 * row + set) few
 
--- the same, where the goods so far are the first ones of the bundle
-pub table-good : (x : List ℕ) (good width q : ℕ) (old new : List ℕ) → good < length x → width ≡ 2 ^ good → q ≡ get_or x good 0 → IsTable good (quantity_in (take good x)) old → AddsGood width q old new → IsTable (good + 1) (quantity_in (take (good + 1) x)) new
-table-good x good width q old new below wide unit table adds =
-    let n : length (take good x) ≡ good = length-take-le good x (le_of_lt below) in
-    let more : take good x ++ q ∷ [] ≡ take (good + 1) x = ap (λ u. take good x ++ u ∷ []) unit ∙ sym (take_more x good 0 below) in
-    let T : ℕ → Type 0 = λ k. IsTable k (quantity_in (take good x)) old in
-    let A : ℕ → Type 0 = λ w. AddsGood w q old new in
-    let power : width ≡ 2 ^ length (take good x) = wide ∙ ap (λ k. 2 ^ k) (sym n) in
-    let next = table-next (take good x) q old new (subst T (sym n) table) (subst A power adds) in
-    let size : suc (length (take good x)) ≡ good + 1 = omega (arith, n) in
-    let S : ℕ → Type 0 = λ k. IsTable k (quantity_in (take good x ++ q ∷ [])) new in
-    let G : List ℕ → Type 0 = λ xs. IsTable (good + 1) (quantity_in xs) new in
-    subst G more (subst S size next)
+-- three goods of a short bundle
+pub low-short : (x : List ℕ) → length x ≤ 6 → IsShort x → get_or x 0 0 + get_or x 1 0 + get_or x 2 0 < 2 ^ 16
+low-short x few short = let h = halves-sum x 0 7 few (omega arith) in let s = short 7 in omega (arith, h, s)
 
-small-above : (width q m : ℕ) (old new : List ℕ) → AddsGood width q old new → q ≤ 65535 → ((k : ℕ) → get_or old k 0 ≤ m) → (k : ℕ) → width ≤ k → get_or new k 0 ≤ m + 65535
-small-above width q m old new adds few small k high =
-    elim (cases_lt k (width + width)) as (λ _. get_or new k 0 ≤ m + 65535) [
-      | inl mid ↦
-          let whole : width + (k - width) ≡ k = omega (arith, high) in
-          let e : get_or new k 0 ≡ get_or old (k - width) 0 + q = ap (λ j. get_or new j 0) (sym whole) ∙ adds.with_it (k - width) (omega (arith, high, mid)) in
-          omega (arith, e, small (k - width))
-      | inr far ↦ omega (arith, adds.others k far, small k)
-    ]
+pub high-short : (x : List ℕ) → length x ≤ 6 → IsShort x → get_or x 3 0 + get_or x 4 0 + get_or x 5 0 < 2 ^ 16
+high-short x few short = let h = halves-sum x 7 0 few (omega arith) in let s = short 56 in omega (arith, h, s)
 
--- the sums stay small
-pub small-good : (width q m : ℕ) (old new : List ℕ) → AddsGood width q old new → q ≤ 65535 → ((k : ℕ) → get_or old k 0 ≤ m) → (k : ℕ) → get_or new k 0 ≤ m + 65535
-small-good width q m old new adds few small k =
-    elim (cases_lt k width) as (λ _. get_or new k 0 ≤ m + 65535) [
-      | inl low ↦ omega (arith, adds.without k low, small k)
-      | inr high ↦ small-above width q m old new adds few small k high
-    ]
+pub three-sums : (a b c : ℕ) → AreSumsOf a b c (0 ∷ a ∷ b ∷ (a + b) ∷ c ∷ (a + c) ∷ (b + c) ∷ (a + b + c) ∷ [])
+three-sums a b c zero below = omega arith
+three-sums a b c (suc zero) below = omega arith
+three-sums a b c (suc (suc zero)) below = omega arith
+three-sums a b c (suc (suc (suc zero))) below = omega arith
+three-sums a b c (suc (suc (suc (suc zero)))) below = omega arith
+three-sums a b c (suc (suc (suc (suc (suc zero))))) below = omega arith
+three-sums a b c (suc (suc (suc (suc (suc (suc zero)))))) below = omega arith
+three-sums a b c (suc (suc (suc (suc (suc (suc (suc zero))))))) below = omega arith
+three-sums a b c (suc (suc (suc (suc (suc (suc (suc (suc n)))))))) below = absurd (omega arith)
 
-pub record IsWidth (width good : ℕ) : Type 0 where
-  pub power : width ≡ 2 ^ good
-  pub room : width ≤ 32
+pub are-halves : (x low high : List ℕ) → length x ≤ 6 → AreSumsOf (get_or x 0 0) (get_or x 1 0) (get_or x 2 0) low → AreSumsOf (get_or x 3 0) (get_or x 4 0) (get_or x 5 0) high → AreHalves x low high
+are-halves x low high few l h = λ row set up below. (λ i. l set below i + h row up i) ∙ halves-sum x row set few below
 
-pub width_is : (good : ℕ) → good < 6 → IsWidth ((1 * 2 ^ good) % 2 ^ 64) good
-width_is zero below = record { power = refl; room = lit≤ tt }
-width_is (suc zero) below = record { power = refl; room = lit≤ tt }
-width_is (suc (suc zero)) below = record { power = refl; room = lit≤ tt }
-width_is (suc (suc (suc zero))) below = record { power = refl; room = lit≤ tt }
-width_is (suc (suc (suc (suc zero)))) below = record { power = refl; room = lit≤ tt }
-width_is (suc (suc (suc (suc (suc zero))))) below = record { power = refl; room = lit≤ tt }
-width_is (suc (suc (suc (suc (suc (suc good)))))) below = absurd (omega arith)
+-- a bundle within a supply has at most its units of a set, and these are fewer than the box has bundles
+part : (d x s : ℕ) → x ≤ s → cond (nat_eq d 1) x 0 ≤ cond (nat_eq d 1) s 0
+part zero x s up = omega arith
+part (suc zero) x s up = up
+part (suc (suc d)) x s up = grind arith
 
-get_or-zeros : (n k : ℕ) → let none : ℕ = 0 in get_or (replicate n none) k none ≡ none
-get_or-zeros zero k = refl
-get_or-zeros (suc n) zero = refl
-get_or-zeros (suc n) (suc k) = get_or-zeros n k
+pub quantity-within : (x supply : List ℕ) (set : ℕ) → AtMost x supply → quantity_in x set ≤ quantity_in supply set
+quantity-within [] [] set h = omega arith
+quantity-within [] (s ∷ supply) set h = absurd h
+quantity-within (q ∷ x) [] set h = absurd h
+quantity-within (q ∷ x) (s ∷ supply) set h = let i = quantity-within x supply (set / 2) h.1 in let p = part (set % 2) q s h.0 in omega (arith, i, p)
 
--- no good yet: only the empty set has a sum, and it is 0
-pub table-none : IsTable 0 (quantity_in []) (replicate 64 0)
-table-none = record { entries = λ set below. get_or-zeros 64 set; others = λ set above. get_or-zeros 64 set }
+whole-part : (d s : ℕ) → cond (nat_eq d 1) s 0 ≤ s
+whole-part zero s = omega arith
+whole-part (suc zero) s = omega arith
+whole-part (suc (suc d)) s = grind arith
 
-pub small-none : (k : ℕ) → get_or (replicate 64 0) k 0 ≤ 0
-small-none k = omega (arith, get_or-zeros 64 k)
+pub units-few : (supply : List ℕ) (set : ℕ) → quantity_in supply set + 1 ≤ box_size supply
+units-few [] set = omega arith
+units-few (s ∷ supply) set =
+    let i = units-few supply (set / 2) in
+    let p = whole-part (set % 2) s in
+    let some : 1 ≤ box_size supply = omega (arith, i) in
+    let k : s * 1 ≤ s * box_size supply = mul-le-mul_left s some in
+    omega (arith, i, p, k)
+
+pub all-short : (supply : List ℕ) (bundles : List (List ℕ)) → box_size supply ≤ 2048 → AllByRecursion (λ x. AtMost x supply) bundles → AllByRecursion IsShort bundles
+all-short supply [] small within = tt
+all-short supply (x ∷ bundles) small within =
+    ((λ set. let a = quantity-within x supply set within.0 in let b = units-few supply set in omega (arith, a, b, small)), all-short supply bundles small within.1)

@@ -1,62 +1,125 @@
 -- A table over all sets of goods that keeps the least, or the greatest, number of one bundle after another.
-use Rattle.std.proofs.Common.{◌≡◌, ◌<◌, ◌≤◌, ℕ, zero, suc, ◌+◌, ◌-◌, List, [], ◌∷◌, ◌++◌, length, take, drop, get_or, sym, ◌∙◌, ap, subst, arith}
+use Rattle.std.proofs.Common.{◌≡◌, ◌<◌, ◌≤◌, ℕ, zero, suc, ◌+◌, ◌-◌, ◌*◌, ◌/◌, ◌%◌, ◌^◌, List, [], ◌∷◌, length, take, drop, get_or, replicate, refl, sym, ◌∙◌, ap, subst, arith, min, max}
 use Rattle.std.specs.List.{fold, AllByRecursion}
-use Rattle.std.proofs.lemmas.List.{take_more, get_or-take, get_or-drop, length-take, length-take-le, length-drop, take_all}
-use Rattle.std.proofs.Math.Nat.{le_of_lt}
-use Rattle.std.proofs.lemmas.List.Sums.{fold-append}
+use Rattle.std.proofs.Math.Nat.{pow-le-pow_right, div-add-mod'}
 use Rattle.lot_base.specs.Goods.{quantity_in}
-use Rattle.lot_base.specs.Demands.{IsTable}
+use Rattle.lot_base.specs.Demands.{IsTable, least, greatest}
+use Rattle.demand_set.specs.Reading.{groups}
+use Rattle.demand_set.specs.Sums.{IsShort, AreHalves, KeepsRows, CopiesSets}
+use Rattle.demand_set.proofs.Groups.{groups-next}
 
--- the number that is picked among those of f over a list of bundles, 0 for the empty list
-abbrev pub picked : (ℕ → ℕ → ℕ) → (List ℕ → ℕ) → List (List ℕ) → ℕ
-picked pick f [] = 0
-picked pick f (x ∷ xs) = fold (λ a y. pick a (f y)) (f x) xs
+-- what is still to be done gives the number over all bundles
+abbrev pub IsFolding : (ℕ → ℕ → ℕ) → ℕ → ℕ → List (List ℕ) → List (List ℕ) → List ℕ → Type 0
+IsFolding pick goods start all left table =
+    (set : ℕ) → set < 2 ^ goods → fold (λ a y. pick a (quantity_in y set)) (get_or table set 0) left ≡ fold (λ a y. pick a (quantity_in y set)) start all
 
-picked-next : (pick : ℕ → ℕ → ℕ) (f : List ℕ → ℕ) (xs : List (List ℕ)) (y : List ℕ) → 1 ≤ length xs → picked pick f (xs ++ y ∷ []) ≡ pick (picked pick f xs) (f y)
-picked-next pick f [] y some = absurd (omega arith)
-picked-next pick f (x ∷ xs) y some = fold-append (λ a z. pick a (f z)) (f x) xs (y ∷ [])
+pub entry-next : (pick : ℕ → ℕ → ℕ) (goods rows : ℕ) (x low high old new : List ℕ) → 2 ^ goods ≤ 8 * rows → rows ≤ 8 → AreHalves x low high → KeepsRows pick rows low high old new
+    → (set : ℕ) → set < 2 ^ goods → get_or new set 0 ≡ pick (get_or old set 0) (quantity_in x set)
+entry-next pick goods rows x low high old new all few halves keeps set below =
+    let row : set / 8 < rows = omega (arith, below, all) in
+    let column : set % 8 < 8 = omega arith in
+    let e : 8 * (set / 8) + set % 8 ≡ set = omega arith in
+    ap (λ k. get_or new k 0) (sym e) ∙ keeps (set / 8) (set % 8) row column
+    ∙ (λ i. pick (get_or old (e i) 0) (halves (set / 8) (set % 8) (omega (arith, row, few)) column i)) ∙ ap (λ k. pick (get_or old set 0) (quantity_in x k)) e
 
-picked-more : (pick : ℕ → ℕ → ℕ) (f : List ℕ → ℕ) (bundles : List (List ℕ)) (place : ℕ) (x : List ℕ) → place + 1 < length bundles → x ≡ get_or bundles (place + 1) x
-    → picked pick f (take (place + 1 + 1) bundles) ≡ pick (picked pick f (take (place + 1) bundles)) (f x)
-picked-more pick f bundles place x below is =
-    let more : take (place + 1 + 1) bundles ≡ take (place + 1) bundles ++ x ∷ [] = take_more bundles (place + 1) x below ∙ ap (λ y. take (place + 1) bundles ++ y ∷ []) (sym is) in
-    let n : length (take (place + 1) bundles) ≡ place + 1 = length-take-le (place + 1) bundles (le_of_lt below) in
-    ap (picked pick f) more ∙ picked-next pick f (take (place + 1) bundles) x (omega (arith, n))
+pub folding-next : (pick : ℕ → ℕ → ℕ) (goods rows start place end size : ℕ) (rest x others low high old new : List ℕ) (all : List (List ℕ)) → place < end → size ≡ goods → x ≡ take size rest → others ≡ drop size rest
+    → 2 ^ goods ≤ 8 * rows → rows ≤ 8 → AreHalves x low high → KeepsRows pick rows low high old new
+    → IsFolding pick goods start all (groups (end - place) goods rest) old → IsFolding pick goods start all (groups (end - (place + 1)) goods others) new
+folding-next pick goods rows start place end size rest x others low high old new all below same front back wide few halves keeps folding = λ set inside.
+    let f = λ (a : ℕ) (y : List ℕ). pick a (quantity_in y set) in
+    let front' : take goods rest ≡ x = ap (λ n. take n rest) (sym same) ∙ sym front in
+    let back' : drop goods rest ≡ others = ap (λ n. drop n rest) (sym same) ∙ sym back in
+    let step : fold f (get_or old set 0) (groups (end - place) goods rest) ≡ fold f (get_or new set 0) (groups (end - (place + 1)) goods others) =
+    ap (fold f (get_or old set 0)) (groups-next end place goods rest below)
+    ∙ (λ i. fold f (pick (get_or old set 0) (quantity_in (front' i) set)) (groups (end - (place + 1)) goods (back' i)))
+    ∙ ap (λ a. fold f a (groups (end - (place + 1)) goods others)) (sym (entry-next pick goods rows x low high old new wide few halves keeps set inside)) in
+    sym step ∙ folding set inside
 
--- the table over the bundles so far, and one more
-pub picked-table : (pick : ℕ → ℕ → ℕ) (goods place : ℕ) (bundles : List (List ℕ)) (x old sums new : List ℕ) → pick 0 0 ≡ 0 → place + 1 < length bundles → x ≡ get_or bundles (place + 1) x
-    → IsTable goods (λ set. picked pick (λ y. quantity_in y set) (take (place + 1) bundles)) old → IsTable goods (quantity_in x) sums → ((set : ℕ) → get_or new set 0 ≡ pick (get_or old set 0) (get_or sums set 0))
-    → IsTable goods (λ set. picked pick (λ y. quantity_in y set) (take (place + 1 + 1) bundles)) new
-picked-table pick goods place bundles x old sums new none below is table own keeps = record {
-  entries = λ set in_table. keeps set ∙ (λ i. pick (table.entries set in_table i) (own.entries set in_table i)) ∙ sym (picked-more pick (λ y. quantity_in y set) bundles place x below is);
-  others = λ set above. keeps set ∙ (λ i. pick (table.others set above i) (own.others set above i)) ∙ none;
+-- the first of the bundles that are left is short, and so are the others
+pub short-next : (goods place end size : ℕ) (rest x others : List ℕ) → place < end → size ≡ goods → x ≡ take size rest → others ≡ drop size rest
+    → AllByRecursion IsShort (groups (end - place) goods rest) → IsShort x × AllByRecursion IsShort (groups (end - (place + 1)) goods others)
+short-next goods place end size rest x others below same front back all =
+    let A : List (List ℕ) → Type 0 = λ xs. AllByRecursion IsShort xs in
+    let h = subst A (groups-next end place goods rest below) all in
+    let S : List ℕ → Type 0 = λ y. IsShort y in
+    let B : List ℕ → Type 0 = λ ys. AllByRecursion IsShort (groups (end - (place + 1)) goods ys) in
+    (subst S (ap (λ n. take n rest) (sym same) ∙ sym front) h.0, subst B (ap (λ n. drop n rest) (sym same) ∙ sym back) h.1)
+
+pub fits-rows : (x low high : List ℕ) → IsShort x → AreHalves x low high → (row set : ℕ) → row < 8 → set < 8 → get_or low set 0 + get_or high row 0 < 2 ^ 16
+fits-rows x low high short halves row set up below = let h = halves row set up below in let s = short (8 * row + set) in omega (arith, h, s)
+
+ended : (pick : ℕ → ℕ → ℕ) (goods start : ℕ) (all : List (List ℕ)) (count : ℕ) (rest table : List ℕ) → count ≡ 0 → IsFolding pick goods start all (groups count goods rest) table
+    → (set : ℕ) → set < 2 ^ goods → get_or table set 0 ≡ fold (λ a y. pick a (quantity_in y set)) start all
+ended pick goods start all count rest table none folding set below =
+    ap (λ n. fold (λ a y. pick a (quantity_in y set)) (get_or table set 0) (groups n goods rest)) (sym none) ∙ folding set below
+
+least-all : (all : List (List ℕ)) (set : ℕ) → 1 ≤ length all → AllByRecursion IsShort all → fold (λ a y. min a (quantity_in y set)) 65535 all ≡ least all set
+least-all [] set some short = absurd (omega arith)
+least-all (x ∷ all) set some short =
+    let s = short.0 set in
+    let m : min 65535 (quantity_in x set) ≡ quantity_in x set = omega (arith, s) in
+    ap (λ a. fold (λ b y. min b (quantity_in y set)) a all) m
+
+greatest-all : (all : List (List ℕ)) (set : ℕ) → 1 ≤ length all → fold (λ a y. max a (quantity_in y set)) 0 all ≡ greatest all set
+greatest-all [] set some = absurd (omega arith)
+greatest-all (x ∷ all) set some =
+    let m : max 0 (quantity_in x set) ≡ quantity_in x set = omega arith in
+    ap (λ a. fold (λ b y. max b (quantity_in y set)) a all) m
+
+pub least-done : (goods : ℕ) (all : List (List ℕ)) (count : ℕ) (rest table wide : List ℕ) → count ≡ 0 → 1 ≤ length all → AllByRecursion IsShort all → CopiesSets goods table wide
+    → IsFolding min goods 65535 all (groups count goods rest) table → IsTable goods (least all) wide
+least-done goods all count rest table wide none some short copies folding = record {
+  entries = λ set below. copies.entries set below ∙ ended min goods 65535 all count rest table none folding set below ∙ least-all all set some short;
+  others = copies.others;
 }
 
--- the first bundle alone
-pub first-table : (pick : ℕ → ℕ → ℕ) (goods : ℕ) (bundles : List (List ℕ)) (x sums : List ℕ) → 1 ≤ length bundles → x ≡ get_or bundles 0 x → IsTable goods (quantity_in x) sums
-    → IsTable goods (λ set. picked pick (λ y. quantity_in y set) (take 1 bundles)) sums
-first-table pick goods [] x sums some is own = absurd (omega arith)
-first-table pick goods (y ∷ bundles) x sums some is own = let G : List ℕ → Type 0 = λ z. IsTable goods (quantity_in z) sums in subst G is own
+pub greatest-done : (goods : ℕ) (all : List (List ℕ)) (count : ℕ) (rest table wide : List ℕ) → count ≡ 0 → 1 ≤ length all → CopiesSets goods table wide
+    → IsFolding max goods 0 all (groups count goods rest) table → IsTable goods (greatest all) wide
+greatest-done goods all count rest table wide none some copies folding = record {
+  entries = λ set below. copies.entries set below ∙ ended max goods 0 all count rest table none folding set below ∙ greatest-all all set some;
+  others = copies.others;
+}
 
--- an element of all but the first
-pub get_or-later : (bundles : List (List ℕ)) (place : ℕ) (x d : List ℕ) → place < length (take (length bundles - 1) (drop 1 bundles)) → x ≡ get_or (take (length bundles - 1) (drop 1 bundles)) place x → (place + 1 < length bundles) × (x ≡ get_or bundles (place + 1) x)
-get_or-later bundles place x d below is =
-    let n = length-take (length bundles - 1) (drop 1 bundles) in
-    let k : place < length bundles - 1 = omega (arith, n, below) in
-    let e : get_or (take (length bundles - 1) (drop 1 bundles)) place x ≡ get_or (drop 1 bundles) place x = get_or-take (length bundles - 1) (drop 1 bundles) place x k in
-    let f : get_or (drop 1 bundles) place x ≡ get_or bundles (1 + place) x = get_or-drop 1 bundles place x in
-    let g : get_or bundles (1 + place) x ≡ get_or bundles (place + 1) x = (let h : 1 + place ≡ place + 1 = omega arith in ap (λ j. get_or bundles j x) h) in
-    (omega (arith, k), is ∙ e ∙ f ∙ g)
+pub few-sets : (goods : ℕ) → goods ≤ 6 → 2 ^ goods ≤ 64
+few-sets goods few = let two : 0 < 2 = omega arith in pow-le-pow_right two few
 
--- each element is as all are
-pub all-at : (goods : ℕ) (bundles : List (List ℕ)) (place : ℕ) (x : List ℕ) → AllByRecursion (λ y. length y ≡ goods) bundles → place < length bundles → x ≡ get_or bundles place x → length x ≡ goods
-all-at goods [] place x all below is = absurd (omega arith)
-all-at goods (y ∷ bundles) zero x all below is = ap length is ∙ all.0
-all-at goods (y ∷ bundles) (suc place) x all below is = all-at goods bundles place x all.1 (omega arith) is
+-- a table with one number at each place
+pub get_or-replicate : (n v k : ℕ) → k < n → get_or (replicate n v) k 0 ≡ v
+get_or-replicate zero v k below = absurd (omega arith)
+get_or-replicate (suc n) v zero below = refl
+get_or-replicate (suc n) v (suc k) below = get_or-replicate n v k (omega arith)
 
--- past the last element the first ones are all
-pub take-end : (bundles : List (List ℕ)) (place : ℕ) → length (take (length bundles - 1) (drop 1 bundles)) ≤ place → take (place + 1) bundles ≡ bundles
-take-end bundles place past =
-    let n = length-take (length bundles - 1) (drop 1 bundles) in
-    let k = length-drop 1 bundles in
-    take_all (place + 1) bundles (omega (arith, n, k, past))
+pub get_or-blank : (n k : ℕ) → let none : ℕ = 0 in get_or (replicate n none) k none ≡ none
+get_or-blank zero k = refl
+get_or-blank (suc n) zero = refl
+get_or-blank (suc n) (suc k) = get_or-blank n k
+
+pub folding-first : (pick : ℕ → ℕ → ℕ) (goods start : ℕ) (all : List (List ℕ)) → 2 ^ goods ≤ 64 → IsFolding pick goods start all all (replicate 64 start)
+folding-first pick goods start all few = λ set below. ap (λ a. fold (λ b y. pick b (quantity_in y set)) a all) (get_or-replicate 64 start set (omega (arith, below, few)))
+
+-- where a bundle is left, its quantities are there
+pub room-first : (end place goods left : ℕ) → place < end → left ≡ (end - place) * goods → goods ≤ left
+room-first end place goods left below is =
+    let k : end - place ≡ end - (place + 1) + 1 = omega arith in
+    let m : (end - place) * goods ≡ (end - (place + 1) + 1) * goods = ap (λ n. n * goods) k in
+    let n : (end - (place + 1) + 1) * goods ≡ (end - (place + 1)) * goods + goods = omega arith in
+    omega (arith, m, n, is)
+
+-- before the first bundle
+pub record Begins (pick : ℕ → ℕ → ℕ) (goods start : ℕ) (quantities table : List ℕ) : Type 0 where
+  pub left : length quantities ≡ (length quantities / goods - 0) * goods
+  pub short : AllByRecursion IsShort (groups (length quantities / goods - 0) goods quantities)
+  pub folding : IsFolding pick goods start (groups (length quantities / goods) goods quantities) (groups (length quantities / goods - 0) goods quantities) table
+
+pub begins : (pick : ℕ → ℕ → ℕ) (goods start : ℕ) (quantities : List ℕ) → goods ≤ 6 → length quantities % goods ≡ 0 → AllByRecursion IsShort (groups (length quantities / goods) goods quantities) → Begins pick goods start quantities (replicate 64 start)
+begins pick goods start quantities few whole short =
+    let all : length quantities / goods - 0 ≡ length quantities / goods = omega arith in
+    let d = div-add-mod' (length quantities) goods in
+    let m : (length quantities / goods - 0) * goods ≡ (length quantities / goods) * goods = ap (λ n. n * goods) all in
+    let S : ℕ → Type 0 = λ n. AllByRecursion IsShort (groups n goods quantities) in
+    let F : ℕ → Type 0 = λ n. IsFolding pick goods start (groups (length quantities / goods) goods quantities) (groups n goods quantities) (replicate 64 start) in
+    record {
+      left = omega (arith, d, m, whole);
+      short = subst S (sym all) short;
+      folding = subst F (sym all) (folding-first pick goods start (groups (length quantities / goods) goods quantities) (few-sets goods few));
+    }

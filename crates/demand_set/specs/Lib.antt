@@ -1,4 +1,6 @@
 pub mod Held
+pub mod Packed
+pub mod Places
 pub mod Reading
 pub mod Same
 pub mod Slopes

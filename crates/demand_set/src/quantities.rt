@@ -1,13 +1,14 @@
 //! The least and the greatest quantities of a demand on each set of goods.
-ghost use Rattle.std.specs.Prelude.{◌≡◌, ◌^◌, ◌<◌, ◌≤◌, ◌+◌, ℕ, length, slice_index, min, max};
+//! The sums of the goods 0 to 2 and those of the goods 3 to 5, eight each, give the sum of each set by one addition.
+ghost use Rattle.std.specs.Prelude.{◌≡◌, ◌^◌, ◌<◌, ◌≤◌, ◌+◌, ◌*◌, ◌%◌, ℕ, length, slice_index, min, max};
 ghost use Rattle.std.specs.List.{AllByRecursion};
-ghost use Rattle.lot_base.specs.Goods.{quantity_in};
 ghost use Rattle.lot_base.specs.Demands.{IsDemand, IsTable, least, greatest};
+ghost use Rattle.demand_set.specs.Reading.{bundles_of};
 ghost use Rattle.demand_set.specs.Slopes.{AreFalls, AreRises};
-ghost use Rattle.demand_set.specs.Sums.{AddsGood};
+ghost use Rattle.demand_set.specs.Sums.{IsShort, AreSumsOf, AreHalves, KeepsRow, KeepsRows, CopiesSets};
 
 use crate::reading::Demand;
-use lot_base::{Bundle, Goods, LeastTable};
+use lot_base::{Goods, LeastTable};
 
 impl Demand {
     /// The least quantity on each set of the goods, in one pass over the bundles.
@@ -16,7 +17,8 @@ impl Demand {
         ensures table { IsTable (length goods.now) (least self.now) result.0 }
         ensures falls { AreFalls goods.now self.now result.0 }
     {
-        LeastTable(least_of(self.bundles(), goods.count()))
+        let _count = goods.count();
+        LeastTable(least_of(&self.quantities, self.goods))
     }
 
     /// The greatest quantity on each set of the goods, in one pass over the bundles.
@@ -25,76 +27,157 @@ impl Demand {
         ensures table { IsTable (length goods.now) (greatest self.now) result.0 }
         ensures rises { AreRises goods.now self.now result.0 }
     {
-        LeastTable(greatest_of(self.bundles(), goods.count()))
+        let _count = goods.count();
+        LeastTable(greatest_of(&self.quantities, self.goods))
     }
 }
 
 /// The least quantity on each set of so many goods.
-fn least_of(bundles: &[Bundle], goods: u8) -> [u32; 64]
-    requires some { 1 ≤ length bundles.now }
+fn least_of(quantities: &[u16], goods: u8) -> [u32; 64]
+    requires some_good { 1 ≤ goods }
     requires few_goods { goods ≤ 6 }
-    requires one_length { AllByRecursion (λ x. length x ≡ goods) bundles.now }
-    ensures { IsTable goods (least bundles.now) result }
+    requires some { 1 ≤ length (bundles_of goods quantities.now) }
+    requires whole { length quantities.now % goods ≡ 0 }
+    requires short { AllByRecursion IsShort (bundles_of goods quantities.now) }
+    ensures { IsTable goods (least (bundles_of goods quantities.now)) result }
 {
-    let mut table = sums_of(&bundles[0], goods);
-    for x in &bundles[1..] {
-        keep_least(&mut table, &sums_of(x, goods));
+    let size = goods as usize;
+    let rows = rows_of(goods);
+    let mut table = [u16::MAX; 64];
+    let mut rest = quantities;
+    for _place in 0..quantities.len() / size {
+        let (first, others) = rest.split_at(size);
+        let halves = halves_of(first);
+        keep_least(&mut table, rows, &halves);
+        rest = others;
     }
-    table
+    widened(&table, goods)
 }
 
 /// The greatest quantity on each set of so many goods.
-fn greatest_of(bundles: &[Bundle], goods: u8) -> [u32; 64]
-    requires some { 1 ≤ length bundles.now }
+fn greatest_of(quantities: &[u16], goods: u8) -> [u32; 64]
+    requires some_good { 1 ≤ goods }
     requires few_goods { goods ≤ 6 }
-    requires one_length { AllByRecursion (λ x. length x ≡ goods) bundles.now }
-    ensures { IsTable goods (greatest bundles.now) result }
+    requires some { 1 ≤ length (bundles_of goods quantities.now) }
+    requires whole { length quantities.now % goods ≡ 0 }
+    requires short { AllByRecursion IsShort (bundles_of goods quantities.now) }
+    ensures { IsTable goods (greatest (bundles_of goods quantities.now)) result }
 {
-    let mut table = sums_of(&bundles[0], goods);
-    for x in &bundles[1..] {
-        keep_greatest(&mut table, &sums_of(x, goods));
+    let size = goods as usize;
+    let rows = rows_of(goods);
+    let mut table = [0u16; 64];
+    let mut rest = quantities;
+    for _place in 0..quantities.len() / size {
+        let (first, others) = rest.split_at(size);
+        let halves = halves_of(first);
+        keep_greatest(&mut table, rows, &halves);
+        rest = others;
     }
-    table
+    widened(&table, goods)
 }
 
-/// The quantity on each set of so many goods. Good by good, the sums of the sets with the good follow on those without it.
-fn sums_of(x: &Bundle, goods: u8) -> [u32; 64]
-    requires few_goods { goods ≤ 6 }
-    requires length { length x.now ≡ goods }
-    ensures { IsTable goods (quantity_in x.now) result }
+/// How many rows of eight sets so many goods have: one for each set of the goods from 3 on.
+fn rows_of(goods: u8) -> usize
+    requires { goods ≤ 6 }
+    ensures few { result ≤ 8 }
+    ensures all { 2 ^ goods ≤ 8 * result }
 {
-    let mut sums = [0u32; 64];
-    for good in 0..goods {
-        add_good(&mut sums, 1 << good, x.quantity(good) as u32);
-    }
-    sums
-}
-
-/// The sums of the sets below the width, each with these units more, behind them.
-fn add_good(sums: &mut [u32; 64], width: usize, units: u32)
-    requires room { width ≤ 32 }
-    requires small { (set : ℕ) → slice_index sums.old set + units < 2 ^ 32 }
-    ensures { AddsGood width units sums.old sums.new }
-{
-    for set in 0..width {
-        sums[width + set] = sums[set] + units;
-    }
-}
-
-/// The lesser number at each place.
-fn keep_least(table: &mut [u32; 64], sums: &[u32; 64])
-    ensures { (set : ℕ) → slice_index table.new set ≡ min (slice_index table.old set) (slice_index sums.now set) }
-{
-    for set in 0..64 {
-        table[set] = table[set].min(sums[set]);
+    match goods {
+        0..=3 => 1,
+        4 => 2,
+        5 => 4,
+        _ => 8,
     }
 }
 
-/// The greater number at each place.
-fn keep_greatest(table: &mut [u32; 64], sums: &[u32; 64])
-    ensures { (set : ℕ) → slice_index table.new set ≡ max (slice_index table.old set) (slice_index sums.now set) }
+/// The quantities of a bundle on the sets of the goods 0 to 2, and on those of the goods 3 to 5.
+#[derive(Clone, Copy)]
+struct Halves {
+    low: [u16; 8],
+    high: [u16; 8],
+}
+
+/// The quantities of a bundle on the sets of each half of the goods.
+fn halves_of(x: &[u16]) -> Halves
+    requires few { length x.now ≤ 6 }
+    requires short { IsShort x.now }
+    ensures { AreHalves x.now result.low result.high }
 {
-    for set in 0..64 {
-        table[set] = table[set].max(sums[set]);
+    Halves {
+        low: sums_of(quantity_at(x, 0), quantity_at(x, 1), quantity_at(x, 2)),
+        high: sums_of(quantity_at(x, 3), quantity_at(x, 4), quantity_at(x, 5)),
     }
+}
+
+/// The quantity of a good, 0 where there is no such good.
+fn quantity_at(x: &[u16], good: usize) -> u16
+    ensures { result ≡ slice_index x.now good }
+{
+    if good < x.len() { x[good] } else { 0 }
+}
+
+/// The sums of the sets of three numbers.
+fn sums_of(a: u16, b: u16, c: u16) -> [u16; 8]
+    requires { a + b + c < 2 ^ 16 }
+    ensures { AreSumsOf a b c result }
+{
+    [0, a, b, a + b, c, a + c, b + c, a + b + c]
+}
+
+/// The lesser number at each place of the first so many rows.
+fn keep_least(table: &mut [u16; 64], rows: usize, halves: &Halves)
+    requires few { rows ≤ 8 }
+    requires fits { (row set : ℕ) → row < 8 → set < 8 → slice_index halves.now.low set + slice_index halves.now.high row < 2 ^ 16 }
+    ensures { KeepsRows min rows halves.now.low halves.now.high table.old table.new }
+{
+    for row in 0..rows {
+        keep_least_row(table, row, &halves.low, halves.high[row]);
+    }
+}
+
+/// The greater number at each place of the first so many rows.
+fn keep_greatest(table: &mut [u16; 64], rows: usize, halves: &Halves)
+    requires few { rows ≤ 8 }
+    requires fits { (row set : ℕ) → row < 8 → set < 8 → slice_index halves.now.low set + slice_index halves.now.high row < 2 ^ 16 }
+    ensures { KeepsRows max rows halves.now.low halves.now.high table.old table.new }
+{
+    for row in 0..rows {
+        keep_greatest_row(table, row, &halves.low, halves.high[row]);
+    }
+}
+
+/// The lesser number at each place of a row, where each sum is so much more.
+fn keep_least_row(table: &mut [u16; 64], row: usize, sums: &[u16; 8], more: u16)
+    requires inside { row < 8 }
+    requires fits { (set : ℕ) → set < 8 → slice_index sums.now set + more < 2 ^ 16 }
+    ensures { KeepsRow min row sums.now more table.old table.new }
+{
+    let start = 8 * row;
+    for set in 0..8 {
+        table[start + set] = table[start + set].min(sums[set] + more);
+    }
+}
+
+/// The greater number at each place of a row, where each sum is so much more.
+fn keep_greatest_row(table: &mut [u16; 64], row: usize, sums: &[u16; 8], more: u16)
+    requires inside { row < 8 }
+    requires fits { (set : ℕ) → set < 8 → slice_index sums.now set + more < 2 ^ 16 }
+    ensures { KeepsRow max row sums.now more table.old table.new }
+{
+    let start = 8 * row;
+    for set in 0..8 {
+        table[start + set] = table[start + set].max(sums[set] + more);
+    }
+}
+
+/// The numbers of the sets of so many goods, and 0 behind them.
+fn widened(table: &[u16; 64], goods: u8) -> [u32; 64]
+    requires { goods ≤ 6 }
+    ensures { CopiesSets goods table.now result }
+{
+    let mut wide = [0u32; 64];
+    for set in 0..1usize << goods {
+        wide[set] = table[set] as u32;
+    }
+    wide
 }

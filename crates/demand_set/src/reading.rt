@@ -1,14 +1,12 @@
 //! Demands, and how they are read.
-ghost use Rattle.std.specs.Prelude.{◌≡◌, ◌↔◌, ◌<◌, ◌≤◌, ◌%◌, length, slice_get, Some, None, IsTrue, zip};
-ghost use Rattle.std.specs.List.{list_all};
-ghost use Rattle.std.specs.Cmp.Lexicographic.{slice_cmp};
-ghost use Rattle.std.specs.Ordering.{nat_cmp, is_eq};
-ghost use Rattle.demand_set.specs.Reading.{bundles_of, fault_from, fault_at, unless, is_after, IsOrNoMemory, seen};
+ghost use Rattle.std.specs.Prelude.{◌≡◌, ◌↔◌, ◌<◌, ◌≤◌, ◌+◌, ◌*◌, length, take, drop, slice_get, Some, IsTrue, IfOk};
+ghost use Rattle.demand_set.specs.Reading.{IsOrNoMemory};
+ghost use Rattle.demand_set.specs.Packed.{numbers_in};
 ghost use Rattle.demand_set.specs.Same.{same_demand};
 
-use lot_base::{Bundle, Goods, NoMemory, RawDemand, compare};
+use crate::places::fault_of;
+use lot_base::{Bundle, Goods, NoMemory, RawDemand};
 use std::alloc::{AllocError, AllocFailed, Global};
-use std::cmp::Ordering;
 use std::marker::Model;
 
 /// Why a demand is refused. Places are those of bundles, from 0.
@@ -28,25 +26,28 @@ pub enum DemandFault {
 /// The bundles that a bidder would like best, in ascending lexicographic order, seen as their list. It is never empty.
 #[derive(Debug, Drop)]
 pub struct Demand {
-    bundles: Vec<Bundle>,
+    /// How many goods each bundle is of.
+    pub(crate) goods: u8,
+    /// The quantities of one bundle after another.
+    pub(crate) quantities: Vec<u16>,
 }
 
 impl Model for Demand {
     ghost use Rattle.std.specs.Prelude.{ℕ, List};
-    ghost use Rattle.demand_set.specs.Held.{IsSomeDemand};
+    ghost use Rattle.demand_set.specs.Reading.{bundles_of};
+    ghost use Rattle.demand_set.specs.Packed.{IsPacked};
 
     ghost Value = { List (List ℕ) };
 
-    ghost view = { λ d. d.bundles.items };
+    ghost view = { λ d. bundles_of d.goods d.quantities.items };
 
-    ghost invariant = { λ d. IsSomeDemand d.bundles.items };
+    ghost invariant = { λ d. IsPacked d.goods d.quantities.items };
 }
 
 impl Demand {
-    ghost use Rattle.std.specs.Prelude.{IfOk};
     ghost use Rattle.lot_base.specs.Demands.{IsDemand};
     ghost use Rattle.demand_set.specs.Held.{IsSomeDemand};
-    ghost use Rattle.demand_set.specs.Reading.{demand_of, bundles_of, IsOrNoMemory, AreWhole};
+    ghost use Rattle.demand_set.specs.Reading.{demand_of, bundles_of, AreWhole};
 
     /// The demand of these quantities, if they are bundles of these goods in ascending order.
     pub fn read(alloc: Global, goods: &Goods, raw: &RawDemand) -> Result<Demand, DemandFault>
@@ -54,15 +55,54 @@ impl Demand {
         ensures fits { IfOk result (λ d. IsDemand goods.now d) }
         ensures value { IsOrNoMemory result (demand_of goods.now raw.now.goods (bundles_of raw.now.goods raw.now.quantities)) }
     {
-        if raw.goods != goods.count() {
-            return Err(DemandFault::WrongGoods(raw.goods));
+        Demand::read_quantities(alloc, goods, raw.goods, raw.quantities.as_slice())
+    }
+
+    /// The demand of these quantities of bundles of so many goods, as `read` does.
+    pub fn read_quantities(
+        alloc: Global,
+        goods: &Goods,
+        count: u8,
+        quantities: &[u16],
+    ) -> Result<Demand, DemandFault>
+        requires { AreWhole count quantities.now }
+        ensures fits { IfOk result (λ d. IsDemand goods.now d) }
+        ensures value { IsOrNoMemory result (demand_of goods.now count (bundles_of count quantities.now)) }
+    {
+        if let Some(fault) = fault_of(goods, count, quantities) {
+            return Err(fault);
         }
-        let quantities = raw.quantities.as_slice();
-        if quantities.is_empty() {
-            return Err(DemandFault::Empty);
+        match quantities.to_vec(alloc) {
+            Ok(quantities) => Ok(Demand {
+                goods: count,
+                quantities,
+            }),
+            Err(_) => Err(DemandFault::NoMemory),
         }
-        let bundles = read_bundles(alloc, goods, quantities)?;
-        Ok(Demand { bundles })
+    }
+
+    /// The demand of these quantities, of two bytes each, the greater byte first, as `read` does.
+    pub fn read_bytes(
+        alloc: Global,
+        goods: &Goods,
+        count: u8,
+        bytes: &[u8],
+    ) -> Result<Demand, DemandFault>
+        requires { AreWhole count (numbers_in bytes.now) }
+        ensures fits { IfOk result (λ d. IsDemand goods.now d) }
+        ensures value { IsOrNoMemory result (demand_of goods.now count (bundles_of count (numbers_in bytes.now))) }
+    {
+        let quantities = match numbers_of(alloc, bytes) {
+            Ok(quantities) => quantities,
+            Err(_) => return Err(DemandFault::NoMemory),
+        };
+        if let Some(fault) = fault_of(goods, count, &quantities) {
+            return Err(fault);
+        }
+        Ok(Demand {
+            goods: count,
+            quantities,
+        })
     }
 
     /// How many bundles there are: 1 to 2,048.
@@ -70,7 +110,7 @@ impl Demand {
         ensures value { result ≡ length self.now }
         ensures held { IsSomeDemand self.now }
     {
-        self.bundles.len() as u32
+        (self.quantities.len() / self.goods as usize) as u32
     }
 
     /// The bundle at a place, from 0.
@@ -78,7 +118,7 @@ impl Demand {
         requires { place < length self.now }
         ensures { slice_get self.now place ≡ Some result }
     {
-        self.bundles[place as usize]
+        bundle_at(&self.quantities, self.goods, place)
     }
 
     /// Whether it is the same list.
@@ -86,88 +126,20 @@ impl Demand {
         ensures same { IsTrue result ↔ (self.now ≡ other.now) }
         ensures test { result ≡ same_demand self.now other.now }
     {
-        self.bundles.len() == other.bundles.len() && all_same(&self.bundles, &other.bundles)
-    }
-
-    /// The bundles themselves.
-    pub(crate) fn bundles(&self) -> &[Bundle]
-        ensures value { result.now ≡ self.now }
-        ensures held { IsSomeDemand self.now }
-    {
-        &self.bundles
+        self.goods == other.goods && self.quantities.as_slice() == other.quantities.as_slice()
     }
 
     /// The same list once more.
     pub fn copy(&self, alloc: Global) -> Result<Demand, NoMemory>
         ensures { IfOk result (λ d. d ≡ self.now) }
     {
-        match self.bundles.to_vec(alloc) {
-            Ok(bundles) => Ok(Demand { bundles }),
+        match self.quantities.to_vec(alloc) {
+            Ok(quantities) => Ok(Demand {
+                goods: self.goods,
+                quantities,
+            }),
             Err(_) => Err(NoMemory),
         }
-    }
-}
-
-/// The bundles of these quantities, or the first fault of them.
-fn read_bundles(
-    alloc: Global,
-    goods: &Goods,
-    quantities: &[u16],
-) -> Result<Vec<Bundle>, DemandFault>
-    requires { length quantities.now % length goods.now ≡ 0 }
-    ensures { IsOrNoMemory (seen result) (unless (fault_from goods.now 0 None (bundles_of (length goods.now) quantities.now)) (bundles_of (length goods.now) quantities.now)) }
-{
-    let size = goods.count() as usize;
-    let mut bundles = Vec::new(alloc);
-    let mut rest = quantities;
-    let mut before = None;
-    for place in 0..quantities.len() / size {
-        let (first, others) = rest.split_at(size);
-        let bundle = bundle_of(first);
-        if let Some(fault) = fault_at(goods, place as u32, before, &bundle) {
-            return Err(fault);
-        }
-        bundles.push(bundle)?;
-        rest = others;
-        before = Some(bundle);
-    }
-    Ok(bundles)
-}
-
-/// The bundle of these quantities.
-fn bundle_of(quantities: &[u16]) -> Bundle
-    requires some { 1 ≤ length quantities.now }
-    requires few { length quantities.now ≤ 6 }
-    ensures { result ≡ quantities.now }
-{
-    Bundle::read(quantities).unwrap()
-}
-
-/// The fault of a bundle at a place after another one, if it has a fault.
-fn fault_at(
-    goods: &Goods,
-    place: u32,
-    before: Option<Bundle>,
-    bundle: &Bundle,
-) -> Option<DemandFault>
-    ensures { result ≡ fault_at goods.now place before bundle.now }
-{
-    if !goods.fits(bundle) {
-        return Some(DemandFault::OutsideSupply(place));
-    }
-    if !is_after(before, bundle) {
-        return Some(DemandFault::NotAscending(place));
-    }
-    None
-}
-
-/// Whether a bundle comes after the one before it, if there is one.
-fn is_after(before: Option<Bundle>, bundle: &Bundle) -> bool
-    ensures { result ≡ is_after before bundle.now }
-{
-    match before {
-        None => true,
-        Some(before) => compare(&before, bundle) == Ordering::Less,
     }
 }
 
@@ -193,11 +165,27 @@ impl<T: Drop> From<AllocFailed<T>> for DemandFault {
     }
 }
 
-/// Whether the bundles at the same places are the same.
-fn all_same(xs: &[Bundle], ys: &[Bundle]) -> bool
-    ensures { result ≡ list_all (λ p. is_eq (slice_cmp nat_cmp p.0 p.1)) (zip xs.now ys.now) }
+/// The bundle at a place of those with these quantities.
+fn bundle_at(quantities: &[u16], goods: u8, place: u32) -> Bundle
+    requires some { 1 ≤ goods }
+    requires few { goods ≤ 6 }
+    requires inside { (place + 1) * goods ≤ length quantities.now }
+    ensures { result ≡ take goods (drop (place * goods) quantities.now) }
 {
-    xs.iter()
-        .zip(ys.iter())
-        .all(|(x, y)| compare(x, y) == Ordering::Equal)
+    let start = place as usize * goods as usize;
+    let others = quantities.split_at(start).1;
+    Bundle::read(&others[..goods as usize]).unwrap()
+}
+
+/// The numbers that pairs of bytes stand for.
+fn numbers_of(alloc: Global, bytes: &[u8]) -> Result<Vec<u16>, AllocError>
+    ensures { IfOk result (λ v. v.items ≡ numbers_in bytes.now) }
+{
+    let mut numbers = Vec::with_capacity(alloc, bytes.len() / 2)?;
+    let mut rest = bytes;
+    while let [high, low, others @ ..] = rest {
+        numbers.push(u16::from_be_bytes([*high, *low]))?;
+        rest = others;
+    }
+    Ok(numbers)
 }

@@ -150,3 +150,22 @@ fn tables_of_six_goods(rt: HostRuntime) -> Result<(), Fail> {
     }
     Ok(())
 }
+
+#[test]
+fn writes_into_a_buffer(rt: HostRuntime) -> Result<(), Fail> {
+    let goods = goods_of(&rt, &[2, 3]);
+    let demand = read(&rt, rt.alloc(), &goods, 2, &[0, 3, 1, 1])?;
+    let mut into = [9u16; 6];
+    assert!(rt; demand.quantities().len() <= 6);
+    assert_eq!(rt; demand.raw_to(&mut into), 4);
+    assert_eq!(rt; into[..], [0, 3, 1, 1, 9, 9][..]);
+    Ok(())
+}
+
+#[test]
+fn reads_bytes(rt: HostRuntime) -> Result<(), Fail> {
+    let goods = goods_of(&rt, &[2, 300]);
+    let demand = Demand::read_bytes(rt.alloc(), &goods, 2, &[0, 0, 1, 3, 0, 1, 0, 1])?;
+    assert_eq!(rt; demand.quantities(), [0, 259, 1, 1].as_slice());
+    Ok(())
+}

@@ -1,13 +1,14 @@
 //! How a demand is written out again.
-ghost use Rattle.std.specs.Prelude.{◌≡◌, ◌≤◌, ◌++◌, ℕ, List, length, Ok, IfOk, OnOk};
+ghost use Rattle.std.specs.Prelude.{◌≡◌, ◌≤◌, ◌++◌, ℕ, List, length, drop, Ok, IfOk};
 ghost use Rattle.std.specs.List.{AllByRecursion, concat};
 
 use crate::reading::Demand;
-use lot_base::{Bundle, NoMemory, RawDemand, Sequence};
-use std::alloc::{AllocError, Global};
+use lot_base::{NoMemory, RawDemand, Sequence};
+use std::alloc::Global;
 
 impl Demand {
     ghost use Rattle.lot_base.specs.Demands.{IsDemand};
+    ghost use Rattle.demand_set.specs.Held.{IsSomeDemand};
     ghost use Rattle.demand_set.specs.Reading.{demand_of, bundles_of, AreWhole};
 
     /// The number of goods, and the quantities of one bundle after another.
@@ -20,36 +21,31 @@ impl Demand {
         ensures bundles { IfOk result (λ r. bundles_of r.goods r.quantities ≡ self.now) }
         ensures read_back { IfOk result (λ r. (supply : List ℕ) → IsDemand supply self.now → demand_of supply r.goods (bundles_of r.goods r.quantities) ≡ Ok self.now) }
     {
-        let bundles = self.bundles();
-        let goods = bundles[0].count();
-        match joined(alloc, bundles, goods) {
+        match self.quantities.to_vec(alloc) {
             Ok(quantities) => Ok(RawDemand {
-                goods,
+                goods: self.goods,
                 quantities: Sequence::from_vec(quantities),
             }),
             Err(_) => Err(NoMemory),
         }
     }
-}
 
-/// The quantities of one bundle after another.
-fn joined(alloc: Global, bundles: &[Bundle], goods: u8) -> Result<Vec<u16>, AllocError>
-    requires few { length bundles.now ≤ 2048 }
-    ensures { IfOk result (λ v. v.items ≡ concat bundles.now) }
-{
-    let mut quantities = Vec::with_capacity(alloc, bundles.len() * goods as usize)?;
-    for x in bundles {
-        append(&mut quantities, x)?;
+    /// Writes the quantities of one bundle after another, and tells how many there are. What is behind them stays.
+    pub fn raw_to(&self, into: &mut [u16]) -> u32
+        requires { length (concat self.now) ≤ length into.old }
+        ensures count { result ≡ length (concat self.now) }
+        ensures written { into.new ≡ concat self.now ++ drop (length (concat self.now)) into.old }
+    {
+        let count = self.quantities.len();
+        into[..count].copy_from_slice(&self.quantities);
+        count as u32
     }
-    Ok(quantities)
-}
 
-/// The quantities of the bundle behind the others.
-fn append(quantities: &mut Vec<u16>, x: &Bundle) -> Result<(), AllocError>
-    ensures { OnOk result (quantities.new.items ≡ quantities.old.items ++ x.now) }
-{
-    for good in 0..x.count() {
-        quantities.push(x.quantity(good))?;
+    /// The quantities of one bundle after another.
+    pub fn quantities(&self) -> &[u16]
+        ensures value { result.now ≡ concat self.now }
+        ensures held { IsSomeDemand self.now }
+    {
+        &self.quantities
     }
-    Ok(())
 }

@@ -1,8 +1,8 @@
-use Rattle.std.proofs.Common.{◌≡◌, ◌<◌, ◌≤◌, ℕ, get_or, max}
+use Rattle.std.proofs.Common.{◌≡◌, ◌*◌, ◌+◌, ◌<◌, ◌≤◌, ℕ, get_or, max}
 use Rattle.demand_set.proofs.quantities.keep_greatest.Given as goal
 
-abbrev pub invariant-loop-set : goal.invariant-loop-set
-invariant-loop-set l = record {
-  kept : (k : ℕ) → k < l.set → get_or l.table k 0 ≡ max (get_or l.initial.table k 0) (get_or l.sums k 0);
-  others : (k : ℕ) → l.set ≤ k → get_or l.table k 0 ≡ get_or l.initial.table k 0;
+abbrev pub invariant-loop-row : goal.invariant-loop-row
+invariant-loop-row l = record {
+  kept : (row set : ℕ) → row < l.row → set < 8 → get_or l.table (8 * row + set) 0 ≡ max (get_or l.initial.table (8 * row + set) 0) (get_or l.halves.low set 0 + get_or l.halves.high row 0);
+  behind : (place : ℕ) → 8 * l.row ≤ place → get_or l.table place 0 ≡ get_or l.initial.table place 0;
 }

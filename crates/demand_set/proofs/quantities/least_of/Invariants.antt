@@ -1,6 +1,13 @@
-use Rattle.std.proofs.Common.{◌+◌, take}
-use Rattle.lot_base.specs.Demands.{IsTable, least}
+use Rattle.std.proofs.Common.{◌≡◌, ◌*◌, ◌-◌, length, min}
+use Rattle.std.specs.List.{AllByRecursion}
+use Rattle.demand_set.specs.Reading.{groups, bundles_of}
+use Rattle.demand_set.specs.Sums.{IsShort}
+use Rattle.demand_set.proofs.Tables.{IsFolding}
 use Rattle.demand_set.proofs.quantities.least_of.Given as goal
 
-abbrev pub invariant-loop-x : goal.invariant-loop-x
-invariant-loop-x l = IsTable l.goods (least (take (l.x-index + 1) l.bundles)) l.table
+abbrev pub invariant-loop-place : goal.invariant-loop-place
+invariant-loop-place l = record {
+  left : length l.rest ≡ (l._place-end - l._place) * l.goods;
+  short : AllByRecursion IsShort (groups (l._place-end - l._place) l.goods l.rest);
+  folding : IsFolding min l.goods 65535 (bundles_of l.goods l.quantities) (groups (l._place-end - l._place) l.goods l.rest) l.table;
+}

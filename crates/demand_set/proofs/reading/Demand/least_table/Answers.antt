@@ -1,5 +1,29 @@
+use Rattle.std.proofs.Common.{◌≡◌, ◌∙◌, sym, ap, subst, List, ℕ}
+use Rattle.std.specs.List.{AllByRecursion}
+use Rattle.lot_base.specs.Demands.{IsTable, least}
+use Rattle.demand_set.specs.Reading.{bundles_of}
+use Rattle.demand_set.specs.Sums.{IsShort}
+use Rattle.demand_set.proofs.Sums.{all-short}
 use Rattle.demand_set.proofs.Slopes.{falls}
+use Rattle.demand_set.proofs.PackedForm.{goods-packed}
 use Rattle.demand_set.proofs.reading.Demand.least_table.Goals as goal
 
+pub least_of-requires-clause-short : goal.least_of-requires-clause-short
+least_of-requires-clause-short c =
+    let S : List ℕ → Type 0 = λ q. AllByRecursion IsShort (bundles_of c.self.inside.goods q) in
+    let V : List (List ℕ) → Type 0 = λ v. AllByRecursion IsShort v in
+    subst S (sym c.deref.ensures.value) (subst V (sym c.self.view_is) (all-short c.args.goods.now c.args.self.now c.count-count.ensures.supply.small c.requires.in_box))
+
+pub returns-clause-table : goal.returns-clause-table
+returns-clause-table c =
+    let size = goods-packed c.args.goods.now c.self.inside.goods c.self.inside.quantities.items c.args.self.now c.self.invariant c.self.view_is c.requires in
+    let same : bundles_of c.self.inside.goods c.deref.result.now ≡ c.args.self.now = ap (bundles_of c.self.inside.goods) c.deref.ensures.value ∙ c.self.view_is in
+    let T : List (List ℕ) → Type 0 = λ v. IsTable c.self.inside.goods (least v) c.least_of.result in
+    let G : ℕ → Type 0 = λ n. IsTable n (least c.args.self.now) c.least_of.result in
+    subst G size (subst T same c.least_of.ensures)
+
 pub returns-clause-falls : goal.returns-clause-falls
-returns-clause-falls c = falls c.args.goods.now c.args.self.now c.bundles.result.now c.count.result c.least_of.result c.count.ensures.length c.bundles.ensures.value c.least_of.ensures
+returns-clause-falls c =
+    let size = goods-packed c.args.goods.now c.self.inside.goods c.self.inside.quantities.items c.args.self.now c.self.invariant c.self.view_is c.requires in
+    let same : bundles_of c.self.inside.goods c.deref.result.now ≡ c.args.self.now = ap (bundles_of c.self.inside.goods) c.deref.ensures.value ∙ c.self.view_is in
+    falls c.args.goods.now c.args.self.now (bundles_of c.self.inside.goods c.deref.result.now) c.self.inside.goods c.least_of.result size same c.least_of.ensures
