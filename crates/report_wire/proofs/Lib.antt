@@ -1,0 +1,5 @@
+pub mod Streams
+pub mod Needs
+mod Fronts
+pub mod Spelling
+mod Pairs

@@ -1,0 +1,56 @@
+-- Payloads. A report's is a first byte (the bidder in an entry, the clock in a frame), the round in four bytes, the number of goods in
+-- one, the number of bundles in two, and then the quantities of the bundles, one after another, in two each. A price's is the
+-- clock, the round in four bytes, the phase, the good at which the clock is halted, the number of goods, and the prices in four
+-- bytes each.
+use Rattle.std.specs.Prelude.{ℕ, ◌+◌, ◌*◌, ◌/◌, ◌==◌, nat_le, nat_lt, Bool, ◌&&◌, ◌||◌, List, ◌∷◌, ◌++◌, length, take, drop, slice_index, if◌then◌else◌}
+use Rattle.std.specs.Int.{w16, w32, to_be_bytes, from_be_bytes}
+use Rattle.std.specs.List.{flat_map}
+use Rattle.lot_base.specs.declared.phases.Phase.{Phase}
+use Rattle.lot_base.specs.declared.phases.Phase.TheVariants.{Running, Ended, Halted}
+
+abbrev pub report_payload : ℕ → ℕ → ℕ → List ℕ → List ℕ
+report_payload first round goods quantities =
+    first ∷ to_be_bytes w32 round ++ goods ∷ to_be_bytes w16 (length quantities / goods) ++ flat_map (to_be_bytes w16) quantities
+
+-- how many goods and how many bundles a report's payload names
+abbrev pub goods_in : List ℕ → ℕ
+goods_in payload = slice_index payload 5
+
+abbrev pub bundles_in : List ℕ → ℕ
+bundles_in payload = from_be_bytes w16 (take 2 (drop 6 payload))
+
+abbrev pub is_between : ℕ → ℕ → ℕ → Bool
+is_between low high n = nat_le low n && nat_le n high
+
+abbrev pub is_report_payload : List ℕ → Bool
+is_report_payload payload = (nat_le 8 (length payload) && is_between 1 6 (goods_in payload)) && (length payload == 8 + 2 * (goods_in payload * bundles_in payload))
+
+abbrev pub phase_number : Phase → ℕ
+phase_number Running = 0
+phase_number Ended = 1
+phase_number (Halted good) = 2
+
+abbrev pub halted_good : Phase → ℕ
+halted_good Running = 0
+halted_good Ended = 0
+halted_good (Halted good) = good
+
+abbrev pub price_payload : ℕ → ℕ → Phase → List ℕ → List ℕ
+price_payload clock round phase prices =
+    clock ∷ to_be_bytes w32 round ++ phase_number phase ∷ halted_good phase ∷ length prices ∷ flat_map (to_be_bytes w32) prices
+
+-- a phase in two numbers: only a halted clock has a good, one of the goods
+abbrev pub is_phase : ℕ → ℕ → ℕ → Bool
+is_phase phase good goods = (nat_lt phase 2 && good == 0) || (phase == 2 && nat_lt good goods)
+
+abbrev pub is_price_payload : List ℕ → Bool
+is_price_payload payload =
+    (nat_le 8 (length payload) && is_between 1 6 (slice_index payload 7))
+    && ((length payload == 8 + 4 * slice_index payload 7) && is_phase (slice_index payload 5) (slice_index payload 6) (slice_index payload 7))
+
+-- a code of 1 to 16, and a detail of 1 to 4 behind code 5, or else of 0
+abbrev pub is_refusal : ℕ → ℕ → Bool
+is_refusal code detail = is_between 1 16 code && (if code == 5 then is_between 1 4 detail else detail == 0)
+
+abbrev pub is_refused_payload : List ℕ → Bool
+is_refused_payload payload = (length payload == 6) && is_refusal (slice_index payload 0) (slice_index payload 1)

@@ -1,0 +1,122 @@
+//! Frames to the house.
+ghost use Rattle.std.specs.Prelude.{◌≡◌, ◌++◌, length, true, OnOk};
+ghost use Rattle.report_wire.specs.Frames.{IsMessage, spelling};
+ghost use Rattle.report_wire.specs.Messages.{to_house, house_kind, house_payload};
+ghost use Rattle.report_wire.specs.Payloads.{report_payload};
+
+use crate::entries::{push_report, read_report};
+use crate::frames::Frame;
+use crate::messages::ToHouse;
+use crate::numbers::push_head;
+use lot_base::{NoMemory, RawDemand, RawReport, Sequence};
+use std::alloc::{AllocError, Global};
+
+impl Frame for ToHouse {
+    ghost use Rattle.report_wire.specs.Messages.{to_house, house_kind, house_payload};
+    ghost use Rattle.report_wire.specs.Forms.{house_is};
+
+    ghost direction = { to_house };
+
+    ghost kind_of = { house_kind };
+
+    ghost payload_of = { house_payload };
+
+    fn is_kind(kind: u8) -> bool {
+        kind >= 1 && kind <= 4
+    }
+
+    fn allows(kind: u8, length: u32) -> bool {
+        kind == 1 && (length >= 2 && length <= 65)
+            || kind == 2 && length == 1
+            || (kind == 3 || kind == 4 && length == 0)
+    }
+
+    fn read(alloc: Global, kind: u8, payload: &[u8]) -> Result<Option<ToHouse>, NoMemory> {
+        match kind {
+            1 => {
+                let Ok(token) = payload[1..].to_vec(alloc) else {
+                    return Err(NoMemory);
+                };
+                Ok(Some(ToHouse::Hello {
+                    bidder: payload[0],
+                    token: Sequence::from_vec(token),
+                }))
+            }
+            2 => Ok(Some(ToHouse::Look { clock: payload[0] })),
+            3 => {
+                match read_report(alloc, payload) {
+                    Ok(Some(report)) => {
+                        let RawReport {
+                            bidder: clock,
+                            round,
+                            demand,
+                        } = report;
+                        Ok(Some(ToHouse::Report {
+                            clock,
+                            round,
+                            demand,
+                        }))
+                    }
+                    Ok(None) => Ok(None),
+                    Err(NoMemory) => Err(NoMemory),
+                }
+            }
+            _ => Ok(Some(ToHouse::Quit)),
+        }
+    }
+
+    fn encode(&self, alloc: Global) -> Result<Vec<u8>, NoMemory> {
+        let mut bytes = Vec::new(alloc);
+        match push_to_house(&mut bytes, self) {
+            Ok(()) => Ok(bytes),
+            Err(_) => Err(NoMemory),
+        }
+    }
+
+    ghost formed = { house_is };
+}
+
+/// Appends the frame of a message.
+fn push_to_house(bytes: &mut Vec<u8>, message: &ToHouse) -> Result<(), AllocError>
+    requires { IsMessage to_house (house_kind message.now) (house_payload message.now) }
+    ensures { OnOk result (bytes.new.items ≡ bytes.old.items ++ spelling (house_kind message.now) (house_payload message.now)) }
+{
+    match message {
+        ToHouse::Hello { bidder, token } => {
+            let token = token.as_slice();
+            push_head(bytes, 1 + token.len() as u32, 1)?;
+            bytes.push(*bidder)?;
+            bytes.extend_from_slice(token)
+        }
+        ToHouse::Look { clock } => {
+            push_head(bytes, 1, 2)?;
+            bytes.push(*clock)?;
+            Ok(())
+        }
+        ToHouse::Report {
+            clock,
+            round,
+            demand,
+        } => {
+            push_report_frame(bytes, *clock, *round, demand)?;
+            Ok(())
+        }
+        ToHouse::Quit => push_head(bytes, 0, 4),
+    }
+}
+
+/// Appends the frame of a report.
+fn push_report_frame(
+    bytes: &mut Vec<u8>,
+    clock: u8,
+    round: u32,
+    demand: &RawDemand,
+) -> Result<(), AllocError>
+    requires { IsMessage to_house 3 (report_payload clock round demand.now.goods demand.now.quantities) }
+    ensures { OnOk result (bytes.new.items ≡ bytes.old.items ++ spelling 3 (report_payload clock round demand.now.goods demand.now.quantities)) }
+{
+    let length = 8 + 2 * demand.quantities.as_slice().len();
+    push_head(bytes, length as u32, 3)?;
+    push_report(bytes, clock, round, demand)?;
+    Ok(())
+}
