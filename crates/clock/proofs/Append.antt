@@ -102,7 +102,7 @@ pub past-push : (limit : ℕ) (reports : List Report) (r : Report) → AllByRecu
 past-push limit [] r past now = (now, tt)
 past-push limit (x ∷ reports) r past now = (past.0, past-push limit reports r past.1 now)
 
-absent-beyond : (limit round j : ℕ) (reports : List Report) → limit < round → AllByRecursion (λ (x : Report). x.round ≤ limit) reports → find (is_named round j) reports ≡ None
+pub absent-beyond : (limit round j : ℕ) (reports : List Report) → limit < round → AllByRecursion (λ (x : Report). x.round ≤ limit) reports → find (is_named round j) reports ≡ None
 absent-beyond limit round j [] beyond past = refl
 absent-beyond limit round j (x ∷ reports) beyond past =
     let other : nat_eq x.round round ≡ false = (let p = past.0 in grind (arith, nat_tests)) in

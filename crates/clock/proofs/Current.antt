@@ -9,7 +9,7 @@ use Rattle.lot_base.specs.declared.phases.Phase.{Phase}
 use Rattle.clock.specs.Reports.{is_named, demand_in, demands_in, ClockHistory}
 use Rattle.clock.specs.Standing.{last_round}
 use Rattle.credit_book.specs.Account.{Sums}
-use Rattle.clock.specs.Kept.{IsKept}
+use Rattle.clock.specs.Kept.{HasStanding}
 
 find-current : (current steps j : ℕ) (reports : List Report) → AllByRecursion (λ (r : Report). r.round ≤ steps) (take current reports)
     → find (is_named (steps + 1) j) (drop current reports) ≡ find (is_named (steps + 1) j) reports
@@ -45,7 +45,7 @@ all-drop P n reports round all e = by n reports all e
     by (suc n) (x ∷ reports) all e = by n reports all.1 e
 
 -- the same in the words of the clock that keeps the place
-pub current-means : (c : ClockHistory) (kept : ClockHistory) (current steps : ℕ) (phase : Phase) (prices : List ℕ) (account : Sums) (list round : List Report) → IsKept c current steps phase prices account → c ≡ kept → list ≡ c.reports → round ≡ drop current list
+pub current-means : (c : ClockHistory) (kept : ClockHistory) (current steps : ℕ) (phase : Phase) (prices : List ℕ) (account : Sums) (list round : List Report) → HasStanding c current steps phase prices account → c ≡ kept → list ≡ c.reports → round ≡ drop current list
     → (j : ℕ) → demand_in round (last_round kept) j ≡ demand_in kept.reports (last_round kept) j
 current-means c kept current steps phase prices account list round k same whole e j =
     let P : ClockHistory → Type 0 = λ h. demand_in round (last_round h) j ≡ demand_in h.reports (last_round h) j in
@@ -53,7 +53,7 @@ current-means c kept current steps phase prices account list round k same whole 
     subst P same (subst Q k.steps_are (demand-current current steps j c.reports round k.past (e ∙ ap (drop current) whole)))
 
 -- they are all of that round
-pub current-only : (c : ClockHistory) (kept : ClockHistory) (current steps : ℕ) (phase : Phase) (prices : List ℕ) (account : Sums) (list round : List Report) → IsKept c current steps phase prices account → c ≡ kept → list ≡ c.reports → round ≡ drop current list
+pub current-only : (c : ClockHistory) (kept : ClockHistory) (current steps : ℕ) (phase : Phase) (prices : List ℕ) (account : Sums) (list round : List Report) → HasStanding c current steps phase prices account → c ≡ kept → list ≡ c.reports → round ≡ drop current list
     → AllByRecursion (λ (r : Report). r.round ≡ last_round kept) round
 current-only c kept current steps phase prices account list round k same whole e =
     let P : ClockHistory → Type 0 = λ h. AllByRecursion (λ (r : Report). r.round ≡ last_round h) round in

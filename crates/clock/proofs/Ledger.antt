@@ -17,7 +17,7 @@ use Rattle.clock.specs.Reports.{ClockHistory, with_report, members, members_of, 
 use Rattle.clock.specs.Standing.{leads_on, is_full_after, step_set_after, good_at_ceiling}
 use Rattle.lot_base.specs.declared.phases.Phase.{Phase}
 use Rattle.clock.specs.Accounts.{account_after, account_without}
-use Rattle.clock.specs.Kept.{IsKept}
+use Rattle.clock.specs.Kept.{HasStanding}
 use Rattle.clock.specs.Tables.{is_member_of, AreTablesOf}
 use Rattle.lot_base.proofs.Within.{both}
 use Rattle.clock.proofs.Path.{compare-or}
@@ -184,6 +184,6 @@ unfolding account_after
 account-zero c bidders = refl
 
 -- the account that a clock keeps is that of its history
-pub account-kept : (c kept : ClockHistory) (current steps : ℕ) (phase : Phase) (prices : List ℕ) (account : Sums) (b : ℕ) → IsKept c current steps phase prices account → c ≡ kept → sum_without account b ≡ account_without kept b
+pub account-kept : (c kept : ClockHistory) (current steps : ℕ) (phase : Phase) (prices : List ℕ) (account : Sums) (b : ℕ) → HasStanding c current steps phase prices account → c ≡ kept → sum_without account b ≡ account_without kept b
 account-kept c kept current steps phase prices account b k same =
     k.account_is b ∙ ap (account_after c (without b (members_of c))) k.steps_are ∙ ap (λ h. account_without h b) same

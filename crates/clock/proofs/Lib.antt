@@ -11,3 +11,17 @@ pub mod After
 pub mod Judges
 pub mod Truthful
 pub mod Growing
+pub mod Appended
+pub mod Stored
+pub mod Moves
+pub mod Totals
+pub mod Pushed
+pub mod InOrder
+pub mod Taking
+pub mod Going
+pub mod Looking
+pub mod Repeated
+pub mod FirstMembers
+pub mod Again
+pub mod AgainRounds
+pub mod SameSets

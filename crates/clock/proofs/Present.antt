@@ -28,7 +28,7 @@ each-passes test q a (suc n) b above below here all = by (q a) refl (eq-or-lt_of
     by false e (inl same) rest all = absurd (let f : false ≡ true = sym e ∙ ap q same ∙ here in cc)
     by false e (inr later) rest all = rest later all
 
-reported : (c : ClockHistory) (round b : ℕ) → is_member c b ≡ true → is_full (members_of c) c.reports round ≡ true → is_some (demand_in c.reports round b) ≡ true
+pub reported : (c : ClockHistory) (round b : ℕ) → is_member c b ≡ true → is_full (members_of c) c.reports round ≡ true → is_some (demand_in c.reports round b) ≡ true
 reported c round b member full =
     let h = both (nat_le 1 b) (nat_le b c.terms.bidders && not (nat_eq b c.number)) member in
     let k = both (nat_le b c.terms.bidders) (not (nat_eq b c.number)) h.1 in

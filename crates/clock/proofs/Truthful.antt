@@ -18,16 +18,11 @@ use Rattle.lyapunov.proofs.Moments.{as_many, few_steps, least_near_opening, ende
 use Rattle.lyapunov.proofs.Ceiling.{below_ceiling}
 use Rattle.lot_base.proofs.Openings.{all-below, at-below_all}
 use Rattle.clock.specs.Reports.{ClockHistory, members_of, is_named, demand_in, demands_in, is_full}
-use Rattle.clock.specs.Standing.{prices_after, step_set_after, is_full_after, good_at_ceiling, good_from, leads_on, phase_by, phase_of, prices_of, steps_of}
+use Rattle.clock.specs.Standing.{sets_of, prices_after, step_set_after, is_full_after, good_at_ceiling, good_from, leads_on, phase_by, phase_of, prices_of, steps_of}
 use Rattle.clock.specs.Explained.{Explains, IsTrueReport}
 use Rattle.clock.specs.Accounts.{account_after, account_without}
 use Rattle.lot_base.proofs.Within.{both}
 use Rattle.clock.proofs.Path.{has_steps}
-
--- the step sets of the first so many rounds
-unfoldable pub sets_of : ClockHistory → ℕ → List ℕ
-sets_of c zero = []
-sets_of c (suc n) = sets_of c n ++ step_set_after c n ∷ []
 
 pub length-sets_of : (c : ClockHistory) (n : ℕ) → length (sets_of c n) ≡ n
 unfolding sets_of

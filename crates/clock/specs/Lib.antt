@@ -5,7 +5,9 @@ pub mod Explained
 pub mod Accounts
 pub mod Kept
 pub mod Tables
-pub mod Next
+pub mod Turns
+pub mod Past
 pub mod Replays
 pub mod RowsClocks
 pub mod Growth
+pub mod Repeats

@@ -1,11 +1,12 @@
 -- The reports of a clock, read as a whole list by the names in it. The clock of all bidders has the number 0, and clock c has
 -- all bidders but c. A report names a round, from 1, and a bidder, from 1. Where several reports have one name, the first
 -- counts.
-use Rattle.std.specs.Prelude.{ℕ, ◌==◌, Bool, ◌&&◌, List, [], ◌++◌, ◌∷◌, map, find, Option, is_some, unwrap_or, option_map}
-use Rattle.std.specs.List.{list_all, range_with_len}
+use Rattle.std.specs.Prelude.{ℕ, ◌-◌, length, ◌==◌, Bool, ◌&&◌, List, [], ◌++◌, ◌∷◌, map, find, Option, is_some, unwrap_or, option_map}
+use Rattle.std.specs.List.{concat, list_all, range_with_len}
 use Rattle.lot_base.specs.Economy.{without}
 use Rattle.lot_base.specs.declared.auction_terms.Terms.{Terms}
 use Rattle.demand_set.specs.declared.reports.Report.{Report}
+use Rattle.lot_base.specs.declared.supply.GoodSet.{GoodSet}
 
 -- a clock's terms, its number, and the reports that were applied, in order
 pub record ClockHistory : Type 0 where
@@ -13,8 +14,7 @@ pub record ClockHistory : Type 0 where
   pub number : ℕ
   pub reports : List Report
 
--- A clock as its callers see it: its history, and for how many more reports and quantities it has room, without taking memory. No room
--- is set aside yet.
+-- A clock as its callers see it: its history, and for how many more reports and quantities it has room, without taking memory.
 pub record ClockOf : Type 0 where
   pub history : ClockHistory
   pub spare_reports : ℕ
@@ -27,6 +27,14 @@ histories clocks = map (λ c. c.history) clocks
 -- the history with one report more
 abbrev pub with_report : ClockHistory → Report → ClockHistory
 with_report c r = record c { reports = c.reports ++ r ∷ [] }
+
+-- The clock with one report more, which takes what it needs from the room, as far as there is any.
+abbrev pub applied : ClockOf → Report → ClockOf
+applied k r = record { history = with_report k.history r; spare_reports = k.spare_reports - 1; spare_quantities = k.spare_quantities - length (concat r.demand) }
+
+-- the sets as numbers
+abbrev pub set_numbers : List GoodSet → List ℕ
+set_numbers sets = map (λ s. s.0) sets
 
 -- all bidders, and the members of a clock, in order
 abbrev pub all_bidders : ℕ → List ℕ

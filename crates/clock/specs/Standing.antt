@@ -3,7 +3,7 @@
 -- ended where the step set is empty, and is halted where it has a good at the ceiling.
 -- A clock is counted in steps: after n steps it is in round n + 1. What is said of more steps than the clock has made means
 -- nothing.
-use Rattle.std.specs.Prelude.{◌≡◌, ◌<◌, ℕ, zero, suc, ◌+◌, ◌*◌, ◌/◌, ◌%◌, ◌==◌, Bool, true, false, not, ◌&&◌, List, [], ◌∷◌, length, if◌then◌else◌, find, Option, Some, None, is_none, unwrap_or}
+use Rattle.std.specs.Prelude.{◌≡◌, ◌<◌, ℕ, zero, suc, ◌+◌, ◌*◌, ◌/◌, ◌%◌, ◌==◌, Bool, true, false, not, ◌&&◌, List, [], ◌∷◌, ◌++◌, length, if◌then◌else◌, find, Option, Some, None, is_none, unwrap_or}
 use Rattle.lot_base.specs.Goods.{raised}
 use Rattle.lot_base.specs.Steps.{step_set}
 use Rattle.lot_base.specs.declared.phases.Phase.{Phase}
@@ -22,6 +22,11 @@ is_full_after c steps = is_full (members_of c) c.reports (steps + 1)
 unfoldable pub prices_after : ClockHistory → ℕ → List ℕ
 prices_after c zero = c.terms.opening
 prices_after c (suc steps) = raised (prices_after c steps) (step_set_after c steps)
+
+-- the step sets of the first so many rounds
+unfoldable pub sets_of : ClockHistory → ℕ → List ℕ
+sets_of c zero = []
+sets_of c (suc n) = sets_of c n ++ step_set_after c n ∷ []
 
 -- the first good of a set that is at the ceiling, counted from a number on
 abbrev pub good_from : ℕ → ℕ → List ℕ → ℕ → Option ℕ

@@ -1,41 +1,52 @@
 //! A clock.
-ghost use Rattle.std.specs.Prelude.{◌≡◌, ◌+◌, ◌-◌, ◌<◌, ◌≤◌, ◌++◌, [], ◌∷◌, ℕ, List, length, OnOk, IfOk, IfErr, IfSome, IsTrue, option_copied};
+ghost use Rattle.std.specs.Prelude.{◌≡◌, ◌+◌, ◌-◌, ◌<◌, ◌≤◌, ◌++◌, [], ◌∷◌, ℕ, List, length, max, slice_get, Some, OnOk, OnErr, IfOk, IfErr, IfSome, IsTrue, option_copied};
 
-use crate::rounds::missing_in;
+use crate::packing::Past;
+use crate::rounds::{find_demand, member_count, missing_in, prices_along};
 use crate::standing::Standing;
 use credit_book::Account;
 use demand_set::{Demand, Report};
-use lot_base::{NoMemory, Phase, Prices, Terms};
+use lot_base::limits::MOST_BIDDERS;
+use lot_base::{Excess, LeastTable, NoMemory, Phase, Prices, Terms};
 use std::alloc::Global;
 use std::marker::Model;
 
-/// One clock, seen as its history: its terms, its number and the reports that were applied, in order.
+/// One clock, seen as its history: its terms, its number and the reports that were applied, in order; and for how many more reports
+/// and quantities it has room.
 #[derive(Debug, Drop)]
 pub struct Clock {
     pub(crate) terms: Terms,
     pub(crate) number: u8,
-    pub(crate) reports: Vec<Report>,
-    /// Where the reports of the last or current round begin.
-    pub(crate) current: usize,
+    /// The reports that were applied, packed.
+    pub(crate) past: Past,
+    /// The reports of the last or current round.
+    pub(crate) present: Vec<Report>,
+    /// How many members have no report in that round.
+    left: u8,
     pub(crate) steps: u32,
     pub(crate) phase: Phase,
-    prices: Prices,
-    account: Account,
+    pub(crate) prices: Prices,
+    /// The least quantities that each bidder demands, at its number, of those who have reported in the round.
+    pub(crate) tables: [Option<LeastTable>; 13],
+    /// How far the demands of the round are above the supply, each set at its number.
+    excess: Excess,
+    pub(crate) account: Account,
 }
 
 impl Model for Clock {
+    ghost use Rattle.std.specs.Vec.{vec_capacity};
     ghost use Rattle.clock.specs.Reports.{ClockOf};
     ghost use Rattle.clock.specs.Kept.{IsKept};
 
     ghost Value = { ClockOf };
 
     ghost view = { λ c. record {
-      history = record { terms = c.terms; number = c.number; reports = c.reports.items };
-      spare_reports = 0;
-      spare_quantities = 0;
+      history = record { terms = c.terms; number = c.number; reports = c.past.reports };
+      spare_reports = c.past.spare_reports;
+      spare_quantities = c.past.spare_quantities;
     } };
 
-    ghost invariant = { λ c. IsKept (record { terms = c.terms; number = c.number; reports = c.reports.items }) c.current c.steps c.phase c.prices c.account };
+    ghost invariant = { λ c. IsKept (record { terms = c.terms; number = c.number; reports = c.past.reports }) c.past c.present.items c.left c.steps c.phase c.prices c.tables c.excess.0 c.account (vec_capacity c.present) };
 }
 
 /// What a clock shows: its last or current round, how it stands and at which prices.
@@ -59,7 +70,8 @@ impl Clock {
     ghost use Rattle.lot_base.specs.Economy.{lyapunov, without, AllBelowCeiling, IsLeastMinimiser};
     ghost use Rattle.lot_base.specs.declared.phases.Phase.TheVariants.{Ended, Halted};
     ghost use Rattle.lyapunov.specs.Paths.{highest_rise, IsLeastNear};
-    ghost use Rattle.clock.specs.Reports.{demand_in, with_report, members_of};
+    ghost use Rattle.std.specs.List.{concat};
+    ghost use Rattle.clock.specs.Reports.{demand_in, with_report, applied, members_of};
     ghost use Rattle.clock.specs.Explained.{Explains};
     ghost use Rattle.clock.specs.Standing.{HasSteps, steps_of, last_round, phase_of, prices_after, prices_of, missing_of};
     ghost use Rattle.clock.specs.Judging.{judgement_of, IsJudgement, IsLegal};
@@ -74,48 +86,147 @@ impl Clock {
         requires { number ≤ terms.now.bidders }
         ensures { IfOk result (λ c. c.history ≡ record { terms = terms.now; number = number; reports = [] }) }
     {
-        let reports = Vec::new(alloc);
+        Clock::with_room(alloc, terms, number, 0, 0)
+    }
+
+    /// A clock of these terms without reports, with room for so many reports and quantities.
+    pub fn with_room(
+        alloc: Global,
+        terms: &Terms,
+        number: u8,
+        reports: u32,
+        quantities: u32,
+    ) -> Result<Clock, NoMemory>
+        requires { number ≤ terms.now.bidders }
+        ensures { IfOk result (λ c. c ≡ record { history = record { terms = terms.now; number = number; reports = [] }; spare_reports = reports; spare_quantities = quantities }) }
+    {
+        let mut past = Past::new(alloc, &terms.goods);
+        match past.reserve(reports, quantities) {
+            Ok(()) => {}
+            Err(NoMemory) => return Err(NoMemory),
+        }
+        let Ok(present) = Vec::with_capacity(alloc, MOST_BIDDERS as usize) else {
+            return Err(NoMemory);
+        };
+        let left = member_count(terms.bidders, number);
+        let tables = [None; 13];
+        let excess = lyapunov::opening(&terms.goods);
         let mut account = Account::new();
-        let prices = terms.opening;
-        let standing = Standing::next(terms, number, &reports, 0, 0, &prices, &mut account);
+        let standing = Standing::next(
+            terms,
+            0,
+            &terms.opening,
+            left,
+            &excess,
+            &tables,
+            &mut account,
+        );
         Ok(Clock {
             terms: *terms,
             number,
-            reports,
-            current: standing.current,
+            past,
+            present,
+            left,
             steps: standing.steps,
             phase: standing.phase,
             prices: standing.prices,
+            tables,
+            excess,
             account,
         })
     }
 
-    /// Applies a report that is judged `Take`. Where there is no memory for it, it comes back and the clock is unchanged.
+    /// Takes room for at least one report and so many quantities. Nothing else changes.
+    pub fn reserve(&mut self, _alloc: Global, quantities: u32) -> Result<(), NoMemory>
+        ensures ok { OnOk result (self.new ≡ record self.old { spare_reports = max self.old.spare_reports 1; spare_quantities = max self.old.spare_quantities quantities }) }
+        ensures err { OnErr result (self.new ≡ self.old) }
+    {
+        self.past.reserve(1, quantities)
+    }
+
+    /// Applies a report that is judged `Take`. Where there is no memory for it, it comes back and the clock is unchanged. A report
+    /// for which there is room takes none.
     pub fn apply(&mut self, _alloc: Global, report: Report) -> Result<(), NotApplied>
         requires take { judgement_of self.old.history report ≡ Take }
         requires fits { IsDemand self.old.history.terms.goods report.demand }
         ensures ok { OnOk result (self.new.history ≡ with_report self.old.history report) }
         ensures err { IfErr result (λ e. (e.report ≡ report) × (self.new ≡ self.old)) }
+
+        // The report takes what it needs from the room, and where that is enough it is applied.
+        ensures spare { OnOk result (self.new ≡ applied self.old report) }
+        ensures room { OnErr result ((1 ≤ self.old.spare_reports) × (length (concat report.demand) ≤ self.old.spare_quantities) → ⊥) }
     {
-        if let Err(refused) = self.reports.push(report) {
-            return Err(NotApplied {
-                report: refused.value,
-            });
+        let quantities = report.demand.quantities().len() as u32;
+        match self.past.reserve(1, quantities) {
+            Ok(()) => {
+                self.take(report);
+                Ok(())
+            }
+            Err(NoMemory) => Err(NotApplied { report }),
         }
+    }
+
+    /// Applies a report for which there is room.
+    pub(crate) fn take(&mut self, report: Report)
+        requires take { judgement_of self.old.history report ≡ Take }
+        requires fits { IsDemand self.old.history.terms.goods report.demand }
+        requires reports { 1 ≤ self.old.spare_reports }
+        requires quantities { length (concat report.demand) ≤ self.old.spare_quantities }
+        ensures { self.new ≡ applied self.old report }
+    {
+        let goods = self.terms.goods;
+        let table = report.demand.least_table(&goods);
+        lyapunov::add_table(&goods, &mut self.excess, &table);
+        self.tables[report.bidder as usize] = Some(table);
+        self.past.push(&report, 2 * MOST_BIDDERS as usize);
+        let _in_room = self.present.push(report);
+        self.left -= 1;
         let standing = Standing::next(
             &self.terms,
-            self.number,
-            &self.reports,
-            self.current,
             self.steps,
             &self.prices,
+            self.left,
+            &self.excess,
+            &self.tables,
             &mut self.account,
         );
-        self.current = standing.current;
         self.steps = standing.steps;
         self.phase = standing.phase;
         self.prices = standing.prices;
-        Ok(())
+        let Some(set) = standing.raised else {
+            return;
+        };
+        self.past.raise(set);
+        self.left = self.present.len() as u8;
+        self.present.clear();
+        self.excess = lyapunov::opening(&goods);
+    }
+
+    /// How many reports were applied.
+    pub fn count(&self) -> u32
+        ensures { result ≡ length self.now.history.reports }
+    {
+        self.past.count() as u32
+    }
+
+    /// The report of a number, from 1.
+    pub fn report(&self, alloc: Global, number: u32) -> Result<Report, NoMemory>
+        requires from_one { 1 ≤ number }
+        requires to_last { number ≤ length self.now.history.reports }
+        ensures { IfOk result (λ r. slice_get self.now.history.reports (number - 1) ≡ Some r) }
+    {
+        self.past
+            .report(alloc, &self.terms.goods, number as usize - 1)
+    }
+
+    /// The prices of a round, from 1 to the last or current one. Takes no memory.
+    pub fn prices_at(&self, round: u32) -> Prices
+        requires from_one { 1 ≤ round }
+        requires to_last { round ≤ last_round self.now.history }
+        ensures { result ≡ prices_after self.now.history (round - 1) }
+    {
+        let sets = self.past.sets();
+        prices_along(&self.terms.opening, &sets[..round as usize - 1])
     }
 
     /// The number of the clock.
@@ -185,7 +296,7 @@ impl Clock {
         missing_in(
             self.terms.bidders,
             self.number,
-            self.current_round(),
+            &self.present,
             self.steps + 1,
         )
         .unwrap_or(0)
@@ -196,6 +307,6 @@ impl Clock {
         ensures value { option_copied result ≡ demand_in self.now.history.reports (last_round self.now.history) bidder }
         ensures fits { IfSome (option_copied result) (IsDemand self.now.history.terms.goods) }
     {
-        self.demand_of(bidder, self.steps + 1)
+        find_demand(&self.present, self.steps + 1, bidder)
     }
 }

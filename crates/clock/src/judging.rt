@@ -1,9 +1,9 @@
 //! What becomes of a report.
-ghost use Rattle.std.specs.Prelude.{◌≡◌, ◌+◌, ℕ, option_copied};
+ghost use Rattle.std.specs.Prelude.{◌≡◌, ◌≤◌, option_map};
 
 use crate::clocks::Clock;
-use crate::rounds::find_demand;
-use demand_set::{Demand, Report};
+use crate::rounds::{find_demand, member_count};
+use demand_set::Demand;
 use lot_base::Phase;
 
 /// What becomes of a report. Rounds are numbered from 1.
@@ -42,8 +42,7 @@ pub enum Offered {
 }
 
 impl Clock {
-    ghost use Rattle.std.specs.List.{AllByRecursion};
-    ghost use Rattle.demand_set.specs.declared.reports.Report.{Report as ReportValue};
+    ghost use Rattle.demand_set.specs.Same.{same_demand};
     ghost use Rattle.clock.specs.Reports.{demand_in};
     ghost use Rattle.clock.specs.Standing.{last_round};
     ghost use Rattle.clock.specs.Judging.{judgement_of, IsJudgement};
@@ -71,34 +70,28 @@ impl Clock {
                 Phase::Ended | Phase::Halted(_) => Judgement::Over(self.steps + 1),
             };
         }
-        match self.demand_of(bidder, round) {
+        match self.repeats(bidder, round, demand) {
             None => Judgement::Take,
-            Some(before) => {
-                if before.same(demand) {
-                    Judgement::Again
-                } else {
-                    Judgement::Conflict(round)
-                }
-            }
+            Some(true) => Judgement::Again,
+            Some(false) => Judgement::Conflict(round),
         }
     }
 
-    /// The reports of the last or current round.
-    pub(crate) fn current_round(&self) -> &[Report]
-        ensures found { (j : ℕ) → demand_in result.now (last_round self.now.history) j ≡ demand_in self.now.history.reports (last_round self.now.history) j }
-        ensures only { AllByRecursion (λ (r : ReportValue). r.round ≡ last_round self.now.history) result.now }
-    {
-        self.reports.split_at(self.current).1
-    }
-
-    /// The demand of a bidder in a round; that of the last or current round is found among its few reports.
-    pub(crate) fn demand_of(&self, bidder: u8, round: u32) -> Option<&Demand>
-        ensures { option_copied result ≡ demand_in self.now.history.reports round bidder }
+    /// Whether a demand is that of a bidder in a round, if the bidder has reported in it. The reports of an earlier round, one of each
+    /// member, stand together.
+    fn repeats(&self, bidder: u8, round: u32, demand: &Demand) -> Option<bool>
+        requires from_one { 1 ≤ round }
+        requires to_last { round ≤ last_round self.now.history }
+        ensures { result ≡ option_map (λ before. same_demand before demand.now) (demand_in self.now.history.reports round bidder) }
     {
         if round == self.steps + 1 {
-            find_demand(self.current_round(), round, bidder)
-        } else {
-            find_demand(&self.reports, round, bidder)
+            return match find_demand(&self.present, round, bidder) {
+                None => None,
+                Some(before) => Some(before.same(demand)),
+            };
         }
+        let members = member_count(self.terms.bidders, self.number) as usize;
+        self.past
+            .repeats((round as usize - 1) * members, members, bidder, demand)
     }
 }

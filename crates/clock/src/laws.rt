@@ -1,13 +1,14 @@
 //! Laws on clocks: where a notion is said in two ways, both say the same, and each has one answer.
-ghost use Rattle.std.specs.Prelude.{◌≡◌, ◌↔◌, ℕ};
-ghost use Rattle.std.specs.List.{Contains};
+ghost use Rattle.std.specs.Prelude.{◌≡◌, ◌↔◌, ℕ, ◌+◌, ◌-◌, is_none};
+ghost use Rattle.std.specs.List.{Contains, AllByRecursion};
 ghost use Rattle.demand_set.specs.declared.reports.Report.{Report};
-ghost use Rattle.clock.specs.Reports.{ClockHistory, members_of};
-ghost use Rattle.clock.specs.Standing.{HasSteps, steps_of};
+ghost use Rattle.clock.specs.Reports.{ClockHistory, demands_in, members_of};
+ghost use Rattle.clock.specs.Standing.{HasSteps, steps_of, step_set_after, leads_on, good_at_ceiling};
 ghost use Rattle.clock.specs.Judging.{IsMember, IsJudgement, judgement_of};
 ghost use Rattle.clock.specs.declared.judging.Judgement.{Judgement};
 ghost use Rattle.clock.specs.declared.judging.Judgement.TheVariants.{Take};
 ghost use Rattle.clock.specs.Growth.{Grows};
+ghost use Rattle.clock.specs.Repeats.{IsIdle, with_round};
 
 /// The members of a clock, as a list, are those of whom `IsMember` says so.
 pub fn member_law()
@@ -29,4 +30,11 @@ pub fn judgement_law()
 /// A report that is taken changes nothing of the rounds before the present one, and the clock goes on from where it stood.
 pub fn growth_law()
     ensures { (c : ClockHistory) (r : Report) → judgement_of c r ≡ Take → Grows c r }
+{}
+
+/// Rounds of the same demands have the same step set. So has a round that repeats the round before, and only the ceiling ends it.
+pub fn repeat_law()
+    ensures same { (c : ClockHistory) (m n : ℕ) → AllByRecursion (λ j. demands_in c.reports (m + 1) j ≡ demands_in c.reports (n + 1) j) (members_of c) → step_set_after c m ≡ step_set_after c n }
+    ensures set { (c : ClockHistory) → IsIdle c → step_set_after (with_round c) (steps_of c) ≡ step_set_after c (steps_of c - 1) }
+    ensures ceiling { (c : ClockHistory) → IsIdle c → leads_on (with_round c) (steps_of c) ≡ is_none (good_at_ceiling (with_round c) (steps_of c)) }
 {}

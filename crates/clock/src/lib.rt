@@ -4,11 +4,12 @@
 pub mod clocks;
 pub mod judging;
 pub mod laws;
+mod packing;
+mod places;
+pub mod repeating;
 pub mod replaying;
 mod rounds;
 mod standing;
-#[cfg(test)]
-mod tests;
 
 pub use clocks::{Clock, Look, NotApplied};
 pub use judging::{Judgement, Offered};

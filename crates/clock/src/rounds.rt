@@ -1,16 +1,11 @@
 //! What the reports of a round say.
-ghost use Rattle.std.specs.Prelude.{◌≡◌, ◌+◌, ◌<◌, ◌≤◌, ◌^◌, ℕ, ℤ, pos, ◌-ℤ◌, List, length, find, is_none, option_copied, slice_index_or};
-ghost use Rattle.std.specs.List.{AllByRecursion};
-ghost use Rattle.lot_base.specs.Goods.{IsSupply};
-ghost use Rattle.lot_base.specs.Demands.{IsDemand, IsTable, least};
-ghost use Rattle.lyapunov.specs.Excesses.{entry, IsSmall};
-ghost use Rattle.lot_base.specs.Steps.{excess};
-ghost use Rattle.clock.specs.Reports.{members, is_named, demand_in, demands_in};
-ghost use Rattle.clock.specs.Tables.{AreTablesOf};
-ghost use Rattle.demand_set.specs.declared.reports.Report.{Report as ReportValue};
+ghost use Rattle.std.specs.Prelude.{◌≡◌, ◌<◌, ◌≤◌, ℕ, length, take, find, is_none, option_copied, slice_index};
+ghost use Rattle.lot_base.specs.Goods.{AllBelow};
+ghost use Rattle.lyapunov.specs.Paths.{prices_along as along};
+ghost use Rattle.clock.specs.Reports.{members, is_named, demand_in, set_numbers};
 
 use demand_set::{Demand, Report};
-use lot_base::{Excess, Goods, LeastTable};
+use lot_base::{GoodSet, Prices};
 
 /// The demand of the first report of a bidder in a round.
 pub(crate) fn find_demand(reports: &[Report], round: u32, bidder: u8) -> Option<&Demand>
@@ -54,49 +49,22 @@ pub(crate) fn missing_in(bidders: u8, clock: u8, reports: &[Report], round: u32)
     None
 }
 
-/// What the members demand at least in a round: the table of each, at the member's number, and the excess of each set.
-#[derive(Drop)]
-pub(crate) struct Least {
-    pub tables: [Option<LeastTable>; 13],
-    pub excess: Excess,
+/// How many members a clock has.
+pub(crate) fn member_count(bidders: u8, clock: u8) -> u8
+    requires { clock ≤ bidders }
+    ensures { result ≡ length (members bidders clock) }
+{
+    if clock == 0 { bidders } else { bidders - 1 }
 }
 
-/// What the members demand at least in a round.
-pub(crate) fn least_of_members(
-    goods: &Goods,
-    bidders: u8,
-    clock: u8,
-    reports: &[Report],
-    round: u32,
-) -> Least
-    requires few { bidders ≤ 12 }
-    requires supply { IsSupply goods.now }
-    requires fit { AllByRecursion (λ (r : ReportValue). IsDemand goods.now r.demand) reports.now }
-    ensures excess { (set : ℕ) → set < 2 ^ length goods.now → entry result.excess.0 set ≡ excess goods.now (demands_in reports.now round) (members bidders clock) set }
-    ensures tables { AreTablesOf goods.now (demands_in reports.now round) bidders clock result.tables }
+/// The prices from the opening on, raised on one set after another.
+pub(crate) fn prices_along(opening: &Prices, sets: &[GoodSet]) -> Prices
+    requires { (n : ℕ) → n < length sets.now → AllBelow 4294967295 (along opening.now (set_numbers (take n sets.now))) (slice_index (set_numbers sets.now) n) }
+    ensures { result ≡ along opening.now (set_numbers sets.now) }
 {
-    let mut tables = [None; 13];
-    let mut excess = lyapunov::opening(goods);
-    for step in 0..bidders {
-        let bidder = step + 1;
-        if bidder != clock {
-            let table = least_in(goods, reports, round, bidder);
-            lyapunov::add_table(goods, &mut excess, &table);
-            tables[bidder as usize] = Some(table);
-        }
+    let mut prices = *opening;
+    for set in sets {
+        prices = prices.raise(*set);
     }
-    Least { tables, excess }
-}
-
-/// The least quantities that a bidder demands in a round, 0 where it has not reported.
-fn least_in(goods: &Goods, reports: &[Report], round: u32, bidder: u8) -> LeastTable
-    requires supply { IsSupply goods.now }
-    requires fit { AllByRecursion (λ (r : ReportValue). IsDemand goods.now r.demand) reports.now }
-    ensures table { IsTable (length goods.now) (least (demands_in reports.now round bidder)) result.0 }
-    ensures small { IsSmall result.0 }
-{
-    match find_demand(reports, round, bidder) {
-        Some(demand) => demand.least_table(goods),
-        None => LeastTable([0; 64]),
-    }
+    prices
 }

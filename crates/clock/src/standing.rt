@@ -1,80 +1,91 @@
 //! Where a round leads.
-ghost use Rattle.std.specs.Prelude.{◌≡◌, ◌+◌, ◌*◌, ◌<◌, ◌≤◌, ℕ, Bool, true, List, length, take, Option, is_some};
-ghost use Rattle.std.specs.List.{AllByRecursion};
-ghost use Rattle.lot_base.specs.Demands.{IsDemand};
-ghost use Rattle.clock.specs.Standing.{prices_after, leads_on, good_from};
+ghost use Rattle.std.specs.Prelude.{◌≡◌, ◌≢◌, ◌<◌, ◌≤◌, ◌^◌, ℕ, None, length};
+ghost use Rattle.lot_base.specs.Goods.{AllBelow};
+ghost use Rattle.lot_base.specs.Steps.{IsStepSet};
+ghost use Rattle.lyapunov.specs.Excesses.{entry};
+ghost use Rattle.clock.specs.Standing.{good_from};
 
-use crate::rounds::{least_of_members, missing_in};
 use credit_book::Account;
-use demand_set::Report;
-use lot_base::{GoodSet, Phase, Prices, Terms};
+use lot_base::{Excess, GoodSet, LeastTable, Phase, Prices, Terms};
 
 /// How a clock stands after so many steps.
 #[derive(Clone, Copy, Debug)]
 pub struct Standing {
-    /// Where the reports of the round begin.
-    pub current: usize,
     pub steps: u32,
     pub phase: Phase,
     pub prices: Prices,
+    /// The set on which the prices rose just now, if they did.
+    pub raised: Option<GoodSet>,
 }
 
 impl Standing {
-    ghost use Rattle.demand_set.specs.declared.reports.Report.{Report as ReportValue};
-    ghost use Rattle.clock.specs.Next.{IsNext};
+    ghost use Rattle.clock.specs.Turns.{Waits, IsTurn};
 
-    /// Where the round after so many steps leads. Its reports are those from a place on. A step is added to the account.
+    /// Where the round after so many steps leads, where so many members have not reported in it. A step is added to the account.
     pub(crate) fn next(
         terms: &Terms,
-        number: u8,
-        reports: &[Report],
-        current: usize,
         steps: u32,
         prices: &Prices,
+        left: u8,
+        excess: &Excess,
+        tables: &[Option<LeastTable>; 13],
         account: &mut Account,
     ) -> Standing
-        requires begins { current ≤ length reports.now }
-        requires past { AllByRecursion (λ (r : ReportValue). r.round ≤ steps) (take current reports.now) }
-        requires fit { AllByRecursion (λ (r : ReportValue). IsDemand terms.now.goods r.demand) reports.now }
-        requires before { (m : ℕ) → m < steps → leads_on (record { terms = terms.now; number = number; reports = reports.now }) m ≡ true }
-        requires prices { prices.now ≡ prices_after (record { terms = terms.now; number = number; reports = reports.now }) steps }
-        requires few { steps ≤ 60000 }
-        requires account { account.old.steps ≡ steps }
-        ensures { IsNext (record { terms = terms.now; number = number; reports = reports.now }) current steps account.old account.new result }
+        requires below { (set : ℕ) → AllBelow 4294967295 prices.now set }
+        requires few { (set : ℕ) → left ≡ 0 → IsStepSet (length terms.now.goods) (entry excess.now.0) set → set ≢ 0 → good_from 0 terms.now.ceiling prices.now set ≡ None → account.old.steps < 60000 }
+        requires steps { steps ≤ 60000 }
+        ensures waits { left ≢ 0 → Waits steps prices.now account.old account.new result }
+        ensures turns { left ≡ 0 → IsTurn terms.now.goods terms.now.ceiling steps prices.now excess.now.0 tables.now account.old account.new result }
     {
-        let round = reports.split_at(current).1;
-        if missing_in(terms.bidders, number, round, steps + 1).is_some() {
+        if left > 0 {
             return Standing {
-                current,
                 steps,
                 phase: Phase::Running,
                 prices: *prices,
+                raised: None,
             };
         }
-        let least = least_of_members(&terms.goods, terms.bidders, number, round, steps + 1);
-        let set = step_choice::choose(&terms.goods, &least.excess);
+        Standing::turned(terms, steps, prices, excess, tables, account)
+    }
+
+    /// Where a full round leads.
+    #[inline(never)]
+    fn turned(
+        terms: &Terms,
+        steps: u32,
+        prices: &Prices,
+        excess: &Excess,
+        tables: &[Option<LeastTable>; 13],
+        account: &mut Account,
+    ) -> Standing
+        requires below { (set : ℕ) → AllBelow 4294967295 prices.now set }
+        requires few { (set : ℕ) → IsStepSet (length terms.now.goods) (entry excess.now.0) set → set ≢ 0 → good_from 0 terms.now.ceiling prices.now set ≡ None → account.old.steps < 60000 }
+        requires steps { steps ≤ 60000 }
+        ensures { IsTurn terms.now.goods terms.now.ceiling steps prices.now excess.now.0 tables.now account.old account.new result }
+    {
+        let set = step_choice::choose(&terms.goods, excess);
         if set.0 == 0 {
             return Standing {
-                current,
                 steps,
                 phase: Phase::Ended,
                 prices: *prices,
+                raised: None,
             };
         }
         match first_at(prices, terms.ceiling, set) {
             Some(good) => Standing {
-                current,
                 steps,
                 phase: Phase::Halted(good),
                 prices: *prices,
+                raised: None,
             },
             None => {
-                account.add(&terms.goods, set, &least.tables);
+                account.add(&terms.goods, set, tables);
                 Standing {
-                    current: reports.len(),
                     steps: steps + 1,
                     phase: Phase::Running,
                     prices: prices.raise(set),
+                    raised: Some(set),
                 }
             }
         }
@@ -83,7 +94,7 @@ impl Standing {
 
 #[tactic(auto, using(crate::proofs::Next::good_from_drop))]
 /// The first good of a set that is at the ceiling.
-fn first_at(prices: &Prices, ceiling: u32, set: GoodSet) -> Option<u8>
+pub(crate) fn first_at(prices: &Prices, ceiling: u32, set: GoodSet) -> Option<u8>
     ensures { result ≡ good_from 0 ceiling prices.now set.0 }
 {
     let mut rest = set.0;

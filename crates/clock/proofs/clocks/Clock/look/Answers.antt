@@ -8,35 +8,35 @@ use Rattle.lyapunov.specs.Paths.{IsLeastNear}
 use Rattle.credit_book.specs.Account.{Sums}
 use Rattle.clock.specs.Reports.{ClockOf, ClockHistory, members_of}
 use Rattle.clock.specs.Standing.{steps_of, phase_of, phase_after, prices_of, prices_after, is_full_after, step_set_after, good_at_ceiling}
-use Rattle.clock.specs.Kept.{IsKept}
+use Rattle.clock.specs.Kept.{HasStanding}
 use Rattle.clock.proofs.Ceiling.{AllUpTo}
 use Rattle.clock.proofs.Path.{on_the_path, has_steps, OnThePath}
 use Rattle.clock.proofs.Truthful.{least-minimiser, least-near, never-halted, halted-by, at-ceiling}
 use Rattle.clock.proofs.clocks.Clock.look.Goals as goal
 
-phase-kept : (v c : ClockHistory) (current steps : ℕ) (phase : Phase) (prices : List ℕ) (account : Sums) → IsKept v current steps phase prices account → v ≡ c → phase ≡ phase_of c
+phase-kept : (v c : ClockHistory) (current steps : ℕ) (phase : Phase) (prices : List ℕ) (account : Sums) → HasStanding v current steps phase prices account → v ≡ c → phase ≡ phase_of c
 phase-kept v c current steps phase prices account kept same = kept.phase_is ∙ ap (phase_after v) kept.steps_are ∙ ap phase_of same
 
-prices-kept : (v c : ClockHistory) (current steps : ℕ) (phase : Phase) (prices : List ℕ) (account : Sums) → IsKept v current steps phase prices account → v ≡ c → prices ≡ prices_of c
+prices-kept : (v c : ClockHistory) (current steps : ℕ) (phase : Phase) (prices : List ℕ) (account : Sums) → HasStanding v current steps phase prices account → v ≡ c → prices ≡ prices_of c
 prices-kept v c current steps phase prices account kept same = kept.prices_are ∙ ap (prices_after v) kept.steps_are ∙ ap prices_of same
 
 pub returns-clause-least : goal.returns-clause-least
 returns-clause-least c = λ u explains ended.
     let now = c.args.self.now.history in
     let L : List ℕ → Type 0 = λ p. IsLeastMinimiser now.terms.opening (lyapunov now.terms.goods u (members_of now)) p in
-    let phase = phase-kept _ now _ _ _ _ _ c.self.invariant (ap (λ (k : ClockOf). k.history) c.self.view_is) in
-    subst L (sym (prices-kept _ now _ _ _ _ _ c.self.invariant (ap (λ (k : ClockOf). k.history) c.self.view_is))) (least-minimiser u now explains (sym phase ∙ ended))
+    let phase = phase-kept _ now _ _ _ _ _ c.self.invariant.standing (ap (λ (k : ClockOf). k.history) c.self.view_is) in
+    subst L (sym (prices-kept _ now _ _ _ _ _ c.self.invariant.standing (ap (λ (k : ClockOf). k.history) c.self.view_is))) (least-minimiser u now explains (sym phase ∙ ended))
 
 pub returns-clause-near : goal.returns-clause-near
 returns-clause-near c = λ u explains.
     let now = c.args.self.now.history in
     let N : ℕ → List ℕ → Type 0 = λ n p. IsLeastNear now.terms.opening n (lyapunov now.terms.goods u (members_of now)) p in
-    let steps : steps_of now ≡ c.self.inside.steps + 1 - 1 = sym (c.self.invariant.steps_are ∙ ap steps_of (ap (λ (k : ClockOf). k.history) c.self.view_is)) ∙ (omega arith) in
-    subst (λ n. N n c.self.inside.prices) steps (subst (λ p. N (steps_of now) p) (sym (prices-kept _ now _ _ _ _ _ c.self.invariant (ap (λ (k : ClockOf). k.history) c.self.view_is))) (least-near u now explains))
+    let steps : steps_of now ≡ c.self.inside.steps + 1 - 1 = sym (c.self.invariant.standing.steps_are ∙ ap steps_of (ap (λ (k : ClockOf). k.history) c.self.view_is)) ∙ (omega arith) in
+    subst (λ n. N n c.self.inside.prices) steps (subst (λ p. N (steps_of now) p) (sym (prices-kept _ now _ _ _ _ _ c.self.invariant.standing (ap (λ (k : ClockOf). k.history) c.self.view_is))) (least-near u now explains))
 
 pub returns-clause-unhalted : goal.returns-clause-unhalted
 returns-clause-unhalted c = λ u good explains low halted.
-    never-halted u c.args.self.now.history good explains low (sym (phase-kept _ c.args.self.now.history _ _ _ _ _ c.self.invariant (ap (λ (k : ClockOf). k.history) c.self.view_is)) ∙ halted)
+    never-halted u c.args.self.now.history good explains low (sym (phase-kept _ c.args.self.now.history _ _ _ _ _ c.self.invariant.standing (ap (λ (k : ClockOf). k.history) c.self.view_is)) ∙ halted)
 
 path-of : (c : ClockHistory) → OnThePath c (steps_of c)
 path-of c = on_the_path c (steps_of c) (has_steps c).before
@@ -63,16 +63,16 @@ halted-at c good e =
 
 pub returns-clause-goods : goal.returns-clause-goods
 returns-clause-goods c =
-    ap length (prices-kept _ c.args.self.now.history _ _ _ _ _ c.self.invariant (ap (λ (k : ClockOf). k.history) c.self.view_is)) ∙ (path-of c.args.self.now.history).goods
+    ap length (prices-kept _ c.args.self.now.history _ _ _ _ _ c.self.invariant.standing (ap (λ (k : ClockOf). k.history) c.self.view_is)) ∙ (path-of c.args.self.now.history).goods
 
 pub returns-clause-within : goal.returns-clause-within
 returns-clause-within c =
     let now = c.args.self.now.history in
     let W : List ℕ → Type 0 = λ ps. AllByRecursion (λ price. price ≤ now.terms.ceiling) ps in
-    subst W (sym (prices-kept _ now _ _ _ _ _ c.self.invariant (ap (λ (k : ClockOf). k.history) c.self.view_is))) (all-up now.terms.ceiling (prices_of now) (path-of now).up)
+    subst W (sym (prices-kept _ now _ _ _ _ _ c.self.invariant.standing (ap (λ (k : ClockOf). k.history) c.self.view_is))) (all-up now.terms.ceiling (prices_of now) (path-of now).up)
 
 pub returns-clause-halted : goal.returns-clause-halted
 returns-clause-halted c = λ good halted.
     let now = c.args.self.now.history in
     let H : List ℕ → Type 0 = λ ps. (good < length now.terms.goods) × (at ps good ≡ now.terms.ceiling) in
-    subst H (sym (prices-kept _ now _ _ _ _ _ c.self.invariant (ap (λ (k : ClockOf). k.history) c.self.view_is))) (halted-at now good (sym (phase-kept _ now _ _ _ _ _ c.self.invariant (ap (λ (k : ClockOf). k.history) c.self.view_is)) ∙ halted))
+    subst H (sym (prices-kept _ now _ _ _ _ _ c.self.invariant.standing (ap (λ (k : ClockOf). k.history) c.self.view_is))) (halted-at now good (sym (phase-kept _ now _ _ _ _ _ c.self.invariant.standing (ap (λ (k : ClockOf). k.history) c.self.view_is)) ∙ halted))

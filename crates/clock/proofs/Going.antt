@@ -1,0 +1,205 @@
+-- What a clock keeps after a report, and at first.
+use Rattle.std.proofs.Common.{◌-◌, ◌≡◌, ◌≢◌, ◌<◌, ◌≤◌, ◌⊎◌, inl, inr, ℕ, zero, suc, ◌+◌, ◌*◌, ◌/◌, ◌^◌, true, false, not, ◌&&◌, nat_eq, cond, List, [], ◌∷◌, ◌++◌, length, length-drop, take, drop, Option, Some, None, is_some, is_none, refl, sym, ◌∙◌, ap, subst, arith, pos}
+use Rattle.std.specs.Prelude.{slice_get, slice_index_or, unwrap_or, option_map, ℤ}
+use Rattle.std.specs.List.{AllByRecursion}
+use Rattle.std.proofs.lemmas.Int.{ints}
+use Rattle.std.proofs.lemmas.Bool.{cases_eq}
+use Rattle.lot_base.specs.Demands.{least}
+use Rattle.lot_base.specs.Steps.{excess, IsStepSet}
+use Rattle.lot_base.specs.declared.phases.Phase.{Phase}
+use Rattle.lot_base.specs.declared.phases.Phase.TheVariants.{Running, Ended, Halted}
+use Rattle.lot_base.specs.declared.supply.GoodSet.{GoodSet}
+use Rattle.lot_base.specs.declared.tables.LeastTable.{LeastTable}
+use Rattle.lot_base.proofs.Within.{both}
+use Rattle.lyapunov.specs.Excesses.{entry, IsExcessOf}
+use Rattle.credit_book.specs.Account.{least_in, Sums, sum_without}
+use Rattle.demand_set.specs.declared.reports.Report.{Report}
+use Rattle.clock.specs.declared.standing.Standing.{Standing}
+use Rattle.clock.specs.Past.{PastOf}
+use Rattle.clock.specs.Reports.{ClockHistory, set_numbers, demand_in, demands_in, members_of, with_report}
+use Rattle.clock.specs.Standing.{sets_of, step_set_after, leads_on, is_full_after, good_at_ceiling, good_from, prices_after, phase_after}
+use Rattle.clock.specs.Judging.{is_member}
+use Rattle.clock.specs.Turns.{Waits, IsTurn}
+use Rattle.clock.specs.Kept.{IsKept, HasStanding, KeepsRound, missing_count, reports_before}
+use Rattle.clock.proofs.Append.{step-stays, absent-beyond}
+use Rattle.clock.proofs.Present.{reported, drop-whole}
+use Rattle.clock.proofs.After.{first-kept, first-stops}
+use Rattle.clock.proofs.Moves.{StandingAt}
+use Rattle.clock.proofs.Excesses.{chosen-is}
+use Rattle.clock.proofs.Next.{waits, ends, halts, goes}
+use Rattle.clock.proofs.Taking.{Stayed, Went, IsOn}
+use Rattle.clock.proofs.Totals.{total-none, total-ones, full-count, open-count}
+
+-- the step sets of the rounds before stay
+pub sets-stay : (c : ClockHistory) (r : Report) (n : ℕ) → ((m : ℕ) → m < n → leads_on c m ≡ true) → sets_of (with_report c r) n ≡ sets_of c n
+unfolding sets_of
+sets-stay c r zero before = refl
+sets-stay c r (suc n) before =
+    let rest = sets-stay c r n (λ m below. before m (omega arith)) in
+    let full : is_full_after c n ≡ true = (both (is_full_after c n) (not (nat_eq (step_set_after c n) 0) && is_none (good_at_ceiling c n)) (before n (omega arith))).0 in
+    let s = step-stays c.terms.goods (members_of c) c.reports r (n + 1) full in
+    λ i. rest i ++ s i ∷ []
+
+pub sets-next : (c : ClockHistory) (n : ℕ) → sets_of c (n + 1) ≡ sets_of c n ++ step_set_after c n ∷ []
+unfolding sets_of
+sets-next c n = let e : n + 1 ≡ suc n = omega arith in ap (sets_of c) e
+
+-- nobody has reported in a round beyond
+none-there : (c : ClockHistory) (limit j : ℕ) → AllByRecursion (λ (r : Report). r.round ≤ limit) c.reports → demand_in c.reports (limit + 1) j ≡ None
+none-there c limit j all = ap (option_map (λ (r : Report). r.demand)) (absent-beyond limit (limit + 1) j c.reports (omega arith) all)
+
+take-length : (reports : List Report) → take (length reports) reports ≡ reports
+take-length [] = refl
+take-length (x ∷ reports) = ap (λ xs. x ∷ xs) (take-length reports)
+
+-- what is kept of a round without reports
+pub round-opened : (c : ClockHistory) (left steps : ℕ) (phase : Phase) (prices : List ℕ) (account : Sums) (tables : List (Option LeastTable)) (sums : List ℤ) → HasStanding c (reports_before c steps) steps phase prices account → length c.reports ≡ reports_before c steps
+    → ((i : ℕ) (r : Report) → slice_get c.reports i ≡ Some r → r.round ≡ i / length (members_of c) + 1) → left ≡ length (members_of c)
+    → length tables ≡ 13 → ((j set : ℕ) → 1 ≤ steps → set < 2 ^ length c.terms.goods → is_member c j ≡ true → least_in (slice_index_or tables j None) set ≡ least (demands_in c.reports steps j) set)
+    → ((j : ℕ) → is_member c j ≡ false → slice_index_or tables j None ≡ None) → IsExcessOf c.terms.goods [] sums → KeepsRound c [] left steps tables sums
+round-opened c left steps phase prices account tables sums k whole order all places earlier nobody opened = record {
+  unpacked = sym (ap (λ n. drop n c.reports) (sym whole) ∙ drop-whole c.reports);
+  in_order = order;
+  counted = omega (arith, all);
+  missing = all ∙ sym (total-ones (λ j. cond (is_some (demand_in c.reports (steps + 1) j)) 0 1) (members_of c) (λ j. ap (λ o. cond (is_some o) 0 1) (none j)));
+  tables = record {
+    places = places;
+    own = λ j set below some. absurd (let f : false ≡ true = sym (ap is_some (none j)) ∙ some in cc);
+    earlier = λ j set two below member absent.
+        let e : steps ≡ steps + 1 - 1 = omega arith in
+        earlier j set (omega (arith, two)) below member ∙ ap (λ n. least (demands_in c.reports n j) set) e;
+    nobody = nobody;
+  };
+  excess = record {
+    entries = λ set below.
+        let e = opened.entries set below in
+        let z = total-none (λ j. least (demands_in c.reports (steps + 1) j) set) (members_of c) (λ j. ap (λ o. least (unwrap_or o []) set) (none j)) in
+        omega (arith, ints, e, z);
+    others = opened.others;
+  };
+}
+  where
+    past : AllByRecursion (λ (r : Report). r.round ≤ steps) c.reports
+    past = let A : List Report → Type 0 = λ rs. AllByRecursion (λ (r : Report). r.round ≤ steps) rs in subst A (ap (λ n. take n c.reports) (sym whole) ∙ take-length c.reports) k.past
+
+    none : (j : ℕ) → demand_in c.reports (steps + 1) j ≡ None
+    none j = none-there c steps j past
+
+-- what is kept where the round stays
+pub kept-stayed : (c : ClockHistory) (past : PastOf) (now : List Report) (left steps : ℕ) (tables : List (Option LeastTable)) (sums : List ℤ) (after : Sums) (s : Standing) (capacity : ℕ) → Stayed c now left steps tables sums after s
+    → past.goods ≡ length c.terms.goods → set_numbers past.sets ≡ sets_of c steps → length (members_of c) ≤ capacity → IsKept c past now left s.steps s.phase s.prices tables sums after capacity
+kept-stayed c past now left steps tables sums after s capacity stayed goods sets room =
+    let K : ℕ → Type 0 = λ n. IsKept c past now left n s.phase s.prices tables sums after capacity in
+    subst K (sym stayed.same_steps) (record { standing = stayed.standing; round = stayed.round; goods = goods; sets = sets; room = room })
+
+-- and where the next one begins
+pub kept-went : (c : ClockHistory) (past : PastOf) (now : List Report) (left steps : ℕ) (tables : List (Option LeastTable)) (sums opened : List ℤ) (after : Sums) (s : Standing) (chosen : GoodSet) (capacity : ℕ) → Went c now steps after s chosen
+    → KeepsRound c now left steps tables sums → past.goods ≡ length c.terms.goods → set_numbers past.sets ≡ sets_of c steps ++ chosen.0 ∷ [] → length (members_of c) ≤ capacity → IsExcessOf c.terms.goods [] opened
+    → length c.reports ≡ reports_before c (steps + 1) → IsKept c past [] (length now) s.steps s.phase s.prices tables opened after capacity
+kept-went c past now left steps tables sums opened after s chosen capacity went round goods sets room is whole =
+    let K : ℕ → Type 0 = λ n. IsKept c past [] (length now) n s.phase s.prices tables opened after capacity in
+    let none : missing_count (members_of c) c.reports (steps + 1) ≡ 0 = omega (arith, round.counted, round.missing, went.full) in
+    let full = full-count (members_of c) c.reports (steps + 1) none in
+    subst K (sym went.next_steps) (record {
+      standing = went.standing;
+      round = round-opened c (length now) (steps + 1) s.phase s.prices after tables opened went.standing whole round.in_order went.full round.tables.places (λ j set some below member. round.tables.own j set below (reported c (steps + 1) j member full)) round.tables.nobody is;
+      goods = goods;
+      sets = sets ∙ ap (λ n. sets_of c steps ++ n ∷ []) went.set_is ∙ sym (sets-next c steps);
+      room = room;
+    })
+
+-- all reports are of the rounds before the next one
+pub whole-went : (c : ClockHistory) (now : List Report) (left steps : ℕ) (tables : List (Option LeastTable)) (sums : List ℤ) (after : Sums) (s : Standing) (chosen : GoodSet) → Went c now steps after s chosen → KeepsRound c now left steps tables sums → length c.reports ≡ reports_before c (steps + 1)
+whole-went c now left steps tables sums after s chosen went round =
+    let u = ap length round.unpacked ∙ length-drop (reports_before c steps) c.reports in
+    let w : (steps + 1) * length (members_of c) ≡ steps * length (members_of c) + length (members_of c) = grind arith in
+    let b = went.standing.begins in
+    omega (arith, u, went.full, w, b)
+
+-- the same, by whether the prices rose
+pub kept-here : (c : ClockHistory) (past : PastOf) (now : List Report) (left steps : ℕ) (tables : List (Option LeastTable)) (sums : List ℤ) (after : Sums) (s : Standing) (capacity : ℕ) → IsOn c now left steps tables sums after s → s.raised ≡ None
+    → past.goods ≡ length c.terms.goods → set_numbers past.sets ≡ sets_of c steps → length (members_of c) ≤ capacity → IsKept c past now left s.steps s.phase s.prices tables sums after capacity
+kept-here c past now left steps tables sums after s capacity (inl (e, stayed)) none goods sets room = kept-stayed c past now left steps tables sums after s capacity stayed goods sets room
+kept-here c past now left steps tables sums after s capacity (inr (chosen, e, went)) none goods sets room = absurd (let f : Some chosen ≡ None = sym e ∙ none in cc)
+
+pub kept-next : (c : ClockHistory) (past : PastOf) (now : List Report) (left steps : ℕ) (tables : List (Option LeastTable)) (sums opened : List ℤ) (after : Sums) (s : Standing) (chosen : GoodSet) (capacity : ℕ) → IsOn c now left steps tables sums after s → s.raised ≡ Some chosen
+    → KeepsRound c now left steps tables sums → past.goods ≡ length c.terms.goods → set_numbers past.sets ≡ sets_of c steps ++ chosen.0 ∷ [] → length (members_of c) ≤ capacity → IsExcessOf c.terms.goods [] opened
+    → IsKept c past [] (length now) s.steps s.phase s.prices tables opened after capacity
+kept-next c past now left steps tables sums opened after s chosen capacity (inl (e, stayed)) some round goods sets room is = absurd (let f : None ≡ Some chosen = sym e ∙ some in cc)
+kept-next c past now left steps tables sums opened after s chosen capacity (inr (other, e, went)) some round goods sets room is =
+    let same : other ≡ chosen = (let f : Some other ≡ Some chosen = sym e ∙ some in cc) in
+    let W : GoodSet → Type 0 = λ z. Went c now steps after s z in
+    let w = subst W same went in
+    kept-went c past now left steps tables sums opened after s chosen capacity w round goods sets room is (whole-went c now left steps tables sums after s chosen w round)
+
+-- a clock without reports
+no-demands : (c : ClockHistory) (table : List ℤ) → c.reports ≡ [] → IsExcessOf c.terms.goods [] table → (set : ℕ) → set < 2 ^ length c.terms.goods → entry table set ≡ excess c.terms.goods (demands_in c.reports (0 + 1)) (members_of c) set
+no-demands c table none opened set below =
+    let e = opened.entries set below in
+    let z = total-none (λ j. least (demands_in c.reports (0 + 1) j) set) (members_of c) (λ j. ap (λ rs. least (demands_in rs (0 + 1) j) set) none) in
+    omega (arith, ints, e, z)
+
+first-stays : (c : ClockHistory) (shown : Phase) (prices : List ℕ) (before after : Sums) → c.reports ≡ [] → c.number ≤ c.terms.bidders → before.steps ≡ 0 → ((b : ℕ) → sum_without before b ≡ pos 0) → leads_on c 0 ≡ false → shown ≡ phase_after c 0 → prices ≡ prices_after c 0 → after ≡ before
+    → HasStanding c (reports_before c 0) 0 shown prices after
+first-stays c shown prices before after none number steps sums stops phase_is prices_are account =
+    let s : StandingAt = record { current = 0; steps = 0; phase = shown; prices = prices } in
+    let z : 0 ≡ reports_before c 0 = omega arith in
+    let H : ℕ → Type 0 = λ n. HasStanding c n 0 shown prices after in
+    subst H z (first-kept c s before after none number steps sums (inl (record { stops = stops; current_is = refl; steps_are = refl; phase_is = phase_is; prices_are = prices_are; account_is = account })))
+
+first-opening : (c : ClockHistory) → c.terms.opening ≡ prices_after c 0
+unfolding prices_after
+first-opening c = refl
+
+first-sets : (c : ClockHistory) → sets_of c 0 ≡ []
+unfolding sets_of
+first-sets c = refl
+
+first-all : (c : ClockHistory) (left : ℕ) (phase : Phase) (prices : List ℕ) (account : Sums) (tables : List (Option LeastTable)) (sums : List ℤ) (past : PastOf) (capacity : ℕ) → c.reports ≡ [] → HasStanding c (reports_before c 0) 0 phase prices account → left ≡ length (members_of c) → length tables ≡ 13
+    → ((j : ℕ) → is_member c j ≡ false → slice_index_or tables j None ≡ None) → IsExcessOf c.terms.goods [] sums → past.goods ≡ length c.terms.goods → past.sets ≡ [] → length (members_of c) ≤ capacity → IsKept c past [] left 0 phase prices tables sums account capacity
+first-all c left phase prices account tables sums past capacity none standing all places nobody opened goods sets room =
+    let whole : length c.reports ≡ reports_before c 0 = (let l = ap length none in omega (arith, l)) in
+    record {
+      standing = standing;
+      round = round-opened c left 0 phase prices account tables sums standing whole (λ i r at. absurd (nowhere i r (ap (λ rs. slice_get rs i) (sym none) ∙ at))) all places (λ j set some below member. absurd (omega (arith, some))) nobody opened;
+      goods = goods;
+      sets = ap set_numbers sets ∙ sym (first-sets c);
+      room = room;
+    }
+  where
+    nowhere : (i : ℕ) (r : Report) → slice_get [] i ≡ Some r → ⊥
+    nowhere i r e = (let f : None ≡ Some r = e in cc)
+
+pub first-kept-all : (c : ClockHistory) (left : ℕ) (tables : List (Option LeastTable)) (sums : List ℤ) (before after : Sums) (s : Standing) (past : PastOf) (capacity : ℕ) → c.reports ≡ [] → c.number ≤ c.terms.bidders → left ≡ length (members_of c) → before.steps ≡ 0
+    → ((b : ℕ) → sum_without before b ≡ pos 0) → length tables ≡ 13 → ((j : ℕ) → is_member c j ≡ false → slice_index_or tables j None ≡ None) → IsExcessOf c.terms.goods [] sums
+    → (left ≢ 0 → Waits 0 c.terms.opening before after s) → (left ≡ 0 → IsTurn c.terms.goods c.terms.ceiling 0 c.terms.opening sums tables before after s) → past.goods ≡ length c.terms.goods → past.sets ≡ [] → length (members_of c) ≤ capacity
+    → IsKept c past [] left s.steps s.phase s.prices tables sums after capacity
+first-kept-all c left tables sums before after s past capacity none number all steps nothing places nobody opened wait turn goods sets room = by (cases_eq left 0)
+  where
+    count : left ≡ missing_count (members_of c) c.reports (0 + 1)
+    count = all ∙ sym (total-ones (λ j. cond (is_some (demand_in c.reports (0 + 1) j)) 0 1) (members_of c) (λ j. ap (λ rs. cond (is_some (demand_in rs (0 + 1) j)) 0 1) none))
+
+    chosen : (set : ℕ) → IsStepSet (length c.terms.goods) (entry sums) set → set ≡ step_set_after c 0
+    chosen set is = chosen-is c.terms.goods (demands_in c.reports (0 + 1)) (members_of c) sums (entry sums) set (λ e. refl) (no-demands c sums none opened) is
+
+    stay : (shown : Phase) → s ≡ record { steps = 0; phase = shown; prices = c.terms.opening; raised = None } → leads_on c 0 ≡ false → shown ≡ phase_after c 0 → after ≡ before → IsKept c past [] left s.steps s.phase s.prices tables sums after capacity
+    stay shown e stops phase_is account =
+        let K : Standing → Type 0 = λ z. IsKept c past [] left z.steps z.phase z.prices tables sums after capacity in
+        subst K (sym e) (first-all c left shown c.terms.opening after tables sums past capacity none (first-stays c shown c.terms.opening before after none number steps nothing stops phase_is (first-opening c) account) all places nobody opened goods sets room)
+
+    by : (left ≡ 0) ⊎ (left ≢ 0) → IsKept c past [] left s.steps s.phase s.prices tables sums after capacity
+    by (inr some) =
+        let w = waits c 0 (open-count (members_of c) c.reports (0 + 1) (λ e. some (count ∙ e))) in
+        let a = wait some in
+        stay Running a.standing w.1 (sym w.0) a.account
+    by (inl gone) = at (full-count (members_of c) c.reports (0 + 1) (sym count ∙ gone)) (turn gone)
+      where
+        at : is_full_after c 0 ≡ true → IsTurn c.terms.goods c.terms.ceiling 0 c.terms.opening sums tables before after s → IsKept c past [] left s.steps s.phase s.prices tables sums after capacity
+        at full (inl end) = let w = ends c 0 full (sym (chosen 0 end.chosen)) in stay Ended end.standing w.1 (sym w.0) end.account
+        at full (inr (inl halt)) =
+            let e = chosen halt.set halt.chosen in
+            let w = halts c 0 halt.good full (λ z. halt.some (e ∙ z)) ((λ i. good_from 0 c.terms.ceiling (sym (first-opening c) i) (sym e i)) ∙ halt.at_ceiling) in
+            stay (Halted halt.good) halt.standing w.1 (sym w.0) halt.account
+        at full (inr (inr rise)) =
+            let e = chosen rise.set.0 rise.chosen in
+            absurd (first-stops c none (goes c 0 full (λ z. rise.some (e ∙ z)) ((λ i. good_from 0 c.terms.ceiling (sym (first-opening c) i) (sym e i)) ∙ rise.free)))
