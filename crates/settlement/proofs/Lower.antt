@@ -13,7 +13,8 @@ use Rattle.lyapunov.proofs.Without.{lower_at_end, fewer_without}
 use Rattle.clock.specs.Reports.{ClockHistory, all_bidders, members}
 use Rattle.clock.specs.Standing.{phase_of, prices_of, steps_of}
 use Rattle.clock.specs.Explained.{Explains}
-use Rattle.clock.proofs.Truthful.{sets_of, length-sets_of, prices-along, path, has-ended, steps-are-highest}
+use Rattle.clock.specs.Standing.{sets_of}
+use Rattle.clock.proofs.Truthful.{length-sets_of, prices-along, path, has-ended, steps-are-highest}
 use Rattle.settlement.specs.Settling.{IsClockRow}
 use Rattle.settlement.specs.Efficient.{ExplainsAll, IsNoHigher}
 use Rattle.settlement.specs.declared.outcome.ClockRow.{ClockRow}

@@ -12,7 +12,8 @@ use Rattle.award_assembly.proofs.Places.{first_choice-none}
 use Rattle.clock.specs.Reports.{ClockHistory, all_bidders, members, members_of}
 use Rattle.clock.specs.Standing.{phase_of, prices_of, steps_of, last_demands}
 use Rattle.clock.specs.Explained.{Explains}
-use Rattle.clock.proofs.Truthful.{sets_of, prices-along, path, has-ended, never-halted}
+use Rattle.clock.specs.Standing.{sets_of}
+use Rattle.clock.proofs.Truthful.{prices-along, path, has-ended, never-halted}
 use Rattle.settlement.specs.Clocks.{choice_of, is_halted, has_no_choice}
 use Rattle.settlement.specs.Efficient.{ExplainsAll}
 use Rattle.settlement.proofs.Members.{full-ended}
