@@ -10,8 +10,6 @@ pub mod laws;
 pub mod listing;
 pub mod naming;
 pub mod reader;
-#[cfg(test)]
-mod tests;
 
 pub use faults::{AuctionFault, Key, KeyText};
 pub use listing::Auction;

@@ -32,10 +32,3 @@ pub use sources::{ReadWhole, Source, read_whole};
 /// A call on something outside failed.
 #[derive(Clone, Copy, Debug, PartialEq, Eq)]
 pub struct Failed;
-
-#[cfg(test)]
-mod disk_tests;
-#[cfg(test)]
-mod file_tests;
-#[cfg(test)]
-mod tests;

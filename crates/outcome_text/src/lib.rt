@@ -9,8 +9,6 @@ pub mod plain;
 pub mod reading;
 mod scanning;
 pub mod standing;
-#[cfg(test)]
-mod tests;
 
 pub use json::write_json;
 pub use plain::write_plain;

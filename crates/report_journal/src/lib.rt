@@ -17,6 +17,3 @@ pub use headers::Header;
 pub use journal::{Journal, read_payload};
 pub use places::{Place, Places};
 pub use scanning::{Scanned, scan};
-
-#[cfg(test)]
-mod tests;

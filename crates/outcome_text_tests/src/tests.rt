@@ -1,10 +1,10 @@
 //! What no clause says: that calls succeed where there is memory, and texts that were worked by hand.
 ghost use Rattle.std.specs.Prelude.{◌≤◌};
 
-use crate::{read_plain, write_json, write_plain, write_standing};
 use award_assembly::Choice;
 use clock::Look;
 use lot_base::{Bundle, Phase, Prices, Sequence};
+use outcome_text::{read_plain, write_json, write_plain, write_standing};
 use settlement::{AwardRow, ClockRow, Outcome};
 use std::alloc::Global;
 use std::process::Abort;

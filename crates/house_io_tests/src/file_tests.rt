@@ -1,5 +1,5 @@
 //! What no clause says of real files: which calls on them fail, that a sync is one, and what an opening syncs.
-use crate::{Disk, FileDisk, FolderShelf, Shelf};
+use house_io::{Disk, FileDisk, FolderShelf, Shelf};
 use std::alloc::{Allocator, Global};
 use std::cell::Cell;
 use std::fs::{Metadata, OpenFile, OpenOptions};

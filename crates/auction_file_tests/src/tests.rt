@@ -1,6 +1,6 @@
 //! What the clauses do not say: that calls succeed with ample memory, and values from outside. Digests are those of
 //! `sha256sum`; the faults are those of the format, read by hand.
-use crate::{AuctionFault, KeyText, MOST_BYTES, read};
+use auction_file::{AuctionFault, KeyText, MOST_BYTES, read};
 use std::alloc::AllocError;
 use std::process::Abort;
 use std::test::Fail;

@@ -1,5 +1,5 @@
 //! What no clause says: that the calls succeed with ample memory, and what the real streams do.
-use crate::{
+use house_io::{
     Failed, FileSource, FolderShelf, ListFile, ListShelf, ListSink, ListSource, ReadWhole, Refusal,
     Shelf, Sink, StdoutSink, SureFile, SureShelf, SureSink, SureSource, read_whole, write_whole,
 };

@@ -1,6 +1,6 @@
 //! Files that are read, with their values.
 use super::*;
-use crate::{Auction, Name};
+use auction_file::{Auction, Name};
 use lot_base::{Sequence, Terms};
 
 /// The text of `examples/spectrum.toml`.

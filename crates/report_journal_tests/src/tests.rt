@@ -4,10 +4,12 @@ ghost use Rattle.house_io.specs.Moments.{opened};
 ghost use Rattle.house_io.specs.Recorded.{moments_of};
 ghost use Rattle.report_journal.specs.Format.{IsHeader};
 
-use crate::{Header, Journal, JournalFault, Mended, NotFormed, Place, Scanned, read_payload, scan};
 use house_io::{Disk, FileDisk, Fill, FolderShelf, ListDisk, Shelf, SureDisk};
 use lot_base::Prices;
 use lot_base::limits::GREATEST_PAYLOAD;
+use report_journal::{
+    Header, Journal, JournalFault, Mended, NotFormed, Place, Scanned, read_payload, scan,
+};
 use std::alloc::Global;
 use std::fs::{self, File};
 use std::test::Fail;

@@ -1,6 +1,6 @@
 //! What no clause says of disks: that the calls succeed with ample memory, and what a real file does.
 use crate::tests::{list_shelf, one, sure_shelf, text_of};
-use crate::{
+use house_io::{
     Disk, Failed, FileDisk, Fill, FolderShelf, ListDisk, Refusal, Shelf, SureDisk, SureShelf,
 };
 use std::alloc::Global;

@@ -1,0 +1,9 @@
+//! The forms in memory and the real ones, call by call. The tests of house_io that need only what is public.
+#![tactic(auto)]
+
+#[cfg(test)]
+mod disk_tests;
+#[cfg(test)]
+mod file_tests;
+#[cfg(test)]
+mod tests;
