@@ -1,0 +1,4 @@
+pub mod Entries
+pub mod Journaled
+pub mod Causes
+pub mod Streams
