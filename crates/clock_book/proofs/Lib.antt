@@ -1,0 +1,5 @@
+pub mod Taking
+pub mod Chained
+pub mod Sequences
+pub mod Shapes
+pub mod OneAnswer

@@ -1,0 +1,63 @@
+//! A clock that is read from a journal.
+ghost use Rattle.std.specs.Prelude.{◌≡◌, ◌≤◌, IsTrue, IfOk, IfErr, OnOk};
+ghost use Rattle.lot_base.specs.Demands.{IsDemand};
+ghost use Rattle.clock.specs.Reports.{with_report};
+ghost use Rattle.clock.specs.Judging.{judgement_of};
+ghost use Rattle.clock.specs.declared.judging.Judgement.TheVariants.{Take};
+ghost use Rattle.recovery.specs.Journaled.{owner_of};
+ghost use Rattle.clock_book.specs.Opening.{IsHistoryOf, ReadsClock, Takes, CountsFaults, IsSyncedBy};
+
+use crate::faults::OpenFault;
+use clock::{Clock, Judgement};
+use demand_set::Report;
+use house_io::Disk;
+use lot_base::Terms;
+use recovery::{Next, Reports};
+use std::alloc::Global;
+
+/// The clock of the reports that a journal's file stands for. It syncs first, and changes no byte. Each report is taken as it is
+/// read.
+pub fn read_clock<D: Disk>(
+    alloc: Global,
+    disk: &mut D,
+    terms: &Terms,
+    clock: u8,
+    digest: &[u8; 32],
+) -> Result<Clock, OpenFault>
+    requires { clock ≤ terms.now.bidders }
+    ensures read { IsTrue (D.tells disk.new) → ReadsClock (owner_of terms.now clock digest.now) (D.moments disk.old).now.read result }
+    ensures history { IfOk result (λ c. IsHistoryOf (owner_of terms.now clock digest.now) c.history) }
+    ensures synced { IsTrue (D.tells disk.new) → IsSyncedBy result (D.moments disk.old) (D.moments disk.new) }
+    ensures tells { IsTrue (D.tells disk.new) → IsTrue (D.tells disk.old) }
+    ensures faults { CountsFaults (D.faults disk.old) (D.faults disk.new) result }
+{
+    let mut taken = Clock::new(alloc, terms, clock)?;
+    let mut reader = Reports::begin(alloc, disk, terms, clock, digest)?;
+    'reports: loop {
+        match reader.next(alloc, disk)? {
+            Next::Report(report) => match take(alloc, &mut taken, report, reader.given()) {
+                Ok(()) => {}
+                Err(fault) => return Err(fault),
+            },
+            Next::Broken(broken) => return Err(OpenFault::Broken(broken)),
+            Next::End => return Ok(taken),
+        }
+    }
+}
+
+/// Takes the report of a record, if the clock takes it.
+fn take(alloc: Global, clock: &mut Clock, report: Report, number: u32) -> Result<(), OpenFault>
+    requires { IsDemand clock.old.history.terms.goods report.demand }
+    ensures taken { OnOk result (clock.new.history ≡ with_report clock.old.history report) }
+    ensures judged { OnOk result (judgement_of clock.old.history report ≡ Take) }
+    ensures refused { IfErr result (Takes clock.old.history report number) }
+{
+    let judgement = clock.judge(report.bidder, report.round, &report.demand);
+    let Judgement::Take = judgement else {
+        return Err(OpenFault::NotAcceptable { number, judgement });
+    };
+    match clock.apply(alloc, report) {
+        Ok(()) => Ok(()),
+        Err(_) => Err(OpenFault::NoMemory),
+    }
+}
