@@ -1,166 +1,139 @@
 -- Where nothing outside failed and the files are good, only two answers are left.
-use Rattle.std.proofs.Common.{◌≡◌, ◌<◌, inl, inr, ℕ, ◌-◌, ◌^◌, List, [], ◌∷◌, length, Option, Some, Ok, Err, refl, sym, ◌∙◌, subst, ap, arith, decimal}
-use Rattle.std.specs.Prelude.{codes}
-use Rattle.std.proofs.lemmas.Fmt.{decimal_injective}
-use Rattle.std.proofs.Props.{props}
+use Rattle.std.proofs.Common.{◌≡◌, ◌<◌, ◌≤◌, inl, inr, ℕ, ◌-◌, ◌^◌, List, [], length, Option, Some, None, Ok, Err, refl, sym, ◌∙◌, subst, ap, arith}
+use Rattle.std.specs.Prelude.{IfSome}
 use Rattle.house_io.specs.Faults.{Rose}
 use Rattle.house_io.specs.Shelves.{NamedFile, IfTells}
-use Rattle.lot_base.specs.Goods.{IsOpening, IsSupply, IsRange, zeros}
-use Rattle.lot_base.specs.declared.auction_terms.Terms.{Terms}
 use Rattle.auction_file.specs.AuctionFile.{auction_of}
-use Rattle.house_run.specs.Words.{Check, Command, Fold, Spells, IsFold, comma_list}
+use Rattle.auction_file.specs.declared.faults.AuctionFault.{AuctionFault}
+use Rattle.house_run.specs.Causes.{IsBadAuction, IsBadLog, JournalFailed, MayEnd}
+use Rattle.house_run.specs.Commands.{Command, Spells, needs_of}
+use Rattle.settlement.specs.declared.outcome.Settlement.{Settlement}
+use Rattle.settlement.specs.declared.outcome.Settlement.TheVariants as settlement
+use Rattle.house_run.specs.Journals.{IsBadJournal}
+use Rattle.house_run.specs.Outcomes.{Settles, SettlesAs}
+use Rattle.house_run.specs.Ends.{AreGood, AreGoodJournals, IsJournalIn, MayOpen, CommandEnds, IsDoneOrNoMemory, IsGoodAuction, IsGoodLog, NothingFailed, RunEnds, Wrote, WroteLine}
 use Rattle.house_run.specs.Logs.{IsFaultyAt}
-use Rattle.house_run.specs.Ends.{ShelfSeen, SinkSeen, CheckJob, FoldJob, Job, Wrote, CommandEnds, RunEnds, IsRead, NothingFailed, HasGoodFiles, IsGoodAuction, IsGoodLog, IsDoneOrNoMemory, auction_limit, content, file_name_of, log_limit}
+use Rattle.house_run.specs.Needs.{Has, Log, Needs, journal_name}
+use Rattle.house_run.specs.Seen.{Outside, ShelfSeen, SinkSeen, IsTooLong, auction_limit, content, log_limit}
 use Rattle.house_run.specs.declared.ends.Ended.{Ended}
 use Rattle.house_run.specs.declared.ends.Ended.TheVariants as how
 use Rattle.house_run.specs.declared.ends.File.TheVariants as which
+use Rattle.house_run.proofs.GoodJournals.{IsOther, no-other, not-bad, other-halted, other-no-award, other-open, read-told, says-told}
 use Rattle.house_run.proofs.LogBytes.{no-fault}
-use Rattle.house_run.proofs.Commas.{parts-supply, decimals-same, supplies-few, small-enough}
-
-supply-one : (supply : List ℕ) (s r : IsSupply supply) → s ≡ r
-supply-one supply = hlevel props
-
-range-one : (low high n : ℕ) (s r : IsRange low high n) → s ≡ r
-range-one low high n = hlevel props
-
-opening-one : (supply : List ℕ) (ceiling : ℕ) (opening : List ℕ) (s r : IsOpening supply ceiling opening) → s ≡ r
-opening-one supply ceiling opening = hlevel props
-
-first-one : (version : ℕ) (goods opening : List ℕ) (s r : version ≡ 1 → opening ≡ zeros goods) → s ≡ r
-first-one version goods opening = hlevel props
-
--- terms of the same numbers are the same
-terms-same : (t u : Terms) → t.goods ≡ u.goods → t.bidders ≡ u.bidders → t.ceiling ≡ u.ceiling → t.version ≡ u.version → t.opening ≡ u.opening → t ≡ u
-terms-same t u g b c v o =
-    let F : List ℕ → ℕ → ℕ → ℕ → List ℕ → Type 0 = λ goods bidders ceiling version opening.
-    (s : IsSupply goods) (r : IsRange 1 12 bidders) (q : IsRange 2 10000 ceiling) (w : IsRange 1 2 version) (p : IsOpening goods ceiling opening) (f : version ≡ 1 → opening ≡ zeros goods) → t ≡ record {
-      goods = goods;
-      bidders = bidders;
-      ceiling = ceiling;
-      version = version;
-      opening = opening;
-      supply = s;
-      bidders_in_range = r;
-      ceiling_in_range = q;
-      version_in_range = w;
-      opens = p;
-      first_opens_at_zero = f;
-    } in
-    let start : F t.goods t.bidders t.ceiling t.version t.opening = λ s r q w p f i. record {
-      goods = t.goods;
-      bidders = t.bidders;
-      ceiling = t.ceiling;
-      version = t.version;
-      opening = t.opening;
-      supply = supply-one t.goods t.supply s i;
-      bidders_in_range = range-one 1 12 t.bidders t.bidders_in_range r i;
-      ceiling_in_range = range-one 2 10000 t.ceiling t.ceiling_in_range q i;
-      version_in_range = range-one 1 2 t.version t.version_in_range w i;
-      opens = opening-one t.goods t.ceiling t.opening t.opens p i;
-      first_opens_at_zero = first-one t.version t.goods t.opening t.first_opens_at_zero f i;
-    } in
-    let same : F u.goods u.bidders u.ceiling u.version u.opening =
-    subst (λ goods. F goods u.bidders u.ceiling u.version u.opening) g
-    (subst (λ n. F t.goods n u.ceiling u.version u.opening) b
-    (subst (λ n. F t.goods t.bidders n u.version u.opening) c
-    (subst (λ n. F t.goods t.bidders t.ceiling n u.opening) v
-    (subst (λ prices. F t.goods t.bidders t.ceiling t.version prices) o start)))) in
-    same u.supply u.bidders_in_range u.ceiling_in_range u.version_in_range u.opens u.first_opens_at_zero
-
-goods-same : (s t : List ℕ) → IsSupply s → IsSupply t → comma_list s ≡ comma_list t → s ≡ t
-goods-same s t is it e =
-    decimals-same s t (small-enough s (supplies-few s is.small)) (small-enough t (supplies-few t it.small)) (sym (parts-supply (comma_list s) s is refl) ∙ parts-supply (comma_list s) t it e)
-
-pub record SameWords (t u : Terms) (log name : List ℕ) : Type 0 where
-  pub same_terms : t ≡ u
-  pub same_log : log ≡ name
-
-fold-once : (t u : Terms) (log name : List ℕ) (words : List (List ℕ)) → IsFold t log words → IsFold u name words → SameWords t u log name
-fold-once t u log name words is it =
-    let e : codes "fold" ∷ comma_list t.goods ∷ decimal t.bidders ∷ decimal t.ceiling ∷ log ∷ [] ≡ codes "fold" ∷ comma_list u.goods ∷ decimal u.bidders ∷ decimal u.ceiling ∷ name ∷ [] = sym is.words_are ∙ it.words_are in
-    let g : comma_list t.goods ≡ comma_list u.goods = cc in
-    let b : decimal t.bidders ≡ decimal u.bidders = cc in
-    let c : decimal t.ceiling ≡ decimal u.ceiling = cc in
-    let l : log ≡ name = cc in
-    let goods = goods-same t.goods u.goods t.supply u.supply g in
-    record {
-      same_terms = terms-same t u goods
-          (decimal_injective t.bidders u.bidders (let r = t.bidders_in_range.at_most in omega arith) (let r = u.bidders_in_range.at_most in omega arith) b)
-          (decimal_injective t.ceiling u.ceiling (let r = t.ceiling_in_range.at_most in omega arith) (let r = u.ceiling_in_range.at_most in omega arith) c)
-          (is.version_is ∙ sym it.version_is)
-          (t.first_opens_at_zero is.version_is ∙ ap zeros goods ∙ sym (u.first_opens_at_zero it.version_is));
-      same_log = l;
-    }
-
--- the words of one command are those of no other
-pub spelled-once : (one other : Command) (words : List (List ℕ)) → Spells one words → Spells other words → one ≡ other
-spelled-once (Fold t log) (Fold u name) words is it = let same = fold-once t u log name words is it in λ i. Fold (same.same_terms i) (same.same_log i)
-spelled-once (Fold t log) (Check auction) words is it = absurd (let e : codes "fold" ∷ comma_list t.goods ∷ decimal t.bidders ∷ decimal t.ceiling ∷ log ∷ [] ≡ codes "check" ∷ auction ∷ [] = sym is.words_are ∙ it.words_are in cc)
-spelled-once (Check auction) (Fold t log) words is it = absurd (let e : codes "fold" ∷ comma_list t.goods ∷ decimal t.bidders ∷ decimal t.ceiling ∷ log ∷ [] ≡ codes "check" ∷ auction ∷ [] = sym it.words_are ∙ is.words_are in cc)
-spelled-once (Check auction) (Check name) words is it =
-    let e : codes "check" ∷ auction ∷ [] ≡ codes "check" ∷ name ∷ [] = sym is.words_are ∙ it.words_are in
-    let same : auction ≡ name = cc in
-    ap Check same
+use Rattle.house_run.proofs.Once.{spelled-once}
 
 still : (before now : ℕ) → now ≡ before → before < 2 ^ 64 - 1 → Rose before now → ⊥
 still before now e room rose = omega arith
 
--- what was read of a file that is told is the file
-read-told : (shelf : ShelfSeen) (files : List NamedFile) (name : List ℕ) (limit : ℕ) (read : List ℕ) → IsRead shelf name limit read → shelf.files ≡ Some files → read ≡ content files name
-read-told shelf files name limit read is told = let P : Option (List NamedFile) → Type 0 = λ o. IfTells o (λ fs. read ≡ content fs name) in subst P told is.whole
+-- what is needed has both
+record Both {A : Type 0} (P Q : A → Type 0) : Type 0 where
+  pub value : A
+  pub first : P value
+  pub second : Q value
 
-fold-ended : (terms : Terms) (log text : List ℕ) (shelf : ShelfSeen) (sink : SinkSeen) (files : List NamedFile) (end : Ended) → FoldJob terms log shelf end text → shelf.files ≡ Some files
-    → IsGoodLog terms (content files log) → NothingFailed log shelf sink → IsDoneOrNoMemory end
-fold-ended terms log text shelf sink files how.Done job told good quiet = inl refl
-fold-ended terms log text shelf sink files how.NoMemory job told good quiet = inr refl
-fold-ended terms log text shelf sink files how.Usage job told good quiet = absurd job
-fold-ended terms log text shelf sink files (how.BadAuction fault) job told good quiet = absurd job
-fold-ended terms log text shelf sink files how.ReadFault job told good quiet =
-    absurd (still (shelf.faults_before log) (shelf.faults log) quiet.shelf_same quiet.shelf_room job.0)
-fold-ended terms log text shelf sink files how.WriteFault job told good quiet = absurd job
-fold-ended terms log text shelf sink files (how.TooLong which.Auction) job told good quiet = absurd job
-fold-ended terms log text shelf sink files (how.TooLong which.Log) job told good quiet =
-    let P : Option (List NamedFile) → Type 0 = λ o. IfTells o (λ fs. log_limit < length (content fs log)) in
-    absurd (let long : log_limit < length (content files log) = subst P told job.0 in let short = good.short in omega arith)
-fold-ended terms log text shelf sink files (how.BadLog place) job told good quiet =
-    let P : List ℕ → Type 0 = λ bytes. IsFaultyAt terms bytes place in
-    absurd (no-fault terms good.history (content files log) place good.whole (subst P (read-told shelf files log log_limit job.0 job.1 told) job.2))
+both-of : {A : Type 0} (o : Option A) (P Q : A → Type 0) → Has o P → IfSome o Q → Both P Q
+both-of None P Q p q = absurd p
+both-of (Some value) P Q p q = record { value = value; first = p; second = q }
 
-check-ended : (auction text : List ℕ) (shelf : ShelfSeen) (sink : SinkSeen) (files : List NamedFile) (end : Ended) → CheckJob auction shelf end text → shelf.files ≡ Some files
-    → IsGoodAuction (content files auction) → NothingFailed auction shelf sink → IsDoneOrNoMemory end
-check-ended auction text shelf sink files how.Done job told good quiet = inl refl
-check-ended auction text shelf sink files how.NoMemory job told good quiet = inr refl
-check-ended auction text shelf sink files how.Usage job told good quiet = absurd job
-check-ended auction text shelf sink files (how.BadLog place) job told good quiet = absurd job
-check-ended auction text shelf sink files how.ReadFault job told good quiet =
-    absurd (still (shelf.faults_before auction) (shelf.faults auction) quiet.shelf_same quiet.shelf_room job.0)
-check-ended auction text shelf sink files how.WriteFault job told good quiet = absurd job
-check-ended auction text shelf sink files (how.TooLong which.Log) job told good quiet = absurd job
-check-ended auction text shelf sink files (how.TooLong which.Auction) job told good quiet =
-    let P : Option (List NamedFile) → Type 0 = λ o. IfTells o (λ fs. auction_limit < length (content fs auction)) in
-    absurd (let long : auction_limit < length (content files auction) = subst P told job.0 in let short = good.short in omega arith)
-check-ended auction text shelf sink files (how.BadAuction fault) job told good quiet =
-    absurd (let e : Ok good.listing ≡ Err fault = sym good.read ∙ ap auction_of (sym (read-told shelf files auction auction_limit job.0 job.1 told)) ∙ job.2 in cc)
+-- the same of two things that are needed
+record BothOfTwo {A B : Type 0} (P Q : A → B → Type 0) : Type 0 where
+  pub one : A
+  pub other : B
+  pub first : P one other
+  pub second : Q one other
 
-job-ended : (command : Command) (text : List ℕ) (shelf : ShelfSeen) (sink : SinkSeen) (files : List NamedFile) (end : Ended) → Job command shelf end text → shelf.files ≡ Some files
-    → HasGoodFiles command files → NothingFailed (file_name_of command) shelf sink → IsDoneOrNoMemory end
-job-ended (Fold terms log) text shelf sink files end job told good quiet = fold-ended terms log text shelf sink files end job told good quiet
-job-ended (Check auction) text shelf sink files end job told good quiet = check-ended auction text shelf sink files end job told good quiet
+both-of-two : {A B : Type 0} (o : Option A) (u : Option B) (P Q : A → B → Type 0) → Has o (λ a. Has u (λ b. P a b)) → IfSome o (λ a. IfSome u (λ b. Q a b)) → BothOfTwo P Q
+both-of-two None u P Q p q = absurd p
+both-of-two (Some a) None P Q p q = absurd p
+both-of-two (Some a) (Some b) P Q p q = record { one = a; other = b; first = p; second = q }
+
+no-failure : (needs : Needs) (files : List NamedFile) (seen : Outside) (sink : SinkSeen) (name : List ℕ) → NothingFailed needs files seen sink → MayOpen needs files name → Rose (seen.shelf.faults_before name) (seen.shelf.faults name) → ⊥
+no-failure needs files seen sink name quiet may rose = still (seen.shelf.faults_before name) (seen.shelf.faults name) (quiet.shelf_same name may) (quiet.shelf_room name may) rose
+
+not-long : (shelf : ShelfSeen) (files : List NamedFile) (name : List ℕ) (limit : ℕ) → shelf.files ≡ Some files → IsTooLong shelf name limit → length (content files name) ≤ limit → ⊥
+not-long shelf files name limit told long short =
+    let P : Option (List NamedFile) → Type 0 = λ o. IfTells o (λ fs. limit < length (content fs name)) in
+    let more : limit < length (content files name) = subst P told long in
+    omega arith
+
+good-log : (log : Log) (place : ℕ) (shelf : ShelfSeen) (files : List NamedFile) → shelf.files ≡ Some files → IsBadLog log place shelf → IsGoodLog log.terms (content files log.name) → ⊥
+good-log log place shelf files told bad good =
+    let P : List ℕ → Type 0 = λ bytes. IsFaultyAt log.terms bytes place in
+    no-fault log.terms good.history (content files log.name) place good.whole (subst P (read-told shelf files log.name log_limit bad.read bad.is_read told) bad.faulty)
+
+good-auction : (auction : List ℕ) (fault : AuctionFault) (shelf : ShelfSeen) (files : List NamedFile) → shelf.files ≡ Some files → IsBadAuction auction fault shelf → IsGoodAuction (content files auction) → ⊥
+good-auction auction fault shelf files told bad good =
+    let e : Ok good.listing ≡ Err fault = sym good.read ∙ ap auction_of (sym (read-told shelf files auction auction_limit bad.read bad.is_read told)) ∙ bad.says in cc
+
+record SomeJournal (auction journals : Option (List ℕ)) (files : List NamedFile) (shelf : ShelfSeen) : Type 0 where
+  pub name : List ℕ
+  pub journal : Has auction (λ a. Has journals (λ j. IsJournalIn files a j name))
+  pub failed : Rose (shelf.faults_before name) (shelf.faults name)
+
+journal-failed : (auction journals : Option (List ℕ)) (clock : ℕ) (files : List NamedFile) (shelf : ShelfSeen) → shelf.files ≡ Some files → Has auction (λ a. Has journals (λ j. JournalFailed a j clock shelf)) → SomeJournal auction journals files shelf
+journal-failed None journals clock files shelf told may = absurd may
+journal-failed (Some auction) None clock files shelf told may = absurd may
+journal-failed (Some auction) (Some journals) clock files shelf told may = record {
+  name = journal_name journals clock;
+  journal = record { listing = may.listing; says = says-told shelf files auction may.listing told may.auction_is; clock = clock; clock_is = may.clock_is; name_is = refl };
+  failed = may.failed;
+}
+
+-- a command settles nothing but closed clocks
+not-other : (s : Settlement) (needs : Needs) (shelf : ShelfSeen) (files : List NamedFile) → IsOther s → shelf.files ≡ Some files → Settles needs shelf s → AreGood needs files → ⊥
+not-other s needs shelf files other told may good =
+    let both = both-of-two needs.auction needs.journals (λ a j. SettlesAs shelf a j s) (λ a j. AreGoodJournals needs.settles files a j) may.1 good.journals in
+    no-other s needs.settles shelf files both.one both.other other may.0 told both.first both.second
+
+-- the two ends that are left
+ended-well : (needs : Needs) (seen : Outside) (sink : SinkSeen) (files : List NamedFile) (end : Ended) → MayEnd needs seen end → seen.shelf.files ≡ Some files → AreGood needs files
+    → NothingFailed needs files seen sink → IsDoneOrNoMemory end
+ended-well needs seen sink files how.Done may told good quiet = absurd may
+ended-well needs seen sink files how.NoMemory may told good quiet = inr refl
+ended-well needs seen sink files how.Usage may told good quiet = absurd may
+ended-well needs seen sink files how.WriteFault may told good quiet = absurd may
+ended-well needs seen sink files how.ReadFault may told good quiet = absurd (no-failure needs files seen sink may.name quiet (inl may.source) may.failed)
+ended-well needs seen sink files (how.DiskFault clock) may told good quiet = absurd (
+    let disk = journal-failed needs.auction needs.journals clock files seen.shelf told may in
+    no-failure needs files seen sink disk.name quiet (inr disk.journal) disk.failed)
+ended-well needs seen sink files (how.BadJournal clock fault) may told good quiet = absurd (
+    let both = both-of-two needs.auction needs.journals (λ a j. IsBadJournal a j clock fault seen.shelf) (λ a j. AreGoodJournals needs.settles files a j) may good.journals in
+    not-bad needs.settles seen.shelf files both.one both.other clock fault told both.first both.second)
+ended-well needs seen sink files (how.Open clock round missing) may told good quiet = absurd (not-other (settlement.Open clock round missing) needs seen.shelf files (other-open clock round missing) told may good)
+ended-well needs seen sink files (how.NoAward clock) may told good quiet = absurd (not-other (settlement.NoAward clock) needs seen.shelf files (other-no-award clock) told may good)
+ended-well needs seen sink files (how.Halted clock units) may told good quiet = absurd (not-other (settlement.Halted clock units) needs seen.shelf files (other-halted clock units) told may good)
+ended-well needs seen sink files (how.BadAuction fault) may told good quiet = absurd (
+    let both = both-of needs.auction _ _ may good.auction in
+    good-auction both.value fault seen.shelf files told both.first both.second)
+ended-well needs seen sink files (how.TooLong which.Auction) may told good quiet = absurd (
+    let both = both-of needs.auction _ _ may good.auction in
+    not-long seen.shelf files both.value auction_limit told both.first both.second.short)
+ended-well needs seen sink files (how.TooLong which.Log) may told good quiet = absurd (
+    let both = both-of needs.log _ _ may good.log in
+    not-long seen.shelf files both.value.name log_limit told both.first both.second.short)
+ended-well needs seen sink files (how.BadLog place) may told good quiet = absurd (
+    let both = both-of needs.log _ _ may good.log in
+    good-log both.value place seen.shelf files told both.first both.second)
 
 -- what was written whole answers as it should, and nothing else was written where the sink did not fail
 delivered : (sink : SinkSeen) (end answer : Ended) (text : List ℕ) → Wrote sink end text answer → IsDoneOrNoMemory end → sink.faults ≡ sink.faults_before → sink.faults_before < 2 ^ 64 - 1 → IsDoneOrNoMemory answer
 delivered sink end answer text (inl whole) good same room = subst IsDoneOrNoMemory (sym whole.answer_is) good
 delivered sink end answer text (inr front) good same room = absurd (still sink.faults_before sink.faults same room front.cause)
 
-command-done : (command : Command) (shelf : ShelfSeen) (sink : SinkSeen) (files : List NamedFile) (answer : Ended) → CommandEnds command shelf sink answer → shelf.files ≡ Some files
-    → HasGoodFiles command files → NothingFailed (file_name_of command) shelf sink → IsDoneOrNoMemory answer
-command-done command shelf sink files answer ends told good quiet =
-    delivered sink ends.end answer ends.text ends.wrote (job-ended command ends.text shelf sink files ends.end ends.job told good quiet) quiet.sink_same quiet.sink_room
+line-delivered : (sink : SinkSeen) (end answer : Ended) → WroteLine sink end answer → IsDoneOrNoMemory end → sink.faults ≡ sink.faults_before → sink.faults_before < 2 ^ 64 - 1 → IsDoneOrNoMemory answer
+line-delivered sink end answer (inl wrote) good same room = delivered sink end answer _ wrote good same room
+line-delivered sink end answer (inr none) good same room = delivered sink how.NoMemory answer [] none.1 (inr refl) same room
 
-pub completes : (words : List (List ℕ)) (shelf : ShelfSeen) (sink : SinkSeen) (answer : Ended) → RunEnds words shelf sink answer → (command : Command) (files : List NamedFile) → Spells command words → shelf.files ≡ Some files
-    → HasGoodFiles command files → NothingFailed (file_name_of command) shelf sink → IsDoneOrNoMemory answer
-completes words shelf sink answer (inl usage) command files is told good quiet = absurd (usage.none command is)
-completes words shelf sink answer (inr (inl some)) command files is told good quiet =
-    let P : Command → Type 0 = λ c. CommandEnds c shelf sink answer in
-    command-done command shelf sink files answer (subst P (spelled-once some.command command words some.spelled is) some.ends) told good quiet
-completes words shelf sink answer (inr (inr none)) command files is told good quiet = delivered sink how.NoMemory answer [] none.wrote (inr refl) quiet.sink_same quiet.sink_room
+command-done : (command : Command) (seen : Outside) (sink : SinkSeen) (files : List NamedFile) (answer : Ended) → CommandEnds command seen sink answer → seen.shelf.files ≡ Some files
+    → AreGood (needs_of command) files → NothingFailed (needs_of command) files seen sink → IsDoneOrNoMemory answer
+command-done command seen sink files answer (inl done) told good quiet = delivered sink how.Done answer done.text done.wrote (inl refl) quiet.sink_same quiet.sink_room
+command-done command seen sink files answer (inr other) told good quiet =
+    line-delivered sink other.end answer other.wrote (ended-well (needs_of command) seen sink files other.end other.cause told good quiet) quiet.sink_same quiet.sink_room
+
+pub completes : (words : List (List ℕ)) (seen : Outside) (sink : SinkSeen) (answer : Ended) → RunEnds words seen sink answer → (command : Command) (files : List NamedFile) → Spells command words → seen.shelf.files ≡ Some files
+    → AreGood (needs_of command) files → NothingFailed (needs_of command) files seen sink → IsDoneOrNoMemory answer
+completes words seen sink answer (inl usage) command files is told good quiet = absurd (usage.none command is)
+completes words seen sink answer (inr (inl some)) command files is told good quiet =
+    let P : Command → Type 0 = λ c. CommandEnds c seen sink answer in
+    command-done command seen sink files answer (subst P (spelled-once some.command command words some.spelled is) some.ends) told good quiet
+completes words seen sink answer (inr (inr none)) command files is told good quiet = delivered sink how.NoMemory answer [] none.wrote (inr refl) quiet.sink_same quiet.sink_room

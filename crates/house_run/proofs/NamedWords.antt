@@ -1,12 +1,18 @@
 -- Words by the ids of one argument or four, and the commands that they spell.
-use Rattle.std.proofs.Common.{◌≡◌, ℕ, List, [], ◌∷◌, refl, sym, ap, ◌∙◌, subst}
+use Rattle.std.proofs.Common.{◌≡◌, ℕ, Bool, List, [], ◌∷◌, length, refl, sym, ap, ◌∙◌, subst}
 use Rattle.std.specs.Prelude.{codes, Some, IsSome, Option}
 use Rattle.std.specs.List.{AllByRecursion}
 use Rattle.clap.specs.Matches.{first_value}
 use Rattle.clap.specs.declared.parser.matches.Found.{Found}
 use Rattle.lot_base.specs.declared.auction_terms.Terms.{Terms}
 use Rattle.house_run.specs.Positionals.{AreNamed}
-use Rattle.house_run.specs.Words.{AreTermWords, IsCheck, IsFold, IsPlainWord}
+use Rattle.house_run.specs.CheckCommand.{IsCheck}
+use Rattle.house_run.specs.FoldCommand.{AreTermWords, IsFold}
+use Rattle.house_run.specs.Arguments.{AreArguments, plain_in}
+use Rattle.house_run.specs.Commands.{Check, Command, Fold, IsNoCommand, Settle, Spells, Standing}
+use Rattle.house_run.specs.SettleCommand.{IsSettle}
+use Rattle.house_run.specs.StandingCommand.{IsStanding}
+use Rattle.house_run.specs.Words.{IsPlainWord}
 
 pub record IsOneWord (f : Found) (a : List ℕ) (words : List (List ℕ)) : Type 0 where
   pub word : List ℕ
@@ -17,6 +23,19 @@ pub one-word : (f : Found) (a : List ℕ) (words : List (List ℕ)) → AreNamed
 one-word f a [] named = absurd named
 one-word f a (word ∷ []) named = record { word = word; words_are = refl; word_is = named.0 }
 one-word f a (word ∷ more ∷ words) named = absurd named.1
+
+pub record AreTwoWords (f : Found) (a b : List ℕ) (words : List (List ℕ)) : Type 0 where
+  pub first : List ℕ
+  pub second : List ℕ
+  pub words_are : words ≡ first ∷ second ∷ []
+  pub first_is : first_value f a ≡ Some first
+  pub second_is : first_value f b ≡ Some second
+
+pub two-words : (f : Found) (a b : List ℕ) (words : List (List ℕ)) → AreNamed f (a ∷ b ∷ []) words → AreTwoWords f a b words
+two-words f a b [] named = absurd named
+two-words f a b (v ∷ []) named = absurd named.1
+two-words f a b (v ∷ w ∷ []) named = record { first = v; second = w; words_are = refl; first_is = named.0; second_is = named.1.0 }
+two-words f a b (v ∷ w ∷ x ∷ words) named = absurd named.1.1
 
 pub record AreFourWords (f : Found) (a b c d : List ℕ) (words : List (List ℕ)) : Type 0 where
   pub first : List ℕ
@@ -72,3 +91,38 @@ spells-fold f a b c d supply bidders ceiling log words terms named supply_is bid
     let same = four.words_are ∙ (λ i. s i ∷ n i ∷ m i ∷ l i ∷ []) in
     let P : List (List ℕ) → Type 0 = λ ws. AllByRecursion IsPlainWord ws in
     record { version_is = read.version_is; words_are = ap (λ ws. codes "fold" ∷ ws) same; log_is = (subst P same plain).1.1.1.0 }
+
+pub spells-standing : (f : Found) (a b auction journals : List ℕ) (words : List (List ℕ)) → AreNamed f (a ∷ b ∷ []) words → first_value f a ≡ Some auction → first_value f b ≡ Some journals → AllByRecursion IsPlainWord words
+    → IsStanding auction journals (codes "standing" ∷ words)
+spells-standing f a b auction journals words named auction_is journals_are plain =
+    let two = two-words f a b words named in
+    let x = same-word (first_value f a) two.first auction two.first_is auction_is in
+    let y = same-word (first_value f b) two.second journals two.second_is journals_are in
+    let same : words ≡ auction ∷ journals ∷ [] = two.words_are ∙ (λ i. x i ∷ y i ∷ []) in
+    let P : List (List ℕ) → Type 0 = λ ws. AllByRecursion IsPlainWord ws in
+    let all = subst P same plain in
+    record { words_are = ap (λ ws. codes "standing" ∷ ws) same; auction_is = all.0; journals_are = all.1.0 }
+
+pub spells-settle : (f : Found) (a b auction journals : List ℕ) (json : Bool) (words behind : List (List ℕ)) → AreNamed f (a ∷ b ∷ []) words → first_value f a ≡ Some auction → first_value f b ≡ Some journals
+    → AreArguments (Some (codes "--json")) behind words json → IsSettle auction journals json (codes "settle" ∷ behind)
+spells-settle f a b auction journals json words behind named auction_is journals_are are =
+    let two = two-words f a b words named in
+    let x = same-word (first_value f a) two.first auction two.first_is auction_is in
+    let y = same-word (first_value f b) two.second journals two.second_is journals_are in
+    let same : words ≡ auction ∷ journals ∷ [] = two.words_are ∙ (λ i. x i ∷ y i ∷ []) in
+    record { behind = behind; words_are = refl; arguments = record { plain_are = sym same ∙ are.plain_are; option_is = are.option_is } }
+
+-- the plain words of `settle` are two
+pub two-plain : (behind words : List (List ℕ)) (json : Bool) → AreArguments (Some (codes "--json")) behind words json → (length words ≡ 2 → ⊥) → IsNoCommand (codes "settle" ∷ behind)
+two-plain behind words json are other = λ command is.
+    settled command (codes "settle" ∷ behind) is refl
+  where
+    settled : (command : Command) (all : List (List ℕ)) → Spells command all → all ≡ codes "settle" ∷ behind → ⊥
+    settled (Fold terms log) all is e = let bad = sym is.words_are ∙ e in cc
+    settled (Check auction) all is e = let bad = sym is.words_are ∙ e in cc
+    settled (Standing auction journals) all is e = let bad = sym is.words_are ∙ e in cc
+    settled (Settle auction journals given) all is e =
+        let w : codes "settle" ∷ is.behind ≡ codes "settle" ∷ behind = sym is.words_are ∙ e in
+        let b : is.behind ≡ behind = cc in
+        let p : words ≡ auction ∷ journals ∷ [] = are.plain_are ∙ ap plain_in (sym b) ∙ sym is.arguments.plain_are in
+        other (ap length p)

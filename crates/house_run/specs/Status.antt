@@ -1,7 +1,11 @@
--- The status that the program ends with, and the number of each fault of an auction file in its line.
+-- The status that the program ends with, and the number of each fault of an auction file or a journal in its line.
 use Rattle.std.specs.Prelude.{ℕ}
 use Rattle.auction_file.specs.declared.faults.AuctionFault.{AuctionFault}
 use Rattle.auction_file.specs.declared.faults.AuctionFault.TheVariants as fault
+use Rattle.recovery.specs.declared.faults.JournalCause.{JournalCause}
+use Rattle.recovery.specs.declared.faults.JournalCause.TheVariants as cause
+use Rattle.clock_book.specs.declared.faults.OpenFault.{OpenFault}
+use Rattle.clock_book.specs.declared.faults.OpenFault.TheVariants as why
 use Rattle.house_run.specs.declared.ends.Ended.{Ended}
 use Rattle.house_run.specs.declared.ends.Ended.TheVariants as how
 
@@ -12,6 +16,11 @@ status_of how.Usage = 2
 status_of (how.BadAuction refusal) = 3
 status_of how.ReadFault = 4
 status_of how.WriteFault = 5
+status_of (how.DiskFault clock) = 6
+status_of (how.BadJournal clock fault) = 8
+status_of (how.Open clock round missing) = 9
+status_of (how.NoAward clock) = 10
+status_of (how.Halted clock good) = 11
 status_of (how.TooLong file) = 14
 status_of (how.BadLog place) = 15
 
@@ -31,3 +40,32 @@ number_of (fault.BadName key) = 11
 number_of (fault.BadSupply good value) = 12
 number_of (fault.Opening good value) = 13
 number_of fault.NoMemory = 0
+
+-- the record at which a journal is refused, 0 for its header; a fault of the disk and want of memory have none
+abbrev pub record_of : OpenFault → ℕ
+record_of (why.Broken broken) = broken.number
+record_of (why.NotAcceptable number judgement) = number
+record_of why.DiskFault = 0
+record_of why.NoMemory = 0
+
+abbrev pub cause_number : JournalCause → ℕ
+cause_number (cause.OtherClock clock) = 1
+cause_number (cause.OtherAuction digest) = 2
+cause_number cause.Damaged = 3
+cause_number cause.NotReport = 4
+cause_number (cause.OtherVersion version) = 7
+cause_number (cause.OtherOpening good) = 8
+
+-- the number of the fault of a journal
+abbrev pub refusal_number : OpenFault → ℕ
+refusal_number (why.Broken broken) = cause_number broken.cause
+refusal_number (why.NotAcceptable number judgement) = 6
+refusal_number why.DiskFault = 0
+refusal_number why.NoMemory = 0
+
+-- how a command ends that can't read the journal of this clock
+abbrev pub end_at : ℕ → OpenFault → Ended
+end_at clock why.DiskFault = how.DiskFault clock
+end_at clock why.NoMemory = how.NoMemory
+end_at clock (why.Broken broken) = how.BadJournal clock (why.Broken broken)
+end_at clock (why.NotAcceptable number judgement) = how.BadJournal clock (why.NotAcceptable number judgement)

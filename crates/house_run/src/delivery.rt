@@ -1,10 +1,13 @@
 //! Writing the one text of a run.
-ghost use Rattle.std.specs.Prelude.{◌≡◌, ◌≢◌, string_bytes};
-ghost use Rattle.std.specs.Result.{ForOk};
-ghost use Rattle.house_run.specs.Ends.{HasNumber, Wrote, WroteLine, line_of, sink_seen};
+ghost use Rattle.std.specs.Prelude.{◌≡◌, IfOk, IfSome, IfNone, string_bytes};
+ghost use Rattle.house_run.specs.Causes.{HasNumber, line_of};
+ghost use Rattle.house_run.specs.Ends.{Wrote, WroteLine};
+ghost use Rattle.house_run.specs.Seen.{sink_seen};
 ghost use Rattle.house_run.specs.declared.ends.Ended.TheVariants as how;
 
-use crate::ends::{Ended, File, fault_number};
+use crate::ends::{Ended, File, fault_number, record_of, refusal_number};
+use auction_file::AuctionFault;
+use clock_book::OpenFault;
 use house_io::{Sink, write_whole};
 use std::alloc::{AllocError, Global};
 
@@ -25,36 +28,114 @@ pub fn answer_usage<S: Sink>(out: &mut S) -> Ended
     deliver(out, b"usage\n", Ended::Usage)
 }
 
-/// Writes the line of a job that was not done.
+/// Writes the line of a job that was not done. One without a number takes no memory.
 pub(crate) fn deliver_line<S: Sink>(alloc: Global, out: &mut S, ended: Ended) -> Ended
     ensures { WroteLine (sink_seen S.written S.faults out.old out.new) ended result }
 {
-    match ended {
-        Ended::Usage => answer_usage(out),
-        Ended::ReadFault => deliver(out, b"read fault\n", Ended::ReadFault),
-        Ended::TooLong(File::Auction) => deliver(out, b"too long auction\n", ended),
-        Ended::TooLong(File::Log) => deliver(out, b"too long log\n", ended),
-        Ended::BadAuction(fault) => {
-            let number = fault_number(&fault);
-            let line = format!(in alloc; "bad auction {number}\n");
-            deliver_made(out, line, Ended::BadAuction(fault))
-        }
-        Ended::BadLog(place) => {
-            let line = format!(in alloc; "bad log at {place}\n");
-            deliver_made(out, line, Ended::BadLog(place))
-        }
-        Ended::Done | Ended::NoMemory | Ended::WriteFault => deliver(out, b"", ended),
+    match plain_line(&ended) {
+        Some(line) => deliver(out, line, ended),
+        None => match numbered_line(alloc, &ended) {
+            Ok(line) => deliver(out, line.as_bytes(), ended),
+            Err(_) => deliver(out, b"", Ended::NoMemory),
+        },
     }
 }
 
-/// Writes a line that has a number, if memory sufficed to make it.
-fn deliver_made<S: Sink>(out: &mut S, line: Result<String, AllocError>, ended: Ended) -> Ended
-    requires line { ForOk line (λ text. string_bytes text ≡ line_of ended) }
-    requires numbered { HasNumber ended }
-    ensures { WroteLine (sink_seen S.written S.faults out.old out.new) ended result }
+/// The line of an end, if it has no number.
+fn plain_line(ended: &Ended) -> Option<&'static [u8]>
+    ensures some { IfSome result (λ line. line.now ≡ line_of ended.now) }
+    ensures none { IfNone result (HasNumber ended.now) }
 {
-    match line {
-        Ok(line) => deliver(out, line.as_bytes(), ended),
-        Err(_) => deliver(out, b"", Ended::NoMemory),
+    match ended {
+        Ended::Done | Ended::NoMemory | Ended::WriteFault => Some(b""),
+        Ended::Usage => Some(b"usage\n"),
+        Ended::ReadFault => Some(b"read fault\n"),
+        Ended::TooLong(File::Auction) => Some(b"too long auction\n"),
+        Ended::TooLong(File::Log) => Some(b"too long log\n"),
+        Ended::BadAuction(_)
+        | Ended::DiskFault(_)
+        | Ended::BadJournal { .. }
+        | Ended::Open { .. }
+        | Ended::NoAward { .. }
+        | Ended::Halted { .. }
+        | Ended::BadLog(_) => None,
     }
+}
+
+/// The line of an end that has a number.
+fn numbered_line(alloc: Global, ended: &Ended) -> Result<String, AllocError>
+    requires { HasNumber ended.now }
+    ensures { IfOk result (λ line. string_bytes line ≡ line_of ended.now) }
+{
+    match ended {
+        Ended::BadAuction(fault) => bad_auction_line(alloc, fault),
+        Ended::DiskFault(clock) => disk_fault_line(alloc, *clock),
+        Ended::BadJournal { clock, fault } => bad_journal_line(alloc, *clock, fault),
+        Ended::Open {
+            clock,
+            round,
+            missing,
+        } => open_line(alloc, *clock, *round, *missing),
+        Ended::NoAward { clock } => no_award_line(alloc, *clock),
+        Ended::Halted { clock, good } => halted_line(alloc, *clock, *good),
+        Ended::BadLog(place) => bad_log_line(alloc, *place),
+        Ended::Done
+        | Ended::NoMemory
+        | Ended::Usage
+        | Ended::ReadFault
+        | Ended::WriteFault
+        | Ended::TooLong(_) => unreachable!(),
+    }
+}
+
+fn bad_auction_line(alloc: Global, fault: &AuctionFault) -> Result<String, AllocError>
+    ensures { IfOk result (λ line. string_bytes line ≡ line_of (how.BadAuction fault.now)) }
+{
+    let number = fault_number(fault);
+    let line = format!(in alloc; "bad auction {number}\n")?;
+    Ok(line)
+}
+
+fn disk_fault_line(alloc: Global, clock: u8) -> Result<String, AllocError>
+    ensures { IfOk result (λ line. string_bytes line ≡ line_of (how.DiskFault clock)) }
+{
+    let line = format!(in alloc; "disk fault clock {clock}\n")?;
+    Ok(line)
+}
+
+fn bad_journal_line(alloc: Global, clock: u8, fault: &OpenFault) -> Result<String, AllocError>
+    ensures { IfOk result (λ line. string_bytes line ≡ line_of (how.BadJournal clock fault.now)) }
+{
+    let record = record_of(fault);
+    let number = refusal_number(fault);
+    let line = format!(in alloc; "bad journal clock {clock} record {record} fault {number}\n")?;
+    Ok(line)
+}
+
+fn open_line(alloc: Global, clock: u8, round: u32, missing: u8) -> Result<String, AllocError>
+    ensures { IfOk result (λ line. string_bytes line ≡ line_of (how.Open clock round missing)) }
+{
+    let line = format!(in alloc; "open clock {clock} round {round} missing {missing}\n")?;
+    Ok(line)
+}
+
+fn no_award_line(alloc: Global, clock: u8) -> Result<String, AllocError>
+    ensures { IfOk result (λ line. string_bytes line ≡ line_of (how.NoAward clock)) }
+{
+    let line = format!(in alloc; "no award clock {clock}\n")?;
+    Ok(line)
+}
+
+fn halted_line(alloc: Global, clock: u8, good: u8) -> Result<String, AllocError>
+    ensures { IfOk result (λ line. string_bytes line ≡ line_of (how.Halted clock good)) }
+{
+    let line = format!(in alloc; "halted clock {clock} good {good}\n")?;
+    Ok(line)
+}
+
+fn bad_log_line(alloc: Global, place: u64) -> Result<String, AllocError>
+    ensures { IfOk result (λ line. string_bytes line ≡ line_of (how.BadLog place)) }
+{
+    let line = format!(in alloc; "bad log at {place}\n")?;
+    Ok(line)
 }

@@ -1,8 +1,10 @@
 //! How a run ends.
 ghost use Rattle.std.specs.Prelude.{◌≡◌};
-ghost use Rattle.house_run.specs.Status.{number_of, status_of};
+ghost use Rattle.house_run.specs.Status.{cause_number, number_of, record_of, refusal_number, status_of};
 
 use auction_file::AuctionFault;
+use clock_book::OpenFault;
+use recovery::JournalCause;
 
 /// A file with a limit.
 #[derive(Clone, Copy, Debug, PartialEq, Eq)]
@@ -26,6 +28,16 @@ pub enum Ended {
     ReadFault,
     /// The text could not be written whole; a front of it was.
     WriteFault,
+    /// A call on this clock's journal failed.
+    DiskFault(u8),
+    /// This clock's journal is refused, the first one that is.
+    BadJournal { clock: u8, fault: OpenFault },
+    /// A clock, the first such one, is running in this round; this is its smallest member without a report there.
+    Open { clock: u8, round: u32, missing: u8 },
+    /// No choice of what the members of a clock, the first such one, demand in its last round clears.
+    NoAward { clock: u8 },
+    /// A clock, the first such one, has halted at this good.
+    Halted { clock: u8, good: u8 },
     /// The file is longer than its limit.
     TooLong(File),
     /// The first faulty entry of the log begins behind so many bytes.
@@ -44,6 +56,11 @@ impl Ended {
             Ended::BadAuction(_) => 3,
             Ended::ReadFault => 4,
             Ended::WriteFault => 5,
+            Ended::DiskFault(_) => 6,
+            Ended::BadJournal { .. } => 8,
+            Ended::Open { .. } => 9,
+            Ended::NoAward { .. } => 10,
+            Ended::Halted { .. } => 11,
             Ended::TooLong(_) => 14,
             Ended::BadLog(_) => 15,
         }
@@ -69,5 +86,40 @@ pub(crate) fn fault_number(fault: &AuctionFault) -> u8
         AuctionFault::BadName(_) => 11,
         AuctionFault::BadSupply { .. } => 12,
         AuctionFault::Opening { .. } => 13,
+    }
+}
+
+/// The record at which a journal is refused, 0 for its header.
+pub(crate) fn record_of(fault: &OpenFault) -> u32
+    ensures { result ≡ record_of fault.now }
+{
+    match fault {
+        OpenFault::Broken(broken) => broken.number,
+        OpenFault::NotAcceptable { number, .. } => *number,
+        OpenFault::DiskFault | OpenFault::NoMemory => 0,
+    }
+}
+
+/// The number of the fault of a journal.
+pub(crate) fn refusal_number(fault: &OpenFault) -> u8
+    ensures { result ≡ refusal_number fault.now }
+{
+    match fault {
+        OpenFault::Broken(broken) => cause_number(&broken.cause),
+        OpenFault::NotAcceptable { .. } => 6,
+        OpenFault::DiskFault | OpenFault::NoMemory => 0,
+    }
+}
+
+fn cause_number(cause: &JournalCause) -> u8
+    ensures { result ≡ cause_number cause.now }
+{
+    match cause {
+        JournalCause::OtherClock(_) => 1,
+        JournalCause::OtherAuction(_) => 2,
+        JournalCause::Damaged => 3,
+        JournalCause::NotReport => 4,
+        JournalCause::OtherVersion(_) => 7,
+        JournalCause::OtherOpening(_) => 8,
     }
 }

@@ -1,14 +1,29 @@
 //! Laws of words and logs.
-ghost use Rattle.std.specs.Prelude.{◌≡◌, ◌⊎◌, ℕ, List, [], ◌∷◌, Ok, Err};
+ghost use Rattle.std.specs.Prelude.{◌≡◌, ◌≤◌, ◌⊎◌, ℕ, List, [], ◌∷◌, Ok, Err, codes, true};
 ghost use Rattle.lot_base.specs.declared.auction_terms.Terms.{Terms};
 ghost use Rattle.clock.specs.Reports.{ClockHistory};
 ghost use Rattle.house_run.specs.Entries.{log_of};
 ghost use Rattle.house_run.specs.Logs.{AreBytes, IsLogOf, IsFaultyAt, entry_of};
-ghost use Rattle.house_run.specs.Words.{Command, Spells};
+ghost use Rattle.lot_base.specs.declared.limits.TheConstants.{MOST_BIDDERS};
+ghost use Rattle.house_run.specs.Needs.{journal_name};
+ghost use Rattle.house_run.specs.Commands.{Command, IsNoCommand, Settle, Spells};
 
 /// Words are one command at most. So what `run` says of a command says which one it did.
 pub fn words_law()
     ensures one { (words : List (List ℕ)) (command other : Command) → Spells command words → Spells other words → command ≡ other }
+{}
+
+/// The option of `settle` stands between or before its words, and it stands there once, without a value.
+pub fn option_examples()
+    ensures between { Spells (Settle (codes "a") (codes "j") true) (codes "settle" ∷ codes "a" ∷ codes "--json" ∷ codes "j" ∷ []) }
+    ensures before { Spells (Settle (codes "a") (codes "j") true) (codes "settle" ∷ codes "--json" ∷ codes "a" ∷ codes "j" ∷ []) }
+    ensures twice { IsNoCommand (codes "settle" ∷ codes "a" ∷ codes "j" ∷ codes "--json" ∷ codes "--json" ∷ []) }
+    ensures valued { IsNoCommand (codes "settle" ∷ codes "a" ∷ codes "j" ∷ codes "--json=1" ∷ []) }
+{}
+
+/// The journals of an auction's clocks have different names.
+pub fn journal_names_law()
+    ensures { (journals : List ℕ) (clock other : ℕ) → clock ≤ MOST_BIDDERS → other ≤ MOST_BIDDERS → journal_name journals clock ≡ journal_name journals other → clock ≡ other }
 {}
 
 /// Bytes are a log of one history, or they have one first faulty entry, and not both. So what `run` says of a log says which

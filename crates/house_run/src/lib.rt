@@ -1,17 +1,17 @@
 //! The top call: from the words of the command line to the text that is written.
 #![tactic(auto)]
 
-mod check;
+mod arguments;
+mod commands;
 mod delivery;
 pub mod ends;
 mod entries;
 mod files;
-mod fold;
+mod house;
+mod journals;
 pub mod laws;
 mod positionals;
 mod runs;
-#[cfg(test)]
-mod tests;
 mod texts;
 mod words;
 

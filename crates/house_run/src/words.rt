@@ -1,13 +1,18 @@
 //! Reading the words of the command line.
 ghost use Rattle.std.specs.Prelude.{◌≡◌, ◌<◌, ◌≤◌, ◌∷◌, ◌++◌, ◌⊎◌, ◌==◌, false, [], ℕ, List, codes, decimal, map, length, IfOk, IfErr, IfSome, IfNone, IsTrue, ◌↔◌, All, string_bytes};
 ghost use Rattle.std.specs.List.{list_all, slice_split, AllByRecursion};
-ghost use Rattle.house_run.specs.Words.{IsNoCommand, MayBeCommand, Spells, IsPlainWord, AreTermWords, comma_list, words_of};
+ghost use Rattle.house_run.specs.Words.{IsPlainWord, comma_list, words_of};
+ghost use Rattle.house_run.specs.Arguments.{AreArguments};
+ghost use Rattle.house_run.specs.Commands.{IsNoCommand, IsParted, Spells};
+ghost use Rattle.house_run.specs.Positionals.{texts};
+ghost use Rattle.house_run.specs.FoldCommand.{AreTermWords};
 ghost use Rattle.house_run.specs.CommandView.{command_as};
 ghost use Rattle.std.specs.Char.{is_ascii_digit};
 ghost use Rattle.house_run.specs.Numerals.{is_numeral};
 ghost use Rattle.lot_base.specs.Goods.{IsSupply};
 ghost use Rattle.lot_base.specs.declared.auction_terms.Terms.{Terms as TermsValue};
 
+use crate::arguments::Parted;
 use crate::positionals::{named_words, word_of};
 use lot_base::limits::{GREATEST_CEILING, LEAST_CEILING, MOST_BIDDERS, MOST_GOODS};
 use lot_base::{Goods, NoMemory, Terms};
@@ -17,38 +22,51 @@ use std::alloc::Global;
 #[derive(Clone, Copy)]
 pub(crate) enum CommandWords<'a> {
     /// One clock over a log.
-    Fold { terms: Terms, log: &'a str },
+    Fold {
+        terms: Terms,
+        log: &'a str,
+    },
     /// What an auction file says.
-    Check { auction: &'a str },
+    Check {
+        auction: &'a str,
+    },
+    /// How the clocks of an auction stand.
+    Standing {
+        auction: &'a str,
+        journals: &'a str,
+    },
+    /// What the clocks of an auction settle.
+    Settle {
+        auction: &'a str,
+        journals: &'a str,
+        json: bool,
+    },
 }
 
-/// The command that the words are, if they are one.
-pub(crate) fn read_words(
+/// The command that the parted words are, if they are one.
+pub(crate) fn read_words<'a>(
     alloc: Global,
-    words: &[String],
-) -> Result<Option<CommandWords<'_>>, NoMemory>
-    ensures some { IfOk result (λ o. IfSome o (λ command. Spells (command_as command) (words_of words.now))) }
-    ensures none { IfOk result (λ o. IfNone o (IsNoCommand (words_of words.now))) }
-    ensures memory { IfErr result (λ _. MayBeCommand (words_of words.now)) }
+    parted: &'a Parted,
+) -> Result<Option<CommandWords<'a>>, NoMemory>
+    requires { All (λ word. IsPlainWord word.now) parted.now.plain.items }
+    ensures some { IfOk result (λ o. IfSome o (λ command. (words : List (List ℕ)) → IsParted words parted.entry.now.name.now (texts parted.entry.now.plain.items) parted.entry.now.given → Spells (command_as command) words)) }
+    ensures none { IfOk result (λ o. IfNone o ((words : List (List ℕ)) → IsParted words parted.entry.now.name.now (texts parted.entry.now.plain.items) parted.entry.now.given → IsNoCommand words)) }
 {
-    let [name, behind @ ..] = words else {
-        return Ok(None);
-    };
-    if !are_plain(behind) {
-        return Ok(None);
-    }
-    match name.as_str() {
-        "fold" => read_fold(alloc, behind),
-        "check" => read_check(alloc, behind),
+    let plain = parted.plain.as_slice();
+    match parted.name {
+        "fold" => read_fold(alloc, plain),
+        "check" => read_check(alloc, plain),
+        "standing" => read_standing(alloc, plain),
+        "settle" => read_settle(alloc, plain, parted.given),
         _ => Ok(None),
     }
 }
 
 /// The command `fold` of the words behind its name.
-fn read_fold(alloc: Global, words: &[String]) -> Result<Option<CommandWords<'_>>, NoMemory>
-    requires { All (λ word. IsPlainWord (string_bytes word)) words.now }
-    ensures some { IfOk result (λ o. IfSome o (λ command. Spells (command_as command) (codes "fold" ∷ words_of words.now))) }
-    ensures none { IfOk result (λ o. IfNone o (IsNoCommand (codes "fold" ∷ words_of words.now))) }
+fn read_fold<'a>(alloc: Global, words: &'a [&'a str]) -> Result<Option<CommandWords<'a>>, NoMemory>
+    requires { All (λ word. IsPlainWord word.now) words.now }
+    ensures some { IfOk result (λ o. IfSome o (λ command. Spells (command_as command) (codes "fold" ∷ texts words.entry.now))) }
+    ensures none { IfOk result (λ o. IfNone o (IsNoCommand (codes "fold" ∷ texts words.entry.now))) }
 {
     let names = ["SUPPLY", "BIDDERS", "CEILING", "LOG"];
     let matches = match named_words(alloc, "fold", &names, words) {
@@ -69,10 +87,10 @@ fn read_fold(alloc: Global, words: &[String]) -> Result<Option<CommandWords<'_>>
 }
 
 /// The command `check` of the words behind its name.
-fn read_check(alloc: Global, words: &[String]) -> Result<Option<CommandWords<'_>>, NoMemory>
-    requires { All (λ word. IsPlainWord (string_bytes word)) words.now }
-    ensures some { IfOk result (λ o. IfSome o (λ command. Spells (command_as command) (codes "check" ∷ words_of words.now))) }
-    ensures none { IfOk result (λ o. IfNone o (IsNoCommand (codes "check" ∷ words_of words.now))) }
+fn read_check<'a>(alloc: Global, words: &'a [&'a str]) -> Result<Option<CommandWords<'a>>, NoMemory>
+    requires { All (λ word. IsPlainWord word.now) words.now }
+    ensures some { IfOk result (λ o. IfSome o (λ command. Spells (command_as command) (codes "check" ∷ texts words.entry.now))) }
+    ensures none { IfOk result (λ o. IfNone o (IsNoCommand (codes "check" ∷ texts words.entry.now))) }
 {
     match named_words(alloc, "check", &["AUCTION"], words) {
         Ok(Some(matches)) => Ok(Some(CommandWords::Check {
@@ -83,11 +101,44 @@ fn read_check(alloc: Global, words: &[String]) -> Result<Option<CommandWords<'_>
     }
 }
 
-/// Whether no word is empty and none begins as an option does.
-fn are_plain(words: &[String]) -> bool
-    ensures { IsTrue result ↔ All (λ word. IsPlainWord (string_bytes word)) words.now }
+/// The command `standing` of the words behind its name.
+fn read_standing<'a>(
+    alloc: Global,
+    words: &'a [&'a str],
+) -> Result<Option<CommandWords<'a>>, NoMemory>
+    requires { All (λ word. IsPlainWord word.now) words.now }
+    ensures some { IfOk result (λ o. IfSome o (λ command. Spells (command_as command) (codes "standing" ∷ texts words.entry.now))) }
+    ensures none { IfOk result (λ o. IfNone o (IsNoCommand (codes "standing" ∷ texts words.entry.now))) }
 {
-    words.iter().all(|word| is_plain(word.as_str()))
+    match named_words(alloc, "standing", &["AUCTION", "JOURNALS"], words) {
+        Ok(Some(matches)) => Ok(Some(CommandWords::Standing {
+            auction: word_of(&matches, "AUCTION"),
+            journals: word_of(&matches, "JOURNALS"),
+        })),
+        Ok(None) => Ok(None),
+        Err(NoMemory) => Err(NoMemory),
+    }
+}
+
+/// The command `settle` of the plain words behind its name, with `--json` among them or not.
+fn read_settle<'a>(
+    alloc: Global,
+    words: &'a [&'a str],
+    json: bool,
+) -> Result<Option<CommandWords<'a>>, NoMemory>
+    requires { All (λ word. IsPlainWord word.now) words.now }
+    ensures some { IfOk result (λ o. IfSome o (λ command. (behind : List (List ℕ)) → AreArguments (Some (codes "--json")) behind (texts words.entry.now) json → Spells (command_as command) (codes "settle" ∷ behind))) }
+    ensures none { IfOk result (λ o. IfNone o ((behind : List (List ℕ)) → AreArguments (Some (codes "--json")) behind (texts words.entry.now) json → IsNoCommand (codes "settle" ∷ behind))) }
+{
+    match named_words(alloc, "settle", &["AUCTION", "JOURNALS"], words) {
+        Ok(Some(matches)) => Ok(Some(CommandWords::Settle {
+            auction: word_of(&matches, "AUCTION"),
+            journals: word_of(&matches, "JOURNALS"),
+            json,
+        })),
+        Ok(None) => Ok(None),
+        Err(NoMemory) => Err(NoMemory),
+    }
 }
 
 /// The terms that these words give.
@@ -112,16 +163,6 @@ fn read_terms(
             }
         }
         _ => Ok(None),
-    }
-}
-
-/// Whether a word is not empty and does not begin as an option does.
-fn is_plain(word: &str) -> bool
-    ensures { IsTrue result ↔ IsPlainWord word.now }
-{
-    match word.as_bytes() {
-        [] => false,
-        [first, ..] => *first != b'-',
     }
 }
 

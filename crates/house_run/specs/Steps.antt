@@ -1,0 +1,101 @@
+-- What one step of a job does on the shelf. A job is a few of these in turn.
+use Rattle.std.specs.Prelude.{◌≡◌, ◌≤◌, ◌⊎◌, ⊤, ℕ, Bool, List, Some, None}
+use Rattle.house_io.specs.Shelves.{ChangesNone, RisesOnly, with_name}
+use Rattle.house_run.specs.Causes.{FailedAt, MayEnd, Tells}
+use Rattle.lot_base.specs.declared.auction_terms.Terms.{Terms}
+use Rattle.clock_book.specs.declared.faults.OpenFault.{OpenFault}
+use Rattle.clock_book.specs.declared.faults.OpenFault.TheVariants as why
+use Rattle.house_run.specs.Frame.{Frame, KeepsAll, RisesAmong}
+use Rattle.house_run.specs.Journals.{IsFirstRefused, IsRefusedJournal}
+use Rattle.house_run.specs.Needs.{Needs, IsJournal, first_journals, journal_name, with_names}
+use Rattle.house_run.specs.Seen.{Outside, ShelfSeen}
+use Rattle.clock.specs.Reports.{ClockHistory}
+use Rattle.settlement.specs.declared.outcome.Outcome.{Outcome}
+use Rattle.settlement.specs.declared.outcome.Settlement.TheVariants as settlement
+use Rattle.house_run.specs.Outcomes.{IsSettlement, text_of_outcome}
+use Rattle.house_run.specs.declared.ends.Ended.{Ended}
+use Rattle.house_run.specs.declared.ends.Ended.TheVariants as how
+
+-- no name was opened but this one
+abbrev pub OpensOnly : List ℕ → List (List ℕ) → List (List ℕ) → Type 0
+OpensOnly name before now = (now ≡ before) ⊎ (now ≡ with_name name before)
+
+-- no count rose
+abbrev pub IsSteady : ShelfSeen → Type 0
+IsSteady shelf = (name : List ℕ) → shelf.faults name ≡ shelf.faults_before name
+
+-- no file was changed, only that of this name was opened, and only calls on it failed
+pub record OnlyReads (name : List ℕ) (shelf : ShelfSeen) : Type 0 where
+  pub unchanged : ChangesNone shelf.files_before shelf.files
+  pub counts : RisesOnly name shelf.faults_before shelf.faults
+  pub names : OpensOnly name shelf.opened_before shelf.opened
+
+-- the end may come, and no fault rose that it does not tell
+pub record EndsSo (needs : Needs) (seen : Outside) (end : Ended) : Type 0 where
+  pub cause : MayEnd needs seen end
+  pub counts : RisesAmong (Tells needs end) seen.shelf.faults_before seen.shelf.faults
+
+-- an end that every command with this auction file may have
+abbrev pub EndsAtAuction : List ℕ → Outside → Ended → Type 0
+EndsAtAuction auction seen end = (needs : Needs) → needs.auction ≡ Some auction → EndsSo needs seen end
+
+-- the journal of this name was synced at most, only it was opened, and only calls on it failed
+pub record OnlySyncs (name : List ℕ) (shelf : ShelfSeen) : Type 0 where
+  pub files : KeepsAll (λ other. other ≡ name) shelf.files_before shelf.files
+  pub counts : RisesOnly name shelf.faults_before shelf.faults
+  pub names : OpensOnly name shelf.opened_before shelf.opened
+
+-- the journals of so many clocks were opened in order, and synced at most
+pub record SyncsFirst (journals : List ℕ) (clocks : ℕ) (shelf : ShelfSeen) : Type 0 where
+  pub files : KeepsAll (IsJournal journals) shelf.files_before shelf.files
+  pub names : shelf.opened ≡ with_names (first_journals journals clocks) shelf.opened_before
+
+pub record SyncsJournals (journals : List ℕ) (clocks : ℕ) (shelf : ShelfSeen) : Type 0 where
+  pub count : ℕ
+  pub few : count ≤ clocks
+  pub synced : SyncsFirst journals count shelf
+
+-- a call on the journal of this clock failed, and no other
+pub record FailsAtJournal (journals : List ℕ) (clock : ℕ) (shelf : ShelfSeen) : Type 0 where
+  pub failed : FailedAt shelf (journal_name journals clock)
+  pub counts : RisesAmong (λ name. name ≡ journal_name journals clock) shelf.faults_before shelf.faults
+
+-- why the journal of this name is not read
+abbrev pub IsUnread : ShelfSeen → Terms → List ℕ → List ℕ → ℕ → OpenFault → Type 0
+IsUnread shelf terms digest name clock why.DiskFault = FailedAt shelf name
+IsUnread shelf terms digest name clock why.NoMemory = IsSteady shelf
+IsUnread shelf terms digest name clock (why.Broken broken) = IsSteady shelf × IsRefusedJournal shelf.files terms digest name clock (why.Broken broken)
+IsUnread shelf terms digest name clock (why.NotAcceptable number judgement) = IsSteady shelf × IsRefusedJournal shelf.files terms digest name clock (why.NotAcceptable number judgement)
+
+-- why the journals are not all read, of which this clock's is the first that is not
+abbrev pub EndsAtJournal : ShelfSeen → Terms → List ℕ → List ℕ → ℕ → OpenFault → Type 0
+EndsAtJournal shelf terms digest journals clock why.DiskFault = FailsAtJournal journals clock shelf
+EndsAtJournal shelf terms digest journals clock why.NoMemory = IsSteady shelf
+EndsAtJournal shelf terms digest journals clock (why.Broken broken) = IsSteady shelf × IsFirstRefused shelf.files terms digest journals clock (why.Broken broken)
+EndsAtJournal shelf terms digest journals clock (why.NotAcceptable number judgement) = IsSteady shelf × IsFirstRefused shelf.files terms digest journals clock (why.NotAcceptable number judgement)
+
+-- every command with this auction file and these journals may end so, and leaves what it should
+pub record LeavesSo (needs : Needs) (seen : Outside) (end : Ended) : Type 0 where
+  pub cause : MayEnd needs seen end
+  pub frame : Frame needs end seen
+
+abbrev pub EndsAtJournals : List ℕ → List ℕ → Outside → Ended → Type 0
+EndsAtJournals auction journals seen end = (needs : Needs) → needs.auction ≡ Some auction → needs.log ≡ None → needs.journals ≡ Some journals → LeavesSo needs seen end
+
+-- whatever a command with this auction file and these journals ends with, it leaves what it should
+abbrev pub ReadsJournals : List ℕ → List ℕ → Outside → Type 0
+ReadsJournals auction journals seen = (needs : Needs) (end : Ended) → needs.auction ≡ Some auction → needs.log ≡ None → needs.journals ≡ Some journals → Frame needs end seen
+
+-- the text of the outcome that the histories settle with
+pub record IsSettledText (terms : Terms) (histories : List ClockHistory) (json : Bool) (text : List ℕ) : Type 0 where
+  pub outcome : Outcome
+  pub settlement : IsSettlement terms histories (settlement.Settled outcome)
+  pub text_is : text ≡ text_of_outcome json outcome
+
+-- the end of a command by what the histories settle, where it has no outcome
+abbrev pub IsSettledEnd : Terms → List ClockHistory → Ended → Type 0
+IsSettledEnd terms histories how.NoMemory = ⊤
+IsSettledEnd terms histories (how.Open clock round missing) = IsSettlement terms histories (settlement.Open clock round missing)
+IsSettledEnd terms histories (how.NoAward clock) = IsSettlement terms histories (settlement.NoAward clock)
+IsSettledEnd terms histories (how.Halted clock good) = IsSettlement terms histories (settlement.Halted clock good)
+IsSettledEnd terms histories end = ⊥

@@ -1,0 +1,27 @@
+//! The command `check`: what an auction file says.
+ghost use Rattle.house_run.specs.Commands.{Check};
+ghost use Rattle.house_run.specs.CheckCommand.{check_needs};
+ghost use Rattle.house_run.specs.Ends.{JobAnswer, end_of};
+ghost use Rattle.house_run.specs.Frame.{Frame};
+ghost use Rattle.house_run.specs.Seen.{outside};
+
+use crate::ends::Ended;
+use crate::files::read_auction;
+use crate::texts::check_text;
+use house_io::Shelf;
+use std::alloc::Global;
+
+/// The text of the auction that a file says, or why there is none.
+pub(crate) fn job<H: Shelf>(alloc: Global, auction: &str, shelf: &mut H) -> Result<Vec<u8>, Ended>
+    ensures answer { JobAnswer (Check auction.now) (outside H.files H.faults H.opened shelf.old shelf.new) result }
+    ensures frame { Frame (check_needs auction.now) (end_of result) (outside H.files H.faults H.opened shelf.old shelf.new) }
+{
+    let auction = match read_auction(alloc, shelf, auction) {
+        Ok(auction) => auction,
+        Err(ended) => return Err(ended),
+    };
+    match check_text(alloc, &auction) {
+        Ok(text) => Ok(text),
+        Err(_) => Err(Ended::NoMemory),
+    }
+}

@@ -1,0 +1,5 @@
+//! What no clause of house_run says: how runs end where there is memory, on files that were written by hand.
+#![tactic(auto)]
+
+#[cfg(test)]
+mod tests;
