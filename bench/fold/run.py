@@ -1,9 +1,8 @@
 #!/usr/bin/env python3
-"""Measures `fold` on legal logs of 8, 16, 32 and 64 MiB, and sees that one byte above the limit is too long.
+"""Measures `fold` on five legal logs beside the same work in plain Rust (reference.rs), in processor time, and its peak memory.
 
-The program is proved and built where it stands, by `rt run`. Two kinds of log are made. One has few rounds of long
-reports: one good, twelve bidders, about 2,000 bundles a report. The other has as many rounds as a log of the limit can
-hold: six goods, twelve bidders, seven bundles a report. Give --no-build to measure the program that was built before.
+The program is proved and built where it stands, by `rt run`; give --no-build to measure the program that was built before. The
+reference is built by rustc. Of each the least of five runs is taken, in turns, so that both meet the same machine.
 """
 import os
 import subprocess
@@ -11,66 +10,89 @@ import sys
 import tempfile
 from pathlib import Path
 
-LIMIT = 67_108_864
 BIDDERS = 12
-CRATE = Path(__file__).resolve().parents[2] / "crates" / "house_main"
+CEILING = 10_000
+MEGABYTE = 1_000_000
+HERE = Path(__file__).resolve().parent
+CRATE = HERE.parents[1] / "crates" / "house_main"
 PROGRAM = CRATE / "out" / "house_main"
 
 
 def entry(bidder, round_number, bundles):
     """An entry of a log: its length, then the report."""
-    report = bytes([bidder]) + round_number.to_bytes(4, "big") + bytes([len(bundles[0])])
+    goods = len(bundles[0])
+    report = bytes([bidder]) + round_number.to_bytes(4, "big") + bytes([goods])
     report += len(bundles).to_bytes(2, "big")
     report += b"".join(quantity.to_bytes(2, "big") for bundle in bundles for quantity in bundle)
     return len(report).to_bytes(4, "big") + report
 
 
-def long_reports(size):
-    """One good, supply 2,047. In each round the least quantities add up to 2,048: one more than there are."""
-    whole = [[units] for units in range(2048)]
+def rounds(size, supply, demands):
+    """Full rounds of a clock that goes on: in each one every bidder reports its demand of that round, until the log is full."""
+    log = bytearray()
+    round_number = 0
+    while round_number < CEILING * len(supply):
+        round_number += 1
+        reports = [entry(bidder, round_number, demand) for bidder, demand in enumerate(demands(round_number), 1)]
+        if len(log) + sum(map(len, reports)) > size:
+            break
+        for report in reports:
+            log += report
+    return bytes(log)
+
+
+def box(supply):
+    """All bundles within the supply, ascending."""
+    bundles = [[]]
+    for units in supply:
+        bundles = [bundle + [quantity] for bundle in bundles for quantity in range(units + 1)]
+    return bundles
+
+
+def good_of(round_number):
+    """The good whose price rises: good 0 up to the ceiling, then good 1, and so on."""
+    return (round_number - 1) // CEILING
+
+
+def having_all(supply, most):
+    """For each good the first bundles that have all of its units."""
+    return [[bundle for bundle in box(supply) if bundle[good] == supply[good]][:most] for good in range(len(supply))]
+
+
+def logs():
+    """The logs by name: their supply, and their bytes."""
+    six = [1] * 6
+    one = having_all(six, 1)
+    seven = having_all(six, 7)
+    yield "small, 6 goods, 1 bundle", six, rounds(17 * MEGABYTE, six, lambda r: [one[good_of(r)]] * BIDDERS)
+    yield "many, 6 goods, 7 bundles", six, rounds(67 * MEGABYTE, six, lambda r: [seven[good_of(r)]] * BIDDERS)
+    three = [9, 9, 9]
+    mid = having_all(three, 28)
+    yield "mid, 3 goods, 28 bundles", three, rounds(65 * MEGABYTE, three, lambda r: [mid[good_of(r)]] * BIDDERS)
+    wide = [3, 3, 3, 3, 3, 1]
+    wanted = [bundle for bundle in box(wide) if bundle[0] >= 1]
+    big = wanted[: 1_500]
+    yield "big, 6 goods, 1,500 bundles", wide, rounds(67 * MEGABYTE, wide, lambda r: [big] * BIDDERS)
+    whole = box([2047])
     demands = [whole[2047:], whole[1:]] + [whole] * (BIDDERS - 2)
-    log = bytearray()
-    round_number = 0
-    while True:
-        round_number += 1
-        for bidder, demand in enumerate(demands, 1):
-            room = (size - len(log) - 12) // 2
-            if room < len(demand):
-                # The last report is cut to what is left; its round is not full.
-                log += entry(bidder, round_number, demand[:room]) if room > 0 else b""
-                return bytes(log)
-            log += entry(bidder, round_number, demand)
+    yield "long, 1 good, 2,000 bundles", [2047], rounds(67 * MEGABYTE, [2047], lambda r: demands)
 
 
-def many_rounds(size):
-    """Six goods, supply 1. Every bidder must have good 0 until its price is the ceiling, then good 1, and so on."""
-    log = bytearray()
-    round_number = 0
-    while True:
-        round_number += 1
-        good = (round_number - 1) // 10_000
-        wanted = [[(x >> (5 - k)) & 1 for k in range(6)] for x in range(64)]
-        bundles = [bundle for bundle in wanted if bundle[good] == 1]
-        bundles = [bundle for bundle in bundles if sum(bundle) <= 2 or bundle == [1] * 6][:7]
-        report = entry(1, round_number, bundles)
-        if len(log) + BIDDERS * len(report) > size:
-            return bytes(log)
-        for bidder in range(1, BIDDERS + 1):
-            log += report[:4] + bytes([bidder]) + report[5:]
-
-
-def fold(folder, supply, log):
-    """The status, the text, the seconds and the peak memory in MiB of a run over a log."""
-    (folder / "log").write_bytes(log)
-    words = ["fold", supply, str(BIDDERS), "10000", "log"]
-    timed = ["/usr/bin/time", "-f", "%e %M", "-o", "figures", str(PROGRAM), *words]
-    best = None
-    for _ in range(3):
-        done = subprocess.run(timed, cwd=folder, capture_output=True, text=True, check=False)
-        seconds, kilobytes = (folder / "figures").read_text().split()[-2:]
-        if best is None or float(seconds) < best[2]:
-            best = (done.returncode, done.stdout.strip(), float(seconds), int(kilobytes) / 1024)
-    return best
+def run(program, folder, supply):
+    """The text, the processor seconds and the peak memory in MiB of one run."""
+    words = [str(program), "fold"] if program == PROGRAM else [str(program)]
+    words += [",".join(map(str, supply)), str(BIDDERS), str(CEILING), "log"]
+    reader, writer = os.pipe()
+    child = os.fork()
+    if child == 0:
+        os.chdir(folder)
+        os.dup2(writer, 1)
+        os.execv(words[0], words)
+    os.close(writer)
+    with os.fdopen(reader) as output:
+        text = output.read().strip()
+    _, _, used = os.wait4(child, 0)
+    return text, used.ru_utime + used.ru_stime, used.ru_maxrss / 1024
 
 
 def main():
@@ -79,22 +101,25 @@ def main():
         subprocess.run(build, cwd=CRATE, check=True, capture_output=True)
     with tempfile.TemporaryDirectory() as name:
         folder = Path(name)
-        for kind, supply, make in [
-            ("few rounds of long reports", "2047", long_reports),
-            ("many rounds of short reports", "1,1,1,1,1,1", many_rounds),
-        ]:
-            print(kind)
-            for size in [LIMIT // 8, LIMIT // 4, LIMIT // 2, LIMIT]:
-                log = make(size)
-                status, text, seconds, memory = fold(folder, supply, log)
-                speed = len(log) / 1e6 / seconds if seconds else float("inf")
-                print(
-                    f"  {len(log):>10,} bytes  {seconds:6.2f} s  {speed:6.1f} MB/s  {memory:6.1f} MiB"
-                    f"  status {status}  {text}"
-                )
-        status, text, seconds, memory = fold(folder, "2047", long_reports(LIMIT) + b"\0")
-        print(f"one byte above the limit\n  {seconds:.2f} s  {memory:.1f} MiB  status {status}  {text}")
-        os.remove(folder / "log")
+        reference = folder / "reference"
+        plain = ["rustc", "-O", "--edition", "2021", "-o", str(reference), str(HERE / "reference.rs")]
+        subprocess.run(plain, check=True)
+        print(f"{'log':30} {'MB':>4} {'fold MB/s':>10} {'plain MB/s':>10} {'times':>6} {'MiB':>6} {'plain MiB':>9}")
+        for title, supply, log in logs():
+            (folder / "log").write_bytes(log)
+            best = {PROGRAM: (1e9, 0), reference: (1e9, 0)}
+            texts = set()
+            for _ in range(5):
+                for program in best:
+                    text, seconds, memory = run(program, folder, supply)
+                    texts.add(text)
+                    best[program] = min(best[program], (seconds, memory))
+            size = len(log) / MEGABYTE
+            ours, plain_one = best[PROGRAM], best[reference]
+            print(
+                f"{title:30} {size:4.0f} {size / ours[0]:10.0f} {size / plain_one[0]:10.0f} {ours[0] / plain_one[0]:6.1f}"
+                f" {ours[1]:6.0f} {plain_one[1]:9.0f}  {texts.pop() if len(texts) == 1 else 'TEXTS DIFFER'}"
+            )
 
 
 if __name__ == "__main__":

@@ -1,0 +1,116 @@
+#!/usr/bin/env python3
+"""Measures `settle` over the 13 journals of an auction of twelve bidders, 64 MiB in all, beside a checksum of the same bytes.
+
+In each round every member reports the same demand, which drives one price up; in the last one the first member wants all there is and the others
+nothing, so each clock ends and clears. The program is proved and built where it stands, by `rt run`; give --no-build to measure
+the program that was built before.
+"""
+import hashlib
+import os
+import struct
+import subprocess
+import sys
+import tempfile
+from pathlib import Path
+
+BIDDERS = 12
+CEILING = 10_000
+TOTAL = 67_108_864
+CRATE = Path(__file__).resolve().parents[2] / "crates" / "house_main"
+PROGRAM = CRATE / "out" / "house_main"
+
+
+def auction(supply):
+    """An auction file of version 1."""
+    goods = "".join(f'[[goods]]\nname = "good {good}"\nsupply = {units}\n' for good, units in enumerate(supply))
+    bidders = "".join(
+        f'[[bidders]]\nname = "bidder {bidder}"\ntoken = "{hashlib.sha256(bytes([bidder])).hexdigest()}"\n'
+        for bidder in range(1, BIDDERS + 1)
+    )
+    return f"version = 1\nceiling = {CEILING}\n{goods}{bidders}".encode()
+
+
+def box(supply):
+    """All bundles within the supply, ascending."""
+    bundles = [[]]
+    for units in supply:
+        bundles = [bundle + [quantity] for bundle in bundles for quantity in range(units + 1)]
+    return bundles
+
+
+def record(bidder, round_number, bundles):
+    """An open gate, the length of an entry, and the entry."""
+    quantities = [quantity for bundle in bundles for quantity in bundle]
+    entry = struct.pack(f">BIBH{len(quantities)}H", bidder, round_number, len(bundles[0]), len(bundles), *quantities)
+    return b"\xa5" + struct.pack(">I", len(entry)) + entry
+
+
+def journal(clock, digest, supply, most, size):
+    """The journal of a clock with so many bytes at most: rounds in which some price rises, and the last one."""
+    members = [bidder for bidder in range(1, BIDDERS + 1) if bidder != clock]
+    wanted = [[bundle for bundle in box(supply) if bundle[good] == supply[good]][:most] for good in range(len(supply))]
+    file = bytearray(b"\xa5AHJ1" + struct.pack(">I", clock) + digest)
+    last = 2 * len(record(1, 1, [supply])) * BIDDERS
+    round_number = 0
+    while round_number < CEILING * len(supply):
+        demand = wanted[round_number // CEILING]
+        full = [record(bidder, round_number + 1, demand) for bidder in members]
+        if len(file) + sum(map(len, full)) + last > size:
+            break
+        round_number += 1
+        file += b"".join(full)
+    for bidder in members:
+        file += record(bidder, round_number + 1, [supply if bidder == members[0] else [0] * len(supply)])
+    return bytes(file) + b"\0"
+
+
+def used(words, folder):
+    """The processor seconds, the peak memory in MiB and the first line of a run."""
+    reader, writer = os.pipe()
+    child = os.fork()
+    if child == 0:
+        os.chdir(folder)
+        os.dup2(writer, 1)
+        os.execvp(words[0], words)
+    os.close(writer)
+    with os.fdopen(reader) as output:
+        text = output.read()
+    _, status, usage = os.wait4(child, 0)
+    first = text.split("\n")[0] if status == 0 else f"status {os.waitstatus_to_exitcode(status)}: {text.strip()}"
+    return usage.ru_utime + usage.ru_stime, usage.ru_maxrss / 1024, first
+
+
+def main():
+    if "--no-build" not in sys.argv:
+        build = ["rt", "run", "--", "fold", "1", "2", "5", "data/two-bidders.log"]
+        subprocess.run(build, cwd=CRATE, check=True, capture_output=True)
+    print(f"{'records':28} {'MB':>4} {'settle MB/s':>11} {'cksum MB/s':>12} {'MiB':>6}")
+    for title, supply, most in [
+        ("1 good, 1 bundle", [2], 1),
+        ("6 goods, 1 bundle", [1] * 6, 1),
+        ("6 goods, 7 bundles", [1] * 6, 7),
+        ("3 goods, 28 bundles", [9, 9, 9], 28),
+        ("6 goods, 1,500 bundles", [1, 3, 3, 3, 3, 3], 1_500),
+    ]:
+        with tempfile.TemporaryDirectory() as name:
+            folder = Path(name)
+            text = auction(supply)
+            (folder / "auction.toml").write_bytes(text)
+            digest = hashlib.sha256(text).digest()
+            size = 0
+            names = []
+            for clock in range(BIDDERS + 1):
+                file = journal(clock, digest, supply, most, TOTAL // (BIDDERS + 1))
+                names.append(f"clock-{clock:02}.ahj")
+                (folder / names[-1]).write_bytes(file)
+                size += len(file)
+            runs = [used([str(PROGRAM), "settle", "auction.toml", "."], folder) for _ in range(3)]
+            reads = [used(["cksum", *names], folder) for _ in range(3)]
+            seconds, memory, first = min(runs)
+            print(
+                f"{title:28} {size / 1e6:4.0f} {size / 1e6 / seconds:11.0f} {size / 1e6 / min(reads)[0]:12.0f} {memory:6.0f}  {first}"
+            )
+
+
+if __name__ == "__main__":
+    main()
