@@ -1,0 +1,8 @@
+pub mod Capping
+pub mod Carried
+pub mod Forms
+pub mod Seen
+pub mod Strides
+pub mod Tree
+pub mod Values
+pub mod ValuesFile

@@ -1,0 +1,58 @@
+//! What the bundles of a box cost.
+ghost use Rattle.std.specs.Prelude.{◌≡◌, ◌≤◌, ◌+◌, ◌*◌, ◌^◌, ℕ, length, slice_index, IfOk, OnOk};
+ghost use Rattle.valuation.specs.Carried.{AreCosts, IsSpread};
+
+use lot_base::{Goods, NoMemory};
+use std::alloc::Global;
+
+/// What each bundle of the goods costs at the prices, in order of index. A price that is not there is 0.
+pub(crate) fn costs_at(alloc: Global, goods: &Goods, prices: &[u32]) -> Result<Vec<u64>, NoMemory>
+    ensures { IfOk result (λ costs. AreCosts goods.now prices.now costs.items) }
+{
+    let mut costs = match Vec::with_capacity(alloc, goods.box_size() as usize) {
+        Ok(costs) => costs,
+        Err(_) => return Err(NoMemory),
+    };
+    match costs.push(0u64) {
+        Ok(()) => {}
+        Err(_) => return Err(NoMemory),
+    }
+    for step in 0..goods.count() {
+        let good = goods.count() - 1 - step;
+        match spread(&mut costs, goods.supply(good), price_at(prices, good)) {
+            Ok(()) => {}
+            Err(NoMemory) => return Err(NoMemory),
+        }
+    }
+    Ok(costs)
+}
+
+/// The price of a good, 0 where there is none.
+fn price_at(prices: &[u32], good: u8) -> u32
+    ensures { result ≡ slice_index prices.now good }
+{
+    let place = good as usize;
+    if place < prices.len() {
+        prices[place]
+    } else {
+        0
+    }
+}
+
+/// Adds the costs of the same bundles with 1 to so many units of one good more in front of them.
+fn spread(costs: &mut Vec<u64>, units: u16, price: u32) -> Result<(), NoMemory>
+    requires some { 1 ≤ length costs.old.items }
+    requires few { (units + 1) * length costs.old.items ≤ 2048 }
+    requires small { (i : ℕ) → slice_index costs.old.items i ≤ 2 ^ 50 }
+    ensures { OnOk result (IsSpread units price costs.old.items costs.new.items) }
+{
+    let size = costs.len();
+    for place in size..size * (units as usize + 1) {
+        let cost = costs[place - size] + price as u64;
+        match costs.push(cost) {
+            Ok(()) => {}
+            Err(_) => return Err(NoMemory),
+        }
+    }
+    Ok(())
+}

@@ -1,0 +1,109 @@
+//! Why a valuation file is refused, and where.
+
+ghost use Rattle.std.specs.Prelude.{◌≡◌};
+ghost use Rattle.valuation.specs.declared.faults.ValuesFault.TheVariants.{NoMemory};
+
+use std::alloc::{AllocError, AllocFailed};
+use std::fmt;
+use std::marker::Model;
+
+/// A key of a valuation file, or a table of its array. Bidders are counted from 1.
+#[derive(Clone, Copy, Debug, PartialEq, Eq)]
+pub enum ValueKey {
+    Valuations,
+    Table(u32),
+    Form(u32),
+    Values(u32),
+    Lists(u32),
+    Cap(u32),
+}
+
+/// A key as it stands in the file, seen as the list of its bytes.
+#[derive(Drop)]
+pub struct KeyText {
+    text: String,
+}
+
+impl Model for KeyText {
+    ghost use Rattle.std.specs.Prelude.{ℕ, List, string_bytes};
+
+    ghost Value = { List ℕ };
+
+    ghost view = { λ key. string_bytes key.text };
+}
+
+impl KeyText {
+    ghost use Rattle.std.specs.Prelude.{◌≡◌, string_bytes};
+
+    /// The key of this text.
+    pub fn new(text: String) -> KeyText
+        ensures { result ≡ string_bytes text }
+    {
+        KeyText { text }
+    }
+
+    /// The text of the key.
+    pub fn as_str(&self) -> &str
+        ensures { result.now ≡ self.now }
+    {
+        self.text.as_str()
+    }
+}
+
+impl fmt::Debug for KeyText {
+    fn fmt<W: fmt::Write>(&self, f: &mut fmt::Formatter<W>) -> fmt::Result {
+        fmt::Debug::fmt(self.as_str(), f)
+    }
+}
+
+/// Why a valuation file is refused: the first fault in the order of the format.
+#[derive(Debug, Drop)]
+pub enum ValuesFault {
+    /// The bytes are no TOML document.
+    NotToml,
+    /// The key is not there.
+    Missing(ValueKey),
+    /// The value is of another kind than the format asks for.
+    WrongKind(ValueKey),
+    /// The entry at this place is not 0 to the ceiling less 1; or, where the place is the number of goods, the cap is not 0 to
+    /// 65,535.
+    Value { bidder: u8, place: u32 },
+    /// A list has so many entries, or there are so many lists, and not as many as are needed.
+    Length { bidder: u8, found: u64, needed: u32 },
+    /// The table of this bidder gives the empty bundle a value.
+    EmptyNotZero(u8),
+    /// The bundle at this index, the first such one, is worth more than the ceiling less 1.
+    Above { bidder: u8, index: u32 },
+    /// There are so many valuations, and not one for each bidder.
+    Bidders(u64),
+    /// The least key, in byte order, that the format does not know in its table.
+    UnknownKey(KeyText),
+    /// The form of this bidder is none of the four.
+    Form(u8),
+    /// Out of memory.
+    NoMemory,
+}
+
+impl From<AllocError> for ValuesFault {
+    ghost from_gives = { λ _ fault. fault ≡ NoMemory };
+
+    fn from(_error: AllocError) -> ValuesFault {
+        ValuesFault::NoMemory
+    }
+}
+
+impl<T: Drop> From<AllocFailed<T>> for ValuesFault {
+    ghost from_gives = { λ _ fault. fault ≡ NoMemory };
+
+    fn from(_failed: AllocFailed<T>) -> ValuesFault {
+        ValuesFault::NoMemory
+    }
+}
+
+impl From<lot_base::NoMemory> for ValuesFault {
+    ghost from_gives = { λ _ fault. fault ≡ NoMemory };
+
+    fn from(_none: lot_base::NoMemory) -> ValuesFault {
+        ValuesFault::NoMemory
+    }
+}

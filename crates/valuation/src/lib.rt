@@ -1,0 +1,20 @@
+//! What bundles are worth to bidders, and what bidders with these values demand.
+#![tactic(auto)]
+
+pub mod columns;
+mod costs;
+mod document;
+pub mod faults;
+mod forms;
+pub mod layout;
+mod numbers;
+pub mod reader;
+pub mod surpluses;
+pub mod values;
+
+pub use columns::{Column, column_of};
+pub use faults::{KeyText, ValueKey, ValuesFault};
+pub use layout::{strides, supply_of};
+pub use reader::{MOST_BYTES, read};
+pub use surpluses::Surplus;
+pub use values::{Valuation, value_at};

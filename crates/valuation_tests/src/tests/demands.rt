@@ -1,0 +1,81 @@
+//! Values, demands and surpluses of one bidder.
+use super::*;
+use lot_base::{GoodSet, NoMemory};
+
+/// The valuation of a bidder who wants one unit, at best for 7 of good 1 and else for 5 of good 0.
+fn bidder(rt: &(impl AllocGlobal + Abort)) -> Valuation {
+    let text = "[[valuations]]\nform = \"unit\"\nvalues = [5, 7]\n";
+    match read(rt.alloc(), &terms(rt, 1), text.as_bytes()) {
+        Ok(mut valuations) => match valuations.pop() {
+            Some(valuation) => valuation,
+            None => panic!(rt; "no valuation"),
+        },
+        Err(fault) => panic!(rt; "{fault:?}"),
+    }
+}
+
+/// These prices.
+fn prices(rt: &impl Abort, prices: &[u32]) -> Prices {
+    match Prices::read(prices) {
+        Some(prices) => prices,
+        None => panic!(rt; "prices"),
+    }
+}
+
+/// Whether the demand at the prices has these quantities.
+fn demands(
+    rt: &(impl AllocGlobal + Abort),
+    at: &[u32],
+    quantities: &[u16],
+) -> Result<bool, NoMemory> {
+    let demand = bidder(rt).demand(rt.alloc(), &goods(rt), &prices(rt, at))?;
+    Ok(demand.quantities() == quantities)
+}
+
+/// For how many steps on good 1 the demand at price 0 stays the same, and the demand after so many.
+fn after_steps(
+    rt: &(impl AllocGlobal + Abort),
+    times: u32,
+    quantities: &[u16],
+) -> Result<(u32, bool), NoMemory> {
+    let goods = goods(rt);
+    let mut surplus = Surplus::new(rt.alloc(), &goods, &bidder(rt), &Prices::zero(&goods))?;
+    let set = GoodSet(2);
+    let column = column_of(rt.alloc(), &goods, set)?;
+    let steady = surplus.steady(set, &column);
+    surplus.step(set, &column, times);
+    let demand = surplus.demand(rt.alloc())?;
+    Ok((steady, demand.quantities() == quantities))
+}
+
+/// The value of the bundle at an index.
+fn value(rt: &(impl AllocGlobal + Abort), index: u32) -> i64 {
+    let goods = goods(rt);
+    assert!(rt; index < goods.box_size());
+    bidder(rt).value(&goods, &goods.bundle(index))
+}
+
+#[test]
+fn values_are_those_of_the_file(rt: HostRuntime) {
+    assert_eq!(&rt; value(&rt, 0), 0);
+    assert_eq!(&rt; value(&rt, 2), 5);
+    assert_eq!(&rt; value(&rt, 5), 7);
+}
+
+#[test]
+fn demands_are_the_best_bundles(rt: HostRuntime) {
+    assert_eq!(&rt; demands(&rt, &[3, 4], &[0, 1]), Ok(true));
+    assert_eq!(&rt; demands(&rt, &[5, 7], &[0, 0, 0, 1, 1, 0]), Ok(true));
+    assert_eq!(&rt; demands(&rt, &[0, 7], &[1, 0, 2, 0]), Ok(true));
+    assert_eq!(&rt; demands(&rt, &[4294967295, 4294967295], &[0, 0]), Ok(true));
+}
+
+#[test]
+fn surpluses_are_carried_along(rt: HostRuntime) {
+    assert_eq!(&rt; after_steps(&rt, 0, &[0, 1, 1, 1, 2, 1]), Ok((1, true)));
+    assert_eq!(&rt;
+        after_steps(&rt, 2, &[0, 1, 1, 0, 1, 1, 2, 0, 2, 1]),
+        Ok((1, true))
+    );
+    assert_eq!(&rt; after_steps(&rt, 3, &[1, 0, 2, 0]), Ok((1, true)));
+}
