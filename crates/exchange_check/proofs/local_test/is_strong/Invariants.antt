@@ -1,0 +1,8 @@
+use Rattle.std.proofs.Common.{◌<◌, ℕ}
+use Rattle.exchange_check.proofs.local_test.is_strong.Given as goal
+use Rattle.lot_base.specs.Box.{bundle_at}
+use Rattle.valuation.specs.Values.{valuation_of}
+use Rattle.exchange_check.specs.Local.{IsLocalAt}
+
+abbrev pub invariant-loop-index : goal.invariant-loop-index
+invariant-loop-index l = (m : ℕ) → m < l.index → IsLocalAt l.supply (valuation_of l.supply l.values) (bundle_at l.supply m)

@@ -1,0 +1,9 @@
+use Rattle.std.proofs.Common.{◌<◌, ℕ}
+use Rattle.exchange_check.proofs.scan.is_exchanged.Given as goal
+use Rattle.lot_base.specs.Box.{bundle_at}
+use Rattle.valuation.specs.Values.{valuation_of}
+use Rattle.exchange_check.specs.Exchange.{IsExchangedFor}
+
+abbrev pub invariant-loop-other : goal.invariant-loop-other
+invariant-loop-other l =
+    (m : ℕ) → m < l.other → IsExchangedFor (valuation_of l.supply l.values) (bundle_at l.supply l.x) (bundle_at l.supply l.y) l.good m → ⊥

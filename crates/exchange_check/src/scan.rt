@@ -1,0 +1,118 @@
+//! The first triple that breaks the exchange property, by its definition.
+ghost use Rattle.std.specs.Prelude.{◌↔◌, ◌≡◌, ◌<◌, ◌≤◌, ◌+◌, ℕ, IsTrue, length, IfSome, IfNone};
+ghost use Rattle.lot_base.specs.Goods.{at, box_size};
+ghost use Rattle.lot_base.specs.Box.{bundle_at};
+ghost use Rattle.lot_base.specs.Economy.{IsStrongSubstitutes};
+ghost use Rattle.valuation.specs.Values.{valuation_of};
+ghost use Rattle.valuation.specs.Strides.{AreStrides};
+ghost use Rattle.exchange_check.specs.Exchange.{IsExchangedFor, IsExchanged};
+ghost use Rattle.exchange_check.specs.Local.{AreFree, IsFirstPlace};
+
+use crate::local_test::{free_units, is_no_worse};
+use valuation::strides;
+
+/// The places of two bundles, and a good of which no unit goes from the first to the second.
+#[derive(Clone, Copy, Debug)]
+pub(crate) struct Triple {
+    pub(crate) x: u32,
+    pub(crate) y: u32,
+    pub(crate) good: u8,
+}
+
+/// Whether a unit of a good goes from the bundle at x to the one at y against one of another at no loss.
+fn goes_for(
+    supply: &[u16],
+    strides: &[usize; 6],
+    values: &[u16],
+    x: usize,
+    y: usize,
+    free_x: &[u16; 6],
+    free_y: &[u16; 6],
+    good: usize,
+    other: usize,
+) -> bool
+    requires goods { length supply.now ≤ 6 }
+    requires size { box_size supply.now ≤ 2048 }
+    requires x { x < box_size supply.now }
+    requires y { y < box_size supply.now }
+    requires strides { AreStrides supply.now strides.now }
+    requires free_x { AreFree supply.now x free_x.now }
+    requires free_y { AreFree supply.now y free_y.now }
+    requires good { good < length supply.now }
+    requires more { at (bundle_at supply.now y) good < at (bundle_at supply.now x) good }
+    requires other { other < length supply.now }
+    ensures { IsTrue result ↔ IsExchangedFor (valuation_of supply.now values.now) (bundle_at supply.now x) (bundle_at supply.now y) good other }
+{
+    if free_x[other] <= free_y[other] {
+        return false;
+    }
+    let less = x - strides[good] + strides[other];
+    let more = y + strides[good] - strides[other];
+    is_no_worse(values, x, y, less, more)
+}
+
+/// Whether a unit of a good goes from the bundle at x to the one at y at no loss.
+fn is_exchanged(
+    supply: &[u16],
+    strides: &[usize; 6],
+    values: &[u16],
+    x: usize,
+    y: usize,
+    free_x: &[u16; 6],
+    free_y: &[u16; 6],
+    good: usize,
+) -> bool
+    requires goods { length supply.now ≤ 6 }
+    requires size { box_size supply.now ≤ 2048 }
+    requires x { x < box_size supply.now }
+    requires y { y < box_size supply.now }
+    requires strides { AreStrides supply.now strides.now }
+    requires free_x { AreFree supply.now x free_x.now }
+    requires free_y { AreFree supply.now y free_y.now }
+    requires good { good < length supply.now }
+    ensures { IsTrue result ↔ IsExchanged (valuation_of supply.now values.now) (bundle_at supply.now x) (bundle_at supply.now y) good }
+{
+    if free_y[good] <= free_x[good] {
+        return true;
+    }
+    let less = x - strides[good];
+    let more = y + strides[good];
+    if is_no_worse(values, x, y, less, more) {
+        return true;
+    }
+    for other in 0..supply.len() {
+        if goes_for(supply, strides, values, x, y, free_x, free_y, good, other) {
+            return true;
+        }
+    }
+    false
+}
+
+/// The first triple that is not exchanged.
+pub(crate) fn first_broken(supply: &[u16], size: u32, values: &[u16]) -> Option<Triple>
+    requires goods { length supply.now ≤ 6 }
+    requires size { box_size supply.now ≡ size }
+    requires few { size ≤ 2048 }
+    ensures some { IfSome result (λ b. IsFirstPlace supply.now (valuation_of supply.now values.now) b.x b.y b.good) }
+    ensures none { IfNone result (IsStrongSubstitutes supply.now (valuation_of supply.now values.now)) }
+{
+    let strides = strides(supply);
+    for x in 0..size {
+        let free_x = free_units(supply, &strides, x as usize);
+        for y in 0..size {
+            let free_y = free_units(supply, &strides, y as usize);
+            for good in 0..supply.len() {
+                if !is_exchanged(
+                    supply, &strides, values, x as usize, y as usize, &free_x, &free_y, good,
+                ) {
+                    return Some(Triple {
+                        x,
+                        y,
+                        good: good as u8,
+                    });
+                }
+            }
+        }
+    }
+    None
+}

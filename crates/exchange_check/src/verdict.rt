@@ -1,0 +1,38 @@
+//! The exchange check.
+ghost use Rattle.valuation.specs.Values.{valuation_of};
+ghost use Rattle.exchange_check.specs.Verdicts.{IsRight};
+
+use crate::local_test::is_strong;
+use crate::scan::first_broken;
+use lot_base::{Bundle, Goods};
+use valuation::{Valuation, supply_of};
+
+/// What the exchange check finds.
+#[derive(Clone, Copy, Debug)]
+pub enum Verdict {
+    /// The goods are strong substitutes at the valuation.
+    Holds,
+    /// The first triple that breaks the exchange property, by index of `x`, index of `y`, and good: no unit of the good can go from
+    /// `x` to `y`, alone or against a unit of another good, without loss.
+    Breaks { x: Bundle, y: Bundle, good: u8 },
+}
+
+/// Whether the goods are strong substitutes at the valuation. Takes no memory.
+pub fn check(goods: &Goods, valuation: &Valuation) -> Verdict
+    ensures { IsRight goods.now (valuation_of goods.now valuation.now) result }
+{
+    let units = supply_of(goods);
+    let supply = units.as_slice();
+    let values = valuation.as_slice();
+    if is_strong(supply, goods.box_size() as usize, values) {
+        return Verdict::Holds;
+    }
+    match first_broken(supply, goods.box_size(), values) {
+        Some(triple) => Verdict::Breaks {
+            x: goods.bundle(triple.x),
+            y: goods.bundle(triple.y),
+            good: triple.good,
+        },
+        None => Verdict::Holds,
+    }
+}
