@@ -11,6 +11,7 @@ pub mod WrittenEntries
 pub mod ReadEntries
 pub mod TakenEntries
 pub mod WrittenLogs
+pub mod PieceReading
 pub mod LogBytes
 pub mod Slots
 pub mod Making

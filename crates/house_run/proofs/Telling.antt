@@ -1,47 +1,15 @@
 -- What a file that was read gives, and which texts were written.
-use Rattle.std.proofs.Common.{◌≡◌, ◌≢◌, ◌≤◌, inl, inr, ℕ, List, length, Ok, Err, sym, ap, subst, ◌∙◌}
-use Rattle.house_io.specs.Shelves.{IfTells}
-use Rattle.lot_base.specs.declared.auction_terms.Terms.{Terms}
-use Rattle.clock.specs.Reports.{ClockHistory}
+use Rattle.std.proofs.Common.{◌≡◌, ◌≢◌, inl, inr, ℕ, List, Ok, Err, sym, ap, subst, ◌∙◌}
 use Rattle.auction_file.specs.AuctionFile.{Listing, auction_of}
 use Rattle.auction_file.specs.declared.faults.AuctionFault.{AuctionFault}
 use Rattle.auction_file.specs.declared.faults.AuctionFault.TheVariants as refused
-use Rattle.house_run.specs.Causes.{IsBadAuction, IsBadLog, MayEnd}
+use Rattle.house_run.specs.Causes.{IsBadAuction, MayEnd}
 use Rattle.house_run.specs.Commands.{Command, IsDone, Spells, needs_of}
 use Rattle.house_run.specs.Ends.{CommandEnds, RunEnds, Wrote, WroteLine}
-use Rattle.house_run.specs.Entries.{log_of}
-use Rattle.house_run.specs.FoldCommand.{FoldDone}
 use Rattle.house_run.specs.Frame.{Frame}
-use Rattle.house_run.specs.Logs.{AreBytes, IsLogOf, IsFaultyAt}
-use Rattle.house_run.specs.Reading.{IsLineOf, IsLogOrNoMemory}
-use Rattle.house_run.specs.Seen.{Outside, ShelfSeen, SinkSeen, IsAuctionAt, IsRead, auction_limit, content, log_limit}
-use Rattle.house_run.specs.Texts.{standing_of}
+use Rattle.house_run.specs.Seen.{Outside, ShelfSeen, SinkSeen, IsAuctionAt, IsRead, auction_limit}
 use Rattle.house_run.specs.declared.ends.Ended.{Ended}
 use Rattle.house_run.specs.declared.ends.Ended.TheVariants as how
-use Rattle.house_run.specs.declared.entries.LogFault.{LogFault}
-use Rattle.house_run.specs.declared.entries.LogFault.TheVariants as fault
-use Rattle.house_run.proofs.WrittenLogs.{faulty-log}
-
--- what was read of a file
-pub was-read : (shelf : ShelfSeen) (name : List ℕ) (limit : ℕ) (read bytes : List ℕ) → bytes ≡ read → IfTells shelf.files (λ files. read ≡ content files name) → length read ≤ limit → AreBytes bytes
-    → IsRead shelf name limit read
-was-read shelf name limit read bytes same whole short are = record { whole = whole; short = short; bytes = subst AreBytes same are }
-
--- the log that was read gives the clock, or the place of a fault
-pub folded : (terms : Terms) (log : List ℕ) (shelf : ShelfSeen) (read bytes text : List ℕ) → bytes ≡ read → IsRead shelf log log_limit read
-    → (c : ClockHistory) × IsLogOf terms c bytes × (text ≡ standing_of c) → FoldDone terms log shelf text
-folded terms log shelf read bytes text same is line =
-    let P : List ℕ → Type 0 = λ bs. IsLogOf terms line.0 bs in
-    record { read = read; is_read = is; history = line.0; is_log = subst P same line.1; text_is = line.2 }
-
-pub bad-log : (terms : Terms) (name : List ℕ) (shelf : ShelfSeen) (read bytes : List ℕ) (place : ℕ) → bytes ≡ read → IsRead shelf name log_limit read → IsFaultyAt terms bytes place
-    → IsBadLog (record { terms = terms; name = name }) place shelf
-bad-log terms name shelf read bytes place same is faulty = let P : List ℕ → Type 0 = λ bs. IsFaultyAt terms bs place in record { read = read; is_read = is; faulty = subst P same faulty }
-
--- a fault that the walk over a log tells
-pub fault-said : (refusal : LogFault) (terms : Terms) (bytes : List ℕ) → AreBytes bytes → IsLogOrNoMemory (Err refusal) (log_of terms bytes) → IsLineOf (Err refusal) terms bytes
-fault-said (fault.Faulty place) terms bytes are e = faulty-log terms bytes place are e
-fault-said fault.NoMemory terms bytes are e = tt
 
 -- the auction file that was read gives the listing, or its first fault
 pub auction-read : (name : List ℕ) (shelf : ShelfSeen) (read bytes : List ℕ) (listing : Listing) → bytes ≡ read → IsRead shelf name auction_limit read → auction_of bytes ≡ Ok listing → IsAuctionAt shelf name listing

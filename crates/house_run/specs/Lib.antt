@@ -4,14 +4,15 @@ pub mod Positionals
 pub mod Arguments
 pub mod Entries
 pub mod Logs
+pub mod Pieces
 pub mod Texts
-pub mod Reading
 pub mod Status
 pub mod Needs
 pub mod Seen
 pub mod Journals
 pub mod Outcomes
 pub mod Causes
+pub mod Reading
 pub mod Frame
 pub mod Steps
 pub mod FoldCommand
