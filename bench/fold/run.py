@@ -4,7 +4,6 @@
 The program is proved and built where it stands, by `rt run`; give --no-build to measure the program that was built before. The
 reference is built by rustc. Of each the least of five runs is taken, in turns, so that both meet the same machine.
 """
-import os
 import subprocess
 import sys
 import tempfile
@@ -82,17 +81,10 @@ def run(program, folder, supply):
     """The text, the processor seconds and the peak memory in MiB of one run."""
     words = [str(program), "fold"] if program == PROGRAM else [str(program)]
     words += [",".join(map(str, supply)), str(BIDDERS), str(CEILING), "log"]
-    reader, writer = os.pipe()
-    child = os.fork()
-    if child == 0:
-        os.chdir(folder)
-        os.dup2(writer, 1)
-        os.execv(words[0], words)
-    os.close(writer)
-    with os.fdopen(reader) as output:
-        text = output.read().strip()
-    _, _, used = os.wait4(child, 0)
-    return text, used.ru_utime + used.ru_stime, used.ru_maxrss / 1024
+    timed = ["/usr/bin/time", "-f", "%U %S %M", "-o", "figures", *words]
+    done = subprocess.run(timed, cwd=folder, capture_output=True, text=True, check=False)
+    user, system, kilobytes = (folder / "figures").read_text().split()[-3:]
+    return done.stdout.strip(), float(user) + float(system), int(kilobytes) / 1024
 
 
 def main():

@@ -6,7 +6,6 @@ nothing, so each clock ends and clears. The program is proved and built where it
 the program that was built before.
 """
 import hashlib
-import os
 import struct
 import subprocess
 import sys
@@ -22,9 +21,9 @@ PROGRAM = CRATE / "out" / "house_main"
 
 def auction(supply):
     """An auction file of version 1."""
-    goods = "".join(f'[[goods]]\nname = "good {good}"\nsupply = {units}\n' for good, units in enumerate(supply))
+    goods = "".join(f'[[goods]]\nname = "good-{good}"\nsupply = {units}\n' for good, units in enumerate(supply))
     bidders = "".join(
-        f'[[bidders]]\nname = "bidder {bidder}"\ntoken = "{hashlib.sha256(bytes([bidder])).hexdigest()}"\n'
+        f'[[bidders]]\nname = "bidder-{bidder}"\ntoken = "{hashlib.sha256(bytes([bidder])).hexdigest()}"\n'
         for bidder in range(1, BIDDERS + 1)
     )
     return f"version = 1\nceiling = {CEILING}\n{goods}{bidders}".encode()
@@ -66,18 +65,11 @@ def journal(clock, digest, supply, most, size):
 
 def used(words, folder):
     """The processor seconds, the peak memory in MiB and the first line of a run."""
-    reader, writer = os.pipe()
-    child = os.fork()
-    if child == 0:
-        os.chdir(folder)
-        os.dup2(writer, 1)
-        os.execvp(words[0], words)
-    os.close(writer)
-    with os.fdopen(reader) as output:
-        text = output.read()
-    _, status, usage = os.wait4(child, 0)
-    first = text.split("\n")[0] if status == 0 else f"status {os.waitstatus_to_exitcode(status)}: {text.strip()}"
-    return usage.ru_utime + usage.ru_stime, usage.ru_maxrss / 1024, first
+    timed = ["/usr/bin/time", "-f", "%U %S %M", "-o", "figures", *words]
+    done = subprocess.run(timed, cwd=folder, capture_output=True, text=True, check=False)
+    user, system, kilobytes = (folder / "figures").read_text().split()[-3:]
+    first = done.stdout.split("\n")[0] if done.returncode == 0 else f"status {done.returncode}: {done.stdout.strip()}"
+    return float(user) + float(system), int(kilobytes) / 1024, first
 
 
 def main():
@@ -108,7 +100,7 @@ def main():
             reads = [used(["cksum", *names], folder) for _ in range(3)]
             seconds, memory, first = min(runs)
             print(
-                f"{title:28} {size / 1e6:4.0f} {size / 1e6 / seconds:11.0f} {size / 1e6 / min(reads)[0]:12.0f} {memory:6.0f}  {first}"
+                f"{title:28} {size / 1e6:4.0f} {size / 1e6 / max(seconds, 0.01):11.0f} {size / 1e6 / max(min(reads)[0], 0.01):12.0f} {memory:6.0f}  {first}"
             )
 
 
