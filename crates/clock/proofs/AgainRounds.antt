@@ -164,3 +164,21 @@ room-next m added spare = let e : (added + 1) * m ≡ added * m + m = grind arit
 pub terms-repeated : (c : ClockHistory) (rounds : ℕ) → (repeated rounds c).terms ≡ c.terms
 terms-repeated c zero = refl
 terms-repeated c (suc rounds) = terms-repeated c rounds
+
+-- nobody has reported where no report of the round is kept
+pub idle-empty : (c : ClockHistory) (past : PastOf) (present : List Report) (left steps : ℕ) (phase : Phase) (prices : List ℕ) (tables : List (Option LeastTable)) (sums : List ℤ) (account : Sums) (capacity : ℕ) → IsKept c past present left steps phase prices tables sums account capacity
+    → steps ≢ 0 → length present ≡ 0 → IsIdle c
+idle-empty c past present left steps phase prices tables sums account capacity k some none =
+    let e = empty-list present none in
+    record {
+      some_step = omega (arith, some, k.standing.steps_are);
+      nobody = λ j. ap (λ n. demand_in c.reports (n + 1) j) (sym k.standing.steps_are) ∙ sym (present-demand c present left steps phase prices account tables sums (steps + 1) j k.standing k.round refl) ∙ ap (λ rs. demand_in rs (steps + 1) j) e;
+    }
+  where
+    empty-list : (rs : List Report) → length rs ≡ 0 → rs ≡ []
+    empty-list [] e = refl
+    empty-list (r ∷ rs) e = absurd (omega arith)
+
+pub idle-none : (c : ClockHistory) (past : PastOf) (present : List Report) (left steps : ℕ) (phase : Phase) (prices : List ℕ) (tables : List (Option LeastTable)) (sums : List ℤ) (account : Sums) (capacity : ℕ) → IsKept c past present left steps phase prices tables sums account capacity
+    → IsIdle c → length present ≡ 0
+idle-none c past present left steps phase prices tables sums account capacity k idle = ap length (idle-present c present left steps phase prices account tables sums k.standing k.round idle)

@@ -13,13 +13,40 @@ use std::alloc::Global;
 
 impl Clock {
     /// Repeats the round before: in each round every member reports again what it reported then, the smallest member first, for so
-    /// many rounds or until such a round would not lead on. Tells how many rounds there are more. The room that there was stays.
+    /// many rounds or until such a round would not lead on. Tells how many rounds there are more: none where there was no step, or
+    /// someone has reported since. The room that there was stays.
     pub fn repeat(&mut self, _alloc: Global, rounds: u32) -> Result<u32, NoMemory>
+        ensures ok { IfOk result (λ added. self.new ≡ record self.old { history = repeated added self.old.history }) }
+        ensures few { IfOk result (λ added. added ≤ rounds) }
+        ensures steps { IfOk result (λ added. steps_of self.new.history ≡ steps_of self.old.history + added) }
+        ensures stops { IfOk result (λ added. IsIdle self.old.history → added < rounds → leads_on (with_round self.new.history) (steps_of self.new.history) ≡ false) }
+        ensures busy { IfOk result (λ added. (IsIdle self.old.history → ⊥) → added ≡ 0) }
+        ensures err { OnErr result (self.new ≡ self.old) }
+    {
+        if !self.is_idle() {
+            return Ok(0);
+        }
+        self.repeat_idle(rounds)
+    }
+
+    /// Whether a step was made and nobody has reported since.
+    fn is_idle(&self) -> bool
+        ensures idle { result ≡ true → IsIdle self.now.history }
+        ensures busy { IsIdle self.now.history → result ≡ true }
+    {
+        if self.steps == 0 {
+            return false;
+        }
+        self.present.is_empty()
+    }
+
+    fn repeat_idle(&mut self, rounds: u32) -> Result<u32, NoMemory>
         requires { IsIdle self.old.history }
         ensures ok { IfOk result (λ added. self.new ≡ record self.old { history = repeated added self.old.history }) }
         ensures few { IfOk result (λ added. added ≤ rounds) }
         ensures steps { IfOk result (λ added. steps_of self.new.history ≡ steps_of self.old.history + added) }
-        ensures stops { IfOk result (λ added. added < rounds → leads_on (with_round self.new.history) (steps_of self.new.history) ≡ false) }
+        ensures stops { IfOk result (λ added. IsIdle self.old.history → added < rounds → leads_on (with_round self.new.history) (steps_of self.new.history) ≡ false) }
+        ensures busy { IfOk result (λ added. (IsIdle self.old.history → ⊥) → added ≡ 0) }
         ensures err { OnErr result (self.new ≡ self.old) }
     {
         let (reports, quantities) = self.past.spare();

@@ -1,4 +1,4 @@
-//! Rounds that were worked by hand. The tests of clock that need only what is public.
+//! Tests of `clock`, which no clause of it says: that calls succeed where there is memory, and rounds that were worked by hand.
 #![tactic(auto)]
 
 #[cfg(test)]

@@ -303,3 +303,115 @@ fn names_the_first_report_that_is_not_taken(rt: HostRuntime) -> Result<(), Fail>
     }
     Ok(())
 }
+
+// One good and room for two reports and four quantities: a report of one quantity leaves room for one report and three.
+#[test]
+fn a_report_within_the_room_is_kept_and_told(rt: HostRuntime) -> Result<(), Fail> {
+    let terms = terms_of(&[2], 2, 10)?;
+    let clock = Clock::with_room(rt.alloc(), &terms, 0, 2, 4)?;
+    let mut auction = Auction {
+        alloc: rt.alloc(),
+        terms,
+        clock,
+    };
+    assert_eq!(rt; auction.clock.count(), 0);
+    assert_eq!(rt; auction.report(&rt, 1, 1, &[1])?, Judgement::Take);
+    assert_eq!(rt; auction.clock.count(), 1);
+    assert_told(&rt, &auction, 1, 1, 1, &[1])?;
+    auction.clock.reserve(rt.alloc(), 100)?;
+    assert_eq!(rt; auction.clock.count(), 1);
+    assert_told(&rt, &auction, 1, 1, 1, &[1])?;
+    Ok(())
+}
+
+/// The report of this number is of this bidder in this round, and demands these quantities.
+fn assert_told(
+    rt: &impl Abort,
+    auction: &Auction,
+    number: u32,
+    bidder: u8,
+    round: u32,
+    quantities: &[u16],
+) -> Result<(), Fail> {
+    assert!(rt; number >= 1 && number <= auction.clock.count());
+    let told = auction.clock.report(auction.alloc, number)?;
+    assert_eq!(rt; told.bidder, bidder, "report {number}");
+    assert_eq!(rt; told.round, round, "report {number}");
+    let demand = demand_of(rt, auction.alloc, &auction.terms.goods, quantities)?;
+    assert!(rt; told.demand.same(&demand), "report {number}");
+    Ok(())
+}
+
+// The first good is in excess demand in two rounds, and nothing in the third.
+#[test]
+fn earlier_reports_and_prices_are_told(rt: HostRuntime) -> Result<(), Fail> {
+    let mut auction = Auction::new(&rt, rt.alloc(), terms_of(&[2, 3], 2, 10)?, 0)?;
+    let first = [2, 1];
+    let rounds = [
+        (1, 1, 2, [2, 1].as_slice()),
+        (2, 3, 4, [1, 1, 2, 0].as_slice()),
+        (3, 5, 6, [0, 2].as_slice()),
+    ];
+    for (round, _, _, second) in rounds {
+        assert_eq!(rt; auction.report(&rt, 2, round, second)?, Judgement::Take);
+        assert_eq!(rt; auction.report(&rt, 1, round, &first)?, Judgement::Take);
+    }
+    assert_stands(&rt, &auction.clock, 3, Phase::Ended, 0, &[2, 0]);
+    assert_eq!(rt; auction.clock.count(), 6);
+    for (round, earlier, later, second) in rounds {
+        assert_told(&rt, &auction, earlier, 2, round, second)?;
+        assert_told(&rt, &auction, later, 1, round, &first)?;
+        assert_prices_at(&rt, &auction.clock, round);
+    }
+    Ok(())
+}
+
+/// Only the first good rises, by one in each round.
+fn assert_prices_at(rt: &impl Abort, clock: &Clock, round: u32) {
+    assert!(rt; round >= 1 && round <= clock.look().round);
+    let prices = clock.prices_at(round);
+    assert!(rt; prices.count() == 2);
+    assert_eq!(rt; prices.get(0), round - 1);
+    assert_eq!(rt; prices.get(1), 0);
+}
+
+#[test]
+fn repeats_nothing_before_a_step_or_within_a_round(rt: HostRuntime) -> Result<(), Fail> {
+    let mut auction = Auction::new(&rt, rt.alloc(), terms_of(&[2], 2, 10)?, 0)?;
+    assert_eq!(rt; auction.clock.repeat(rt.alloc(), 3)?, 0);
+    assert_eq!(rt; auction.report(&rt, 2, 1, &[2])?, Judgement::Take);
+    assert_eq!(rt; auction.clock.repeat(rt.alloc(), 3)?, 0);
+    assert_eq!(rt; auction.report(&rt, 1, 1, &[2])?, Judgement::Take);
+    assert_eq!(rt; auction.report(&rt, 1, 2, &[2])?, Judgement::Take);
+    assert_eq!(rt; auction.clock.repeat(rt.alloc(), 3)?, 0);
+    assert_eq!(rt; auction.report(&rt, 2, 2, &[2])?, Judgement::Take);
+    assert_eq!(rt; auction.clock.count(), 4);
+    assert_stands(&rt, &auction.clock, 3, Phase::Running, 1, &[2]);
+    Ok(())
+}
+
+// The least quantities of both members are three of two units: the round repeats as often as asked, and then up to the ceiling.
+#[test]
+fn repeats_what_each_member_reported(rt: HostRuntime) -> Result<(), Fail> {
+    let mut auction = Auction::new(&rt, rt.alloc(), terms_of(&[2], 3, 10)?, 2)?;
+    assert_eq!(rt; auction.report(&rt, 3, 1, &[2])?, Judgement::Take);
+    assert_eq!(rt; auction.report(&rt, 1, 1, &[1, 2])?, Judgement::Take);
+    assert_eq!(rt; auction.clock.repeat(rt.alloc(), 0)?, 0);
+    assert_stands(&rt, &auction.clock, 2, Phase::Running, 1, &[1]);
+    assert_eq!(rt; auction.clock.repeat(rt.alloc(), 3)?, 3);
+    assert_stands(&rt, &auction.clock, 5, Phase::Running, 1, &[4]);
+    assert_eq!(rt; auction.clock.count(), 8);
+    for round in 2..5 {
+        assert_told(&rt, &auction, 2 * round - 1, 1, round, &[1, 2])?;
+        assert_told(&rt, &auction, 2 * round, 3, round, &[2])?;
+    }
+    assert_eq!(rt; auction.clock.repeat(rt.alloc(), 100)?, 6);
+    assert_stands(&rt, &auction.clock, 11, Phase::Running, 1, &[10]);
+    assert_eq!(rt; auction.clock.repeat(rt.alloc(), 100)?, 0);
+    assert_eq!(rt; auction.report(&rt, 1, 11, &[1, 2])?, Judgement::Take);
+    assert_eq!(rt; auction.report(&rt, 3, 11, &[2])?, Judgement::Take);
+    assert_stands(&rt, &auction.clock, 11, Phase::Halted(0), 0, &[10]);
+    assert_eq!(rt; auction.report(&rt, 1, 4, &[1, 2])?, Judgement::Again);
+    assert_eq!(rt; auction.report(&rt, 1, 4, &[2])?, Judgement::Conflict(4));
+    Ok(())
+}

@@ -6,10 +6,10 @@ use Rattle.clock.specs.Standing.{steps_of, leads_on}
 use Rattle.clock.specs.Repeats.{with_round}
 use Rattle.lot_base.specs.declared.auction_terms.Terms.{Terms}
 use Rattle.clock.proofs.AgainRounds.{terms-repeated}
-use Rattle.clock.proofs.clocks.Clock.repeat.Goals as goal
+use Rattle.clock.proofs.clocks.Clock.repeat_idle.Goals as goal
 
 pub returns-in-Ok-clause-stops : goal.returns-in-Ok-clause-stops
-returns-in-Ok-clause-stops c = λ less.
+returns-in-Ok-clause-stops c = λ idle less.
     let i = c.self-in-Ok.inside in
     let at : record { terms = i.terms; number = i.number; reports = c.keep_spare.new.self.reports } ≡ c.repeat_rounds-added.new.self.history =
     ap (λ (p : PastOf). record { terms = i.terms; number = i.number; reports = p.reports }) c.keep_spare.ensures ∙ ap (λ (z : ClockOf). z.history) c.self-in-Ok.view_is in
@@ -29,3 +29,6 @@ returns-in-Ok-clause-stops c = λ less.
         let most = ap (λ (z : ClockOf). length z.history.terms.goods * z.history.terms.ceiling) c.repeat_rounds-added.ensures.all ∙ ap (λ (t : Terms). length t.goods * t.ceiling) (terms-repeated start c.repeat_rounds-added.result) in
         let old = ap (λ (z : ClockOf). length z.history.terms.goods * z.history.terms.ceiling) c.self.view_is in
         c.steps_left-left.ensures.last c.repeat_rounds-added.ensures.idle (omega (arith, up, first, last, more, same, most, old))
+
+pub returns-in-Ok-clause-busy : goal.returns-in-Ok-clause-busy
+returns-in-Ok-clause-busy c = λ not. absurd (not c.requires)
