@@ -1,0 +1,6 @@
+mod Formed
+pub mod Answering
+mod Clocks
+mod Opened
+mod Compared
+mod Alone

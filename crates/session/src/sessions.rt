@@ -1,0 +1,125 @@
+//! A session of a bidder.
+ghost use Rattle.std.specs.Prelude.{◌≡◌, Option, None, length};
+ghost use Rattle.report_wire.specs.Frames.{IsMessage};
+ghost use Rattle.report_wire.specs.Messages.{to_house, house_kind, house_payload, to_bidder, bidder_kind, bidder_payload};
+ghost use Rattle.session.specs.Asking.{IsBidder, IsHallOf};
+ghost use Rattle.session.specs.Table.{bidder_after, goes_on, greeted, wire_reply};
+ghost use Rattle.session.specs.Turns.{IsTurn};
+ghost use Rattle.session.specs.declared.halls.Asked.{Asked as AskedValue};
+
+use crate::codes;
+use crate::consulting::{look_at, offer_at};
+use crate::halls::{Hall, Question};
+use crate::table::{Line, line_for, refused};
+use auction_file::Auction;
+use lot_base::NoMemory;
+use report_wire::{ToBidder, ToHouse, WireFault, WireKind};
+use std::alloc::Global;
+use std::marker::Model;
+use std::sync::Wait;
+
+/// A session, seen as its bidder, if it has one.
+#[derive(Drop)]
+pub struct Session {
+    bidder: Option<u8>,
+}
+
+impl Model for Session {
+    ghost use Rattle.std.specs.Prelude.{ℕ, Option};
+
+    ghost Value = { Option ℕ };
+
+    ghost view = { λ session. session.bidder };
+}
+
+/// A reply, and whether the session goes on behind it.
+#[derive(Drop)]
+pub struct Answer {
+    pub reply: ToBidder,
+    pub goes_on: bool,
+}
+
+impl Session {
+    /// A session without a bidder.
+    pub fn new() -> Session
+        ensures { result ≡ None }
+    {
+        Session { bidder: None }
+    }
+
+    /// The reply to a frame.
+    pub fn answer<H: Hall, T: Wait>(
+        &mut self,
+        rt: &T,
+        alloc: Global,
+        auction: &Auction,
+        hall: &mut H,
+        frame: &ToHouse,
+    ) -> Answer
+        requires formed { IsMessage to_house (house_kind frame.now) (house_payload frame.now) }
+        requires bidder { IsBidder auction.now.terms.bidders self.old }
+        requires order { H.in_order hall.old }
+        requires hall { IsHallOf auction.now (H.supply hall.old) (H.bidders hall.old) }
+        ensures turn { (asked : Option AskedValue) × IsTurn H.allows auction.now self.old (H.meaning hall.old) (record { frame = frame.now; asked = asked; reply = result.reply; now = H.meaning hall.new }) }
+        ensures goes_on { result.goes_on ≡ goes_on auction.now self.old frame.now }
+        ensures bidder { self.new ≡ bidder_after auction.now self.old frame.now }
+        ensures known { IsBidder auction.now.terms.bidders self.new }
+        ensures formed { IsMessage to_bidder (bidder_kind result.reply) (bidder_payload result.reply) }
+        ensures order { H.in_order hall.new }
+        ensures stays { H.stays hall.old hall.new }
+    {
+        let line = match line_for(alloc, auction, self.bidder, frame) {
+            Ok(line) => line,
+            Err(NoMemory) => {
+                return Answer {
+                    reply: refused(codes::NO_MEMORY, 0),
+                    goes_on: true,
+                };
+            }
+        };
+        match line {
+            Line::Says(reply, goes_on) => {
+                self.greet(frame, goes_on);
+                Answer { reply, goes_on }
+            }
+            Line::Asks(Question::Look { clock }) => Answer {
+                reply: look_at(rt, hall, clock),
+                goes_on: true,
+            },
+            Line::Asks(
+                Question::Offer {
+                    clock,
+                    bidder,
+                    round,
+                    demand,
+                },
+            ) => Answer {
+                reply: offer_at(rt, alloc, hall, clock, bidder, round, demand),
+                goes_on: true,
+            },
+        }
+    }
+
+    /// Keeps the bidder of a first hello that was welcome.
+    fn greet(&mut self, frame: &ToHouse, welcome: bool)
+        ensures { self.new ≡ greeted self.old frame.now welcome }
+    {
+        if let ToHouse::Hello { bidder, .. } = frame {
+            if self.bidder.is_none() && welcome {
+                self.bidder = Some(*bidder);
+            }
+        }
+    }
+}
+
+/// The reply to a fault of the stream, behind which the session ends.
+pub fn wire_answer(fault: &WireFault) -> ToBidder
+    ensures reply { result ≡ wire_reply fault.now.kind }
+    ensures formed { IsMessage to_bidder (bidder_kind result) (bidder_payload result) }
+{
+    match fault.kind {
+        WireKind::TooLong(length) => refused(codes::TOO_LONG, length),
+        WireKind::UnknownKind(kind) => refused(codes::UNKNOWN_KIND, kind as u32),
+        WireKind::BadPayload { kind, .. } => refused(codes::BAD_PAYLOAD, kind as u32),
+    }
+}

@@ -1,0 +1,163 @@
+//! The table of a session: what a frame is answered, or what it asks of the hall.
+ghost use Rattle.std.specs.Prelude.{◌≡◌, true, false, IfOk, OnErr};
+ghost use Rattle.demand_set.specs.Reading.{AreWhole};
+ghost use Rattle.report_wire.specs.Frames.{IsMessage};
+ghost use Rattle.report_wire.specs.Messages.{to_house, house_kind, house_payload};
+ghost use Rattle.session.specs.Table.{line_of, knows, refusal, demand_refusal, MayBeShort};
+ghost use Rattle.session.specs.Asking.{IsAskable, IsSayable};
+
+use crate::codes;
+use crate::digests::are_same;
+use crate::halls::Question;
+use auction_file::Auction;
+use demand_set::{Demand, DemandFault};
+use lot_base::{NoMemory, RawDemand, Sequence};
+use report_wire::{ToBidder, ToHouse};
+use sha2::{Digest, Sha256};
+use std::alloc::Global;
+
+/// A reply, and whether the session goes on behind it; or a question to the hall.
+pub enum Line {
+    Says(ToBidder, bool),
+    Asks(Question),
+}
+
+/// The line of the table for a frame, where the session has this bidder.
+pub(crate) fn line_for(
+    alloc: Global,
+    auction: &Auction,
+    who: Option<u8>,
+    frame: &ToHouse,
+) -> Result<Line, NoMemory>
+    requires formed { IsMessage to_house (house_kind frame.now) (house_payload frame.now) }
+    ensures line { IfOk result (λ line. line ≡ line_of auction.now who frame.now) }
+    ensures short { OnErr result (MayBeShort frame.now) }
+    ensures askable { IfOk result (λ line. IsAskable auction.now.terms.bidders auction.now.terms.goods line) }
+    ensures sayable { IfOk result (λ line. IsSayable line) }
+{
+    match frame {
+        ToHouse::Hello { bidder, token } => Ok(hello_line(auction, who, *bidder, token)),
+        ToHouse::Look { clock } => Ok(look_line(auction, who, *clock)),
+        ToHouse::Report {
+            clock,
+            round,
+            demand,
+        } => report_line(alloc, auction, who, *clock, *round, demand),
+        ToHouse::Quit => Ok(Line::Says(ToBidder::Bye, false)),
+    }
+}
+
+/// A refusal.
+pub(crate) fn refused(code: u8, value: u32) -> ToBidder
+    ensures { result ≡ refusal code value }
+{
+    ToBidder::Refused {
+        code,
+        detail: 0,
+        value,
+    }
+}
+
+/// Whether it is a bidder's number and that bidder's token.
+fn knows(auction: &Auction, bidder: u8, token: &Sequence<u8>) -> bool
+    ensures { result ≡ knows auction.now bidder token.now }
+{
+    if bidder < 1 || bidder > auction.terms.bidders {
+        return false;
+    }
+    let digests = auction.token_digests.as_slice();
+    are_same(
+        &Sha256::digest(token.as_slice()),
+        &digests[bidder as usize - 1],
+    )
+}
+
+fn hello_line(auction: &Auction, who: Option<u8>, bidder: u8, token: &Sequence<u8>) -> Line
+    ensures line { result ≡ line_of auction.now who (ToHouse.Hello bidder token.now) }
+    ensures askable { IsAskable auction.now.terms.bidders auction.now.terms.goods result }
+    ensures sayable { IsSayable result }
+{
+    if who.is_some() {
+        return Line::Says(refused(codes::SECOND_HELLO, 0), true);
+    }
+    if !knows(auction, bidder, token) {
+        return Line::Says(refused(codes::BAD_TOKEN, bidder as u32), false);
+    }
+    Line::Says(
+        ToBidder::Welcome {
+            goods: auction.terms.goods.count(),
+            clocks: auction.terms.bidders + 1,
+        },
+        true,
+    )
+}
+
+fn look_line(auction: &Auction, who: Option<u8>, clock: u8) -> Line
+    ensures line { result ≡ line_of auction.now who (ToHouse.Look clock) }
+    ensures askable { IsAskable auction.now.terms.bidders auction.now.terms.goods result }
+    ensures sayable { IsSayable result }
+{
+    let Some(bidder) = who else {
+        return Line::Says(refused(codes::NO_HELLO, 0), true);
+    };
+    if clock > auction.terms.bidders {
+        return Line::Says(refused(codes::UNKNOWN_CLOCK, clock as u32), true);
+    }
+    if clock == bidder {
+        return Line::Says(refused(codes::NOT_MEMBER, clock as u32), true);
+    }
+    Line::Asks(Question::Look { clock })
+}
+
+fn report_line(
+    alloc: Global,
+    auction: &Auction,
+    who: Option<u8>,
+    clock: u8,
+    round: u32,
+    demand: &RawDemand,
+) -> Result<Line, NoMemory>
+    requires whole { AreWhole demand.now.goods demand.now.quantities }
+    ensures line { IfOk result (λ line. line ≡ line_of auction.now who (ToHouse.Report clock round demand.now)) }
+    ensures askable { IfOk result (λ line. IsAskable auction.now.terms.bidders auction.now.terms.goods line) }
+    ensures sayable { IfOk result (λ line. IsSayable line) }
+{
+    let Some(bidder) = who else {
+        return Ok(Line::Says(refused(codes::NO_HELLO, 0), true));
+    };
+    if clock > auction.terms.bidders {
+        return Ok(Line::Says(refused(codes::UNKNOWN_CLOCK, clock as u32), true));
+    }
+    if clock == bidder {
+        return Ok(Line::Says(refused(codes::NOT_MEMBER, clock as u32), true));
+    }
+    match Demand::read(alloc, &auction.terms.goods, demand) {
+        Ok(demand) => Ok(Line::Asks(Question::Offer {
+            clock,
+            bidder,
+            round,
+            demand,
+        })),
+        Err(DemandFault::NoMemory) => Err(NoMemory),
+        Err(fault) => Ok(Line::Says(refused_demand(fault), true)),
+    }
+}
+
+/// The refusal of a demand.
+fn refused_demand(fault: DemandFault) -> ToBidder
+    ensures refusal { result ≡ demand_refusal fault }
+    ensures sayable { IsSayable (Line.Says result true) }
+{
+    let (detail, value) = match fault {
+        DemandFault::Empty => (codes::EMPTY, 0),
+        DemandFault::NotAscending(place) => (codes::NOT_ASCENDING, place),
+        DemandFault::OutsideSupply(place) => (codes::OUTSIDE_SUPPLY, place),
+        DemandFault::WrongGoods(goods) => (codes::WRONG_GOODS, goods as u32),
+        DemandFault::NoMemory => return refused(codes::NO_MEMORY, 0),
+    };
+    ToBidder::Refused {
+        code: codes::BAD_DEMAND,
+        detail,
+        value,
+    }
+}
