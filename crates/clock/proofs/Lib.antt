@@ -25,3 +25,4 @@ pub mod FirstMembers
 pub mod Again
 pub mod AgainRounds
 pub mod SameSets
+pub mod Counting

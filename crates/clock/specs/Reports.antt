@@ -1,7 +1,7 @@
 -- The reports of a clock, read as a whole list by the names in it. The clock of all bidders has the number 0, and clock c has
 -- all bidders but c. A report names a round, from 1, and a bidder, from 1. Where several reports have one name, the first
 -- counts.
-use Rattle.std.specs.Prelude.{ℕ, ◌-◌, length, ◌==◌, Bool, ◌&&◌, List, [], ◌++◌, ◌∷◌, map, find, Option, is_some, unwrap_or, option_map}
+use Rattle.std.specs.Prelude.{ℕ, ◌+◌, ◌-◌, ◌*◌, length, ◌==◌, Bool, ◌&&◌, List, [], ◌++◌, ◌∷◌, map, find, Option, is_some, unwrap_or, option_map}
 use Rattle.std.specs.List.{concat, list_all, range_with_len}
 use Rattle.lot_base.specs.Economy.{without}
 use Rattle.lot_base.specs.declared.auction_terms.Terms.{Terms}
@@ -45,6 +45,10 @@ members bidders clock = without clock (all_bidders bidders)
 
 abbrev pub members_of : ClockHistory → List ℕ
 members_of c = members c.terms.bidders c.number
+
+-- the most reports of a legal history: one of each member to a round; each step raises a price, and none passes the ceiling
+abbrev pub most_reports : Terms → ℕ → ℕ
+most_reports terms number = (length terms.goods * terms.ceiling + 1) * length (members terms.bidders number)
 
 -- the report is of this bidder in this round
 abbrev pub is_named : ℕ → ℕ → Report → Bool

@@ -71,7 +71,7 @@ impl Clock {
     ghost use Rattle.lot_base.specs.declared.phases.Phase.TheVariants.{Ended, Halted};
     ghost use Rattle.lyapunov.specs.Paths.{highest_rise, IsLeastNear};
     ghost use Rattle.std.specs.List.{concat};
-    ghost use Rattle.clock.specs.Reports.{demand_in, with_report, applied, members_of};
+    ghost use Rattle.clock.specs.Reports.{demand_in, with_report, applied, members_of, most_reports};
     ghost use Rattle.clock.specs.Explained.{Explains};
     ghost use Rattle.clock.specs.Standing.{HasSteps, steps_of, last_round, phase_of, prices_after, prices_of, missing_of};
     ghost use Rattle.clock.specs.Judging.{judgement_of, IsJudgement, IsLegal};
@@ -202,9 +202,10 @@ impl Clock {
         self.excess = lyapunov::opening(&goods);
     }
 
-    /// How many reports were applied.
+    /// How many reports were applied. Where there is one more to be taken, they are below the most.
     pub fn count(&self) -> u32
-        ensures { result ≡ length self.now.history.reports }
+        ensures value { result ≡ length self.now.history.reports }
+        ensures more { (r : ReportValue) → judgement_of self.now.history r ≡ Take → length self.now.history.reports + 1 ≤ most_reports self.now.history.terms self.now.history.number }
     {
         self.past.count() as u32
     }

@@ -14,3 +14,4 @@ mod standing;
 pub use clocks::{Clock, Look, NotApplied};
 pub use judging::{Judgement, Offered};
 pub use replaying::ReplayFault;
+pub use rounds::most_reports;

@@ -2,10 +2,10 @@
 ghost use Rattle.std.specs.Prelude.{◌≡◌, ◌<◌, ◌≤◌, ℕ, length, take, find, is_none, option_copied, slice_index};
 ghost use Rattle.lot_base.specs.Goods.{AllBelow};
 ghost use Rattle.lyapunov.specs.Paths.{prices_along as along};
-ghost use Rattle.clock.specs.Reports.{members, is_named, demand_in, set_numbers};
+ghost use Rattle.clock.specs.Reports.{members, most_reports, is_named, demand_in, set_numbers};
 
 use demand_set::{Demand, Report};
-use lot_base::{GoodSet, Prices};
+use lot_base::{GoodSet, Prices, Terms};
 
 /// The demand of the first report of a bidder in a round.
 pub(crate) fn find_demand(reports: &[Report], round: u32, bidder: u8) -> Option<&Demand>
@@ -55,6 +55,16 @@ pub(crate) fn member_count(bidders: u8, clock: u8) -> u8
     ensures { result ≡ length (members bidders clock) }
 {
     if clock == 0 { bidders } else { bidders - 1 }
+}
+
+/// How many reports a clock of these terms has at most.
+pub fn most_reports(terms: &Terms, number: u8) -> u32
+    requires { number ≤ terms.now.bidders }
+    ensures value { result ≡ most_reports terms.now number }
+    ensures few { result ≤ 720012 }
+{
+    let rounds = terms.goods.count() as u32 * terms.ceiling + 1;
+    rounds * member_count(terms.bidders, number) as u32
 }
 
 /// The prices from the opening on, raised on one set after another.

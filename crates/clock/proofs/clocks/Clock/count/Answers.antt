@@ -3,6 +3,7 @@ use Rattle.std.proofs.Math.Nat.{mul-le-mul}
 use Rattle.clock.specs.Reports.{ClockHistory, members_of}
 use Rattle.clock.proofs.Taking.{count-reports}
 use Rattle.clock.proofs.Totals.{members-few}
+use Rattle.clock.proofs.Counting.{more-reports}
 use Rattle.clock.proofs.clocks.Clock.count.Goals as goal
 
 -- one report of each member to a round, and one more round
@@ -16,3 +17,9 @@ overflow_cast-result c =
     let few : length (members_of h) ≤ 12 = omega (arith, f, b) in
     let m : i.steps * length (members_of h) ≤ 60000 * 12 = mul-le-mul c.self.invariant.standing.few few in
     omega (arith, n, m, few, c.self.invariant.round.counted, c.count.ensures)
+
+pub returns-clause-more : goal.returns-clause-more
+returns-clause-more c = rw (← c.self.view_is) (λ r take.
+    let i = c.self.inside in
+    let h : ClockHistory = record { terms = i.terms; number = i.number; reports = i.past.reports } in
+    more-reports h r i.present.items i.left i.steps i.phase i.prices i.account i.tables i.excess.0 c.self.invariant.standing c.self.invariant.round take)
