@@ -4,3 +4,5 @@ pub mod Picks
 pub mod Places
 pub mod Reaching
 pub mod Walking
+pub mod Marking
+pub mod Searching

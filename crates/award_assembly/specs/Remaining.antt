@@ -1,5 +1,5 @@
 -- Choosing demand by demand: some total is taken by the demands before, and the demands behind are still to choose.
-use Rattle.std.specs.Prelude.{◌≡◌, ◌<◌, ℕ, ◌+◌, ◌-◌, Bool, false, ◌&&◌, List, length, drop, Option, is_some, find, slice_index_or}
+use Rattle.std.specs.Prelude.{◌≡◌, ◌<◌, ℕ, ◌+◌, ◌-◌, Bool, true, false, ◌&&◌, ◌||◌, List, length, drop, Option, is_some, find, slice_index_or}
 use Rattle.lot_base.specs.Goods.{plus, is_within, box_size}
 use Rattle.lot_base.specs.Box.{index_of, bundle_at}
 use Rattle.lot_base.specs.Choices.{choices, clears, sum_of}
@@ -20,6 +20,14 @@ pub record IsReach (supply opening p : List ℕ) (demands : List (List (List ℕ
 -- whether a total is within the supply and true in the table
 abbrev pub has_total : List ℕ → List Bool → List ℕ → Bool
 has_total supply table total = is_within supply total && slice_index_or table (index_of supply total) false
+
+-- the totals that are true in the table with this bundle more are true beside those that were before
+pub record IsWith (supply : List ℕ) (table : List Bool) (bundle : List ℕ) (before after : List Bool) : Type 0 where
+  pub size : length after ≡ length before
+  pub each : (place : ℕ) → place < box_size supply → slice_index_or after place false ≡ (slice_index_or before place false || has_total supply table (plus (bundle_at supply place) bundle))
+
+abbrev pub AreAllTrue : List Bool → Type 0
+AreAllTrue table = (place : ℕ) → place < length table → slice_index_or table place false ≡ true
 
 -- at place k, what the last k demands can clear, for the last so many demands
 pub record AreReaches (supply opening p : List ℕ) (demands : List (List (List ℕ))) (last : ℕ) (tables : List (List Bool)) : Type 0 where

@@ -8,6 +8,7 @@ ghost use Rattle.lot_base.specs.Demands.{IsDemand};
 ghost use Rattle.award_assembly.specs.Assembled.{IsAssembly, choice_in};
 
 pub mod assembly;
+mod columns;
 pub mod laws;
 mod reach;
 mod search;

@@ -1,10 +1,13 @@
 //! What the demands behind can still make clear.
-ghost use Rattle.std.specs.Prelude.{◌≡◌, ◌<◌, ℕ, List, [], ◌∷◌, false, find, length, slice_index_or, IfOk};
+ghost use Rattle.std.specs.Prelude.{◌≡◌, ◌<◌, ◌≤◌, ℕ, List, [], ◌∷◌, true, false, find, length, slice_index_or, IfOk};
 ghost use Rattle.lot_base.specs.Goods.{plus, is_within, box_size, AtMost};
 ghost use Rattle.lot_base.specs.Box.{bundle_at, index_of};
 ghost use Rattle.lot_base.specs.Choices.{clears};
 ghost use Rattle.lot_base.specs.Demands.{IsDemand};
+ghost use Rattle.award_assembly.specs.Columns.{AreColumns, IsJoined};
+ghost use Rattle.award_assembly.specs.Remaining.{IsWith, AreAllTrue};
 
+use crate::columns::{Column, mark_fitting};
 use demand_set::Demand;
 use lot_base::{Bundle, Goods, Prices};
 use std::alloc::{AllocError, Global};
@@ -51,19 +54,44 @@ impl Reach {
         &self,
         alloc: Global,
         goods: &Goods,
+        columns: &[Column],
         demand: &Demand,
     ) -> Result<Reach, AllocError>
         requires size { length self.now ≡ box_size goods.now }
+        requires columns { AreColumns goods.now columns.now }
         requires demand { IsDemand goods.now demand.now }
         ensures { (opening p : List ℕ) (behind : List (List (List ℕ))) → IsReach goods.now opening p behind self.now →
             IfOk result (IsReach goods.now opening p (demand.now ∷ behind)) }
     {
-        let mut totals = Vec::new(alloc);
-        for place in 0..goods.box_size() {
-            let taken = goods.bundle(place);
-            totals.push(self.first(goods, demand, &taken).is_some())?;
+        let size = goods.box_size() as usize;
+        let mut totals = vec![in alloc; false; size]?;
+        let mut marks = vec![in alloc; false; size]?;
+        for number in 0..demand.len() {
+            if !are_all_true(&totals) {
+                self.join(goods, columns, &demand.get(number), &mut totals, &mut marks);
+            }
         }
         Ok(Reach { totals })
+    }
+
+    /// Makes true the totals that are true here with a bundle more.
+    fn join(
+        &self,
+        goods: &Goods,
+        columns: &[Column],
+        bundle: &Bundle,
+        totals: &mut [bool],
+        marks: &mut [bool],
+    )
+        requires size { (length self.now ≡ box_size goods.now) × (length totals.old ≡ box_size goods.now) × (length marks.old ≡ box_size goods.now) }
+        requires columns { AreColumns goods.now columns.now }
+        requires bundle { AtMost bundle.now goods.now }
+        ensures totals { IsWith goods.now self.now bundle.now totals.old totals.new }
+        ensures marks { length marks.new ≡ length marks.old }
+    {
+        mark_fitting(goods, columns, bundle, marks);
+        let further = self.totals.split_at(goods.index(bundle) as usize).1;
+        join_marked(totals, marks, further);
     }
 
     /// The first bundle of a demand that makes a true total with what is taken.
@@ -98,6 +126,24 @@ impl Reach {
         ensures { result ≡ slice_index_or self.now place false }
     {
         self.totals[place as usize]
+    }
+}
+
+/// Whether all totals are true.
+fn are_all_true(totals: &[bool]) -> bool
+    ensures { result ≡ true → AreAllTrue totals.now }
+{
+    totals.iter().all(|total| *total)
+}
+
+/// Joins further truth values to the totals, where they are marked.
+fn join_marked(totals: &mut [bool], marks: &[bool], further: &[bool])
+    requires marks { length marks.now ≡ length totals.old }
+    requires further { length further.now ≤ length totals.old }
+    ensures { IsJoined marks.now further.now totals.old totals.new }
+{
+    for place in 0..further.len() {
+        totals[place] = totals[place] | (marks[place] & further[place]);
     }
 }
 

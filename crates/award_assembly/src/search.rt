@@ -7,6 +7,7 @@ ghost use Rattle.lot_base.specs.Demands.{IsDemand};
 ghost use Rattle.award_assembly.specs.Remaining.{AreReaches};
 
 use crate::assembly::Choice;
+use crate::columns::columns_of;
 use crate::reach::{Reach, sum_of};
 use demand_set::Demand;
 use lot_base::{Goods, Prices};
@@ -57,11 +58,12 @@ fn reaches(
     requires demands { AllByRecursion (λ d. IsDemand goods.now d) demands.now }
     ensures { IfOk result (λ v. AreReaches goods.now opening.now prices.now demands.now (length demands.now) v.items) }
 {
+    let columns = columns_of(alloc, goods)?;
     let mut reaches = Vec::new(alloc);
     reaches.push(Reach::last(alloc, goods, opening, prices)?)?;
     for done in 0..demands.len() {
         let demand = &demands[demands.len() - 1 - done];
-        let reach = reaches[done].before(alloc, goods, demand)?;
+        let reach = reaches[done].before(alloc, goods, &columns, demand)?;
         reaches.push(reach)?;
     }
     Ok(reaches)

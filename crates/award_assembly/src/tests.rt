@@ -157,6 +157,54 @@ fn shares_a_large_supply_among_twelve(rt: HostRuntime) -> Result<(), Fail> {
     Ok(())
 }
 
+/// The quantities from 0 up to 2,047, so far apart.
+fn multiples(alloc: Global, step: u16) -> Result<Vec<u16>, Fail> {
+    let mut quantities = Vec::new(alloc);
+    for quantity in 0..2048 {
+        if quantity % step.max(1) == 0 {
+            quantities.push(quantity)?;
+        }
+    }
+    Ok(quantities)
+}
+
+/// What the last of twelve is awarded who all report these quantities of 2,047 units at a price, where the others get none.
+fn share_of_the_last(
+    rt: &impl Abort,
+    alloc: Global,
+    quantities: &[u16],
+) -> Result<Option<u16>, Fail> {
+    let goods = Goods::new(&[2047])?;
+    let prices = Prices::read(&[1]).ok_or("prices")?;
+    assert_eq!(rt; prices.count(), goods.count());
+    let demands = twelve(rt, alloc, &goods, quantities)?;
+    match assemble(alloc, &goods, &Prices::zero(&goods), &prices, &demands)? {
+        Assembly::NoChoice => Ok(None),
+        Assembly::Award(choice) => {
+            assert_eq!(rt; choice.len(), 12);
+            for place in 0..11 {
+                assert!(rt; is_bundle(&choice.get(place), &[0])?, "for {place}");
+            }
+            let last = choice.get(11);
+            assert_eq!(rt; last.count(), 1);
+            Ok(Some(last.quantity(0)))
+        }
+    }
+}
+
+#[test]
+fn searches_full_and_even_demands(rt: HostRuntime) -> Result<(), Fail> {
+    for (step, share) in [(1, Some(2047)), (2, None)] {
+        let quantities = multiples(rt.alloc(), step)?;
+        assert_eq!(rt;
+            share_of_the_last(&rt, rt.alloc(), &quantities)?,
+            share,
+            "in steps of {step}"
+        );
+    }
+    Ok(())
+}
+
 #[test]
 fn clears_without_demands_where_no_price_has_risen(rt: HostRuntime) -> Result<(), Fail> {
     let goods = Goods::new(&[1, 1])?;

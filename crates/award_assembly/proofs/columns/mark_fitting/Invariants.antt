@@ -1,0 +1,8 @@
+use Rattle.std.proofs.Common.{◌≡◌, ◌<◌, ℕ, false, length, slice_index_or}
+use Rattle.lot_base.specs.Goods.{box_size}
+use Rattle.lot_base.specs.Box.{bundle_at}
+use Rattle.award_assembly.proofs.Marking.{Marks}
+use Rattle.award_assembly.proofs.columns.mark_fitting.Given as goal
+
+abbrev pub invariant-loop-good : goal.invariant-loop-good
+invariant-loop-good l = (length l.marks ≡ box_size l.goods) × ((place : ℕ) → place < box_size l.goods → Marks l.goods (bundle_at l.goods place) l.bundle l.good (slice_index_or l.marks place false))
