@@ -10,6 +10,7 @@ use crate::view::View;
 use atomic_table::{Refused, Seat, Table};
 use std::alloc::Global;
 use std::snapshot::Snapshot;
+use std::sync::atomic::AtomicU32;
 
 /// The word of the next ticket.
 pub(crate) const TICKET: usize = 0;
@@ -29,6 +30,8 @@ pub type Place<B> = Seat<Option<B>, View<<B as Book>::Entry, <B as Book>::Origin
 /// The table of a desk, with its three words and its one slot.
 pub(crate) struct Board<B: Book> {
     pub(crate) table: Table<Option<B>, View<B::Entry, B::Origin>, Snapshot<B>, Turns<B>, Global>,
+    /// How many threads sleep until a turn passes on, or are about to. No clause speaks of it.
+    pub(crate) sleepers: AtomicU32,
     ghost sized: { (table.shared.table_id.words ≡ 3) × (table.shared.table_id.slots ≡ 1) },
 }
 
@@ -47,7 +50,10 @@ impl<B: Book> Board<B> {
             return Err(failed.value.unwrap());
         }
         match Table::new(alloc, &[0, 0, count], slots, &about) {
-            Ok((table, seat)) => Ok((Board { table }, seat)),
+            Ok((table, seat)) => {
+                let sleepers = AtomicU32::new(0);
+                Ok((Board { table, sleepers }, seat))
+            }
             Err(Refused { mut slots }) => {
                 let last = slots.pop();
                 slots.destroy_empty();
@@ -62,7 +68,7 @@ impl<B: Book> Board<B> {
         requires all { (seat.me.0.stage ≡ Rests) × (seat.me.0.seats ≡ seat.me.0.made) × (0 < seat.me.0.made) }
         ensures { Ends B.history B.origin self.table.shared.key.value seat.me.0 result }
     {
-        let Board { table } = self;
+        let Board { table, sleepers: _ } = self;
         let mut closed = table.close_with(seat);
         let book = closed.take(BOOK);
         closed.free();
