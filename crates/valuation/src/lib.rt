@@ -7,6 +7,7 @@ mod document;
 pub mod faults;
 mod forms;
 pub mod layout;
+mod making;
 mod numbers;
 pub mod reader;
 pub mod surpluses;

@@ -150,7 +150,7 @@ fn first_above(values: &[u64], ceiling: u32) -> Option<usize>
 }
 
 /// The same numbers in fewer bits.
-fn narrowed(alloc: Global, values: &[u64]) -> Result<Vec<u16>, AllocError>
+pub(crate) fn narrowed(alloc: Global, values: &[u64]) -> Result<Vec<u16>, AllocError>
     requires { (place : ℕ) → slice_index values.now place < 10000 }
     ensures { IfOk result (λ v. v.items ≡ values.now) }
 {
