@@ -1,0 +1,169 @@
+#!/usr/bin/env python3
+"""Measures `trial` and `make` beside the same work in plain Rust (reference.rs), in processor time, and their peak memory.
+
+Rows are `make 7`, and auctions of twelve bidders whose valuations stand in tables: random ones with strong substitutes over a box of 2,048
+bundles, a price that rises for 9,700 rounds, and demand sets of a thousand bundles in as many rounds. Where glpsol and cbc are there, the
+same auctions are settled as n + 1 integer programs each, as a user would do otherwise. Of each the least of five runs is taken, in turns.
+The program is proved and built where it stands, by `rt run`; give --no-build to measure the program that was built before, and --programs
+to run the integer programs too, which take long.
+"""
+import hashlib
+import random
+import shutil
+import subprocess
+import sys
+import tempfile
+from itertools import product
+from math import prod
+from pathlib import Path
+
+BIDDERS = 12
+CEILING = 10_000
+HERE = Path(__file__).resolve().parent
+CRATE = HERE.parents[1] / "crates" / "house_main"
+PROGRAM = CRATE / "out" / "house_main"
+
+
+def box(supply):
+    """All bundles within the supply, good 0 first."""
+    return list(product(*(range(units + 1) for units in supply)))
+
+
+def places(supply):
+    """How far apart in the box two bundles are that differ by a unit of a good."""
+    return [prod(units + 1 for units in supply[good + 1 :]) for good in range(len(supply))]
+
+
+def assignment(supply, slots):
+    """What each bundle is worth to a bidder who puts one unit into each slot, at the worth of the good there: the greatest sum. Such valuations,
+    of an assignment market, have strong substitutes."""
+    bundles, apart = box(supply), places(supply)
+    worth = [0] * len(bundles)
+    for slot in slots:
+        before = worth[:]
+        for place, bundle in enumerate(bundles):
+            for good, quantity in enumerate(bundle):
+                if quantity:
+                    worth[place] = max(worth[place], before[place - apart[good]] + slot[good])
+    return worth
+
+
+def random_tables(supply, slots, most):
+    draw = random.Random(1)
+    return [assignment(supply, [[draw.randrange(most) for _ in supply] for _ in range(slots)]) for _ in range(BIDDERS)]
+
+
+def rows():
+    """The auctions by name: supply, and each bidder's value of each bundle."""
+    wide = [3, 3, 3, 3, 3, 1]
+    yield "random, 2,048 bundles", wide, random_tables(wide, 6, 1_600)
+    yield "random, 3 goods, 1,000 bundles", [9, 9, 9], random_tables([9, 9, 9], 12, 800)
+    first = [9_700 if bundle[0] else 0 for bundle in box(wide)]
+    yield "9,700 rounds, demands of 1,536", wide, [first] * BIDDERS
+    narrow = [1, 1]
+    yield "9,700 rounds, demands of 2", narrow, [[9_700 if bundle[0] else 0 for bundle in box(narrow)]] * BIDDERS
+
+
+def auction_file(supply):
+    goods = "".join(f'[[goods]]\nname = "good-{good}"\nsupply = {units}\n' for good, units in enumerate(supply))
+    token = hashlib.sha256(b"token").hexdigest()
+    bidders = "".join(f'[[bidders]]\nname = "bidder-{bidder}"\ntoken = "{token}"\n' for bidder in range(1, BIDDERS + 1))
+    return f"version = 1\nceiling = {CEILING}\n{goods}{bidders}"
+
+
+def values_file(tables):
+    return "".join(f'[[valuations]]\nform = "table"\nvalues = [{", ".join(map(str, table))}]\n' for table in tables)
+
+
+def numbers_file(supply, tables):
+    lines = [f"{len(supply)} {' '.join(map(str, supply))} {BIDDERS} {CEILING}"]
+    return "\n".join(lines + [" ".join(map(str, table)) for table in tables]) + "\n"
+
+
+def integer_program(supply, tables, members):
+    """The greatest welfare of some members: one bundle for each, within the supply, in the LP format of CPLEX."""
+    bundles = box(supply)
+    wanted = [(j, x) for j in members for x in range(1, len(bundles)) if tables[j][x]]
+    terms = [f"+ {tables[j][x]} z_{j}_{x}" for j, x in wanted]
+    lines = ["Maximize", " welfare:", *("  " + " ".join(terms[at : at + 8]) for at in range(0, len(terms), 8)), "Subject To"]
+    for j in members:
+        held = [f"+ z_{j}_{x}" for k, x in wanted if k == j]
+        lines += [f" one_{j}:", *("  " + " ".join(held[at : at + 12]) for at in range(0, len(held), 12)), "  <= 1"]
+    for good, units in enumerate(supply):
+        held = [f"+ {bundles[x][good]} z_{j}_{x}" for j, x in wanted if bundles[x][good]]
+        lines += [f" good_{good}:", *("  " + " ".join(held[at : at + 8]) for at in range(0, len(held), 8)), f"  <= {units}"]
+    return "\n".join([*lines, "Binary", *(f" z_{j}_{x}" for j, x in wanted), "End", ""])
+
+
+def timed(words, folder):
+    """The text, the processor seconds and the peak memory in MiB of one run."""
+    ran = ["/usr/bin/time", "-f", "%U %S %M", "-o", "figures", *map(str, words)]
+    done = subprocess.run(ran, cwd=folder, capture_output=True, text=True, check=False)
+    user, system, kilobytes = (folder / "figures").read_text().split()[-3:]
+    return done.stdout, float(user) + float(system), int(kilobytes) / 1024
+
+
+def least(words_of, folder):
+    """Of each kind of run the text, the least seconds and that run's memory. One that takes over five seconds is run once."""
+    best = {}
+    for _ in range(5):
+        for kind, words in words_of.items():
+            if kind in best and best[kind][1] > 5:
+                continue
+            text, seconds, memory = timed(words, folder)
+            if kind not in best or seconds < best[kind][1]:
+                best[kind] = (text, seconds, memory)
+    return best
+
+
+def solve(supply, tables, folder):
+    """The processor seconds of glpsol and cbc for the programs of all bidders, and of all but each."""
+    everyone = list(range(BIDDERS))
+    figures = []
+    for solver in ("glpsol", "cbc"):
+        if not shutil.which(solver):
+            figures.append("not there")
+            continue
+        seconds = 0
+        for left_out in [None, *everyone]:
+            (folder / "program.lp").write_text(integer_program(supply, tables, [j for j in everyone if j != left_out]))
+            words = ["glpsol", "--lp", "program.lp"] if solver == "glpsol" else ["cbc", "program.lp", "solve", "quit"]
+            seconds += timed(words, folder)[1]
+        figures.append(f"{seconds:.2f} s")
+    return figures
+
+
+def main():
+    if "--no-build" not in sys.argv:
+        subprocess.run(["rt", "run", "--", "make", "7"], cwd=CRATE, check=True, capture_output=True)
+    with tempfile.TemporaryDirectory() as name:
+        folder = Path(name)
+        plain = folder / "reference"
+        subprocess.run(["rustc", "-O", "--edition", "2021", "-o", str(plain), str(HERE / "reference.rs")], check=True)
+        print(f"{'auction':34} {'ours ms':>8} {'plain ms':>8} {'times':>6} {'MiB':>6} {'plain MiB':>9} {'rounds':>7}")
+        best = least({"ours": [PROGRAM, "make", "7"], "plain": [plain, "make", "7"]}, folder)
+        report("make 7, a process", best, same=best["ours"][0].split()[:14] == best["plain"][0].split()[:14])
+        for title, supply, tables in rows():
+            (folder / "auction.toml").write_text(auction_file(supply))
+            (folder / "values.toml").write_text(values_file(tables))
+            (folder / "numbers").write_text(numbers_file(supply, tables))
+            ours = [PROGRAM, "trial", "auction.toml", "values.toml"]
+            best = least({"ours": ours, "plain": [plain, "trial", "numbers"]}, folder)
+            report(title, best, same=best["ours"][0] == best["plain"][0])
+            if "--programs" in sys.argv:
+                glpsol, cbc = solve(supply, tables, folder)
+                print(f"    as {BIDDERS + 1} integer programs: glpsol {glpsol}, cbc {cbc}")
+
+
+def report(title, best, same):
+    """Prints a row."""
+    ours, plain = best["ours"], best["plain"]
+    rounds = next((line.split()[3] for line in plain[0].splitlines() if line.startswith("clock 0 ")), "")
+    print(
+        f"{title:34} {ours[1] * 1000:8.0f} {plain[1] * 1000:8.0f} {ours[1] / max(plain[1], 1e-3):6.2f} {ours[2]:6.0f} {plain[2]:9.0f} {rounds:>7}"
+        f"{'' if same else '  TEXTS DIFFER'}"
+    )
+
+
+if __name__ == "__main__":
+    main()

@@ -1,0 +1,11 @@
+pub mod Finding
+pub mod Telling
+pub mod Turning
+pub mod Prices
+pub mod Whole
+pub mod Sharing
+pub mod Bidders
+pub mod Made
+pub mod Risen
+pub mod Leading
+pub mod Leaping

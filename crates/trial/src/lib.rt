@@ -1,0 +1,81 @@
+//! Trials: an auction whose bidders report what they demand by their valuations.
+#![tactic(auto)]
+
+ghost use Rattle.std.specs.Prelude.{◌≡◌, IfOk, IfErr};
+ghost use Rattle.lot_base.specs.Economy.{AllStrongSubstitutes};
+ghost use Rattle.lot_base.specs.Goods.{IsRange};
+ghost use Rattle.clock.specs.Reports.{all_bidders, histories};
+ghost use Rattle.trial.specs.Bidding.{bidders_of};
+ghost use Rattle.trial.specs.Trials.{IsTrial, IsTried, AreValuationsOf};
+ghost use Rattle.trial.specs.Refusals.{IsRefusal};
+
+mod carrying;
+pub mod faults;
+pub mod laws;
+pub mod making;
+mod rounds;
+mod substitutes;
+mod workers;
+
+use clock::Clock;
+pub use faults::TrialFault;
+use lot_base::{NoMemory, Terms};
+pub use making::make;
+use settlement::{Settlement, settle};
+use std::alloc::Global;
+use std::sync::Wait;
+use std::thread::Threads;
+use substitutes::check_all;
+use valuation::Valuation;
+use workers::run_clocks;
+
+/// The clocks of a trial, in the order of their numbers, and what they settle.
+#[derive(Debug, Drop)]
+pub struct Tried {
+    pub clocks: Vec<Clock>,
+    pub settlement: Settlement,
+}
+
+/// The auction on these terms where each bidder reports in every round what it demands by its valuation, the first valuation being that
+/// of bidder 1. The clocks are run by 1 to 64 workers, on whose number the answer does not depend. It is settled where the goods
+/// are strong substitutes for all bidders, and refused where they are not.
+pub fn trial<T: Threads + Wait + Sync>(
+    rt: &T,
+    alloc: Global,
+    terms: &Terms,
+    valuations: &[Valuation],
+    workers: u32,
+) -> Result<Tried, TrialFault>
+    requires valuations { AreValuationsOf terms.now valuations.now }
+    requires workers { IsRange 1 64 workers }
+    ensures tried { IfOk result (λ t. IsTried terms.now (bidders_of terms.now.goods valuations.now) (histories t.clocks.items) t.settlement) }
+    ensures refused { IfErr result (IsRefusal terms.now (bidders_of terms.now.goods valuations.now)) }
+{
+    match check_all(terms, valuations) {
+        Ok(()) => {}
+        Err(fault) => return Err(fault),
+    }
+    match run_clocks(rt, alloc, terms, valuations, workers) {
+        Ok(clocks) => settle_all(alloc, terms, valuations, clocks),
+        Err(NoMemory) => Err(TrialFault::NoMemory),
+    }
+}
+
+/// What the clocks of a trial settle, beside them.
+fn settle_all(
+    alloc: Global,
+    terms: &Terms,
+    valuations: &[Valuation],
+    clocks: Vec<Clock>,
+) -> Result<Tried, TrialFault>
+    requires valuations { AreValuationsOf terms.now valuations.now }
+    requires substitutes { AllStrongSubstitutes terms.now.goods (bidders_of terms.now.goods valuations.now) (all_bidders terms.now.bidders) }
+    requires trial { IsTrial terms.now (bidders_of terms.now.goods valuations.now) (histories clocks.items) }
+    ensures tried { IfOk result (λ t. IsTried terms.now (bidders_of terms.now.goods valuations.now) (histories t.clocks.items) t.settlement) }
+    ensures refused { IfErr result (λ fault. fault ≡ TrialFault.NoMemory) }
+{
+    match settle(alloc, terms, clocks.as_slice()) {
+        Ok(settlement) => Ok(Tried { clocks, settlement }),
+        Err(NoMemory) => Err(TrialFault::NoMemory),
+    }
+}

@@ -1,0 +1,171 @@
+//! The clocks of a trial, shared among workers.
+ghost use Rattle.std.specs.Prelude.{◌≡◌, ◌≤◌, ◌<◌, ◌+◌, ◌%◌, ◌≢◌, ℕ, length, slice_get, IfOk, IfSome, None};
+ghost use Rattle.clock.specs.Reports.{histories};
+ghost use Rattle.trial.specs.Bidding.{bidders_of};
+ghost use Rattle.trial.specs.Rounds.{AreColumns};
+ghost use Rattle.trial.specs.Trials.{IsTrial};
+ghost use Rattle.trial.specs.Workers.{HasClock, AreOfWorker, AreLaidOver, slot_at};
+
+use crate::carrying::columns_of;
+use crate::rounds::run_clock;
+use clock::Clock;
+use lot_base::{NoMemory, Terms};
+use std::alloc::Global;
+use std::thread;
+use std::thread::Threads;
+use valuation::{Column, Valuation};
+
+/// All clocks of a trial, in the order of their numbers, run by so many workers. Where no thread can be made the workers run one
+/// after another.
+pub(crate) fn run_clocks<T: Threads + Sync>(
+    rt: &T,
+    alloc: Global,
+    terms: &Terms,
+    valuations: &[Valuation],
+    workers: u32,
+) -> Result<Vec<Clock>, NoMemory>
+    requires count { length valuations.now ≡ terms.now.bidders }
+    requires workers { 1 ≤ workers }
+    ensures { IfOk result (λ clocks. IsTrial terms.now (bidders_of terms.now.goods valuations.now) (histories clocks.items)) }
+{
+    let workers = workers as usize;
+    match thread::map_indices(
+        rt,
+        alloc,
+        workers,
+        &|worker| { run_share(alloc, terms, valuations, workers, worker) },
+    ) {
+        Ok(parts) => put_together(alloc, terms, valuations, workers, parts),
+        Err(_) => Err(NoMemory),
+    }
+}
+
+/// The clocks that a worker runs, each at the place of its number.
+fn run_share(
+    alloc: Global,
+    terms: &Terms,
+    valuations: &[Valuation],
+    workers: usize,
+    worker: usize,
+) -> Result<Vec<Option<Clock>>, NoMemory>
+    requires count { length valuations.now ≡ terms.now.bidders }
+    requires workers { 1 ≤ workers }
+    ensures { IfOk result (λ slots. AreOfWorker terms.now (bidders_of terms.now.goods valuations.now) workers worker (terms.now.bidders + 1) slots.items) }
+{
+    let columns = match columns_of(alloc, &terms.goods) {
+        Ok(columns) => columns,
+        Err(NoMemory) => return Err(NoMemory),
+    };
+    let mut slots = Vec::new(alloc);
+    for number in 0..terms.bidders + 1 {
+        match run_own(alloc, terms, valuations, &columns, workers, worker, number) {
+            Ok(slot) => match slots.push(slot) {
+                Ok(()) => {}
+                Err(_) => return Err(NoMemory),
+            },
+            Err(NoMemory) => return Err(NoMemory),
+        }
+    }
+    Ok(slots)
+}
+
+/// The clock of this number, if it is one of the worker's.
+fn run_own(
+    alloc: Global,
+    terms: &Terms,
+    valuations: &[Valuation],
+    columns: &[Column],
+    workers: usize,
+    worker: usize,
+    number: u8,
+) -> Result<Option<Clock>, NoMemory>
+    requires columns { AreColumns terms.now.goods columns.now }
+    requires count { length valuations.now ≡ terms.now.bidders }
+    requires workers { 1 ≤ workers }
+    requires number { number ≤ terms.now.bidders }
+    ensures own { IfOk result (λ slot. number % workers ≡ worker → HasClock terms.now (bidders_of terms.now.goods valuations.now) number slot) }
+    ensures other { IfOk result (λ slot. number % workers ≢ worker → slot ≡ None) }
+{
+    if number as usize % workers != worker {
+        return Ok(None);
+    }
+    match run_clock(alloc, terms, valuations, columns, number) {
+        Ok(clock) => Ok(Some(clock)),
+        Err(NoMemory) => Err(NoMemory),
+    }
+}
+
+/// The clocks of all workers, in the order of their numbers.
+fn put_together(
+    alloc: Global,
+    terms: &Terms,
+    valuations: &[Valuation],
+    workers: usize,
+    parts: Vec<Result<Vec<Option<Clock>>, NoMemory>>,
+) -> Result<Vec<Clock>, NoMemory>
+    requires workers { 1 ≤ workers }
+    requires count { length parts.items ≡ workers }
+    requires parts { (worker : ℕ) → IfSome (slice_get parts.items worker) (λ part. IfOk part (λ slots. AreOfWorker terms.now (bidders_of terms.now.goods valuations.now) workers worker (terms.now.bidders + 1) slots.items)) }
+    ensures { IfOk result (λ clocks. IsTrial terms.now (bidders_of terms.now.goods valuations.now) (histories clocks.items)) }
+{
+    let mut slots = match empty_slots(alloc, terms.bidders) {
+        Ok(slots) => slots,
+        Err(NoMemory) => return Err(NoMemory),
+    };
+    for part in parts {
+        match part {
+            Ok(part) => lay_over(&mut slots, part),
+            Err(NoMemory) => return Err(NoMemory),
+        }
+    }
+    in_order(alloc, terms, valuations, slots)
+}
+
+/// An empty place for each clock.
+fn empty_slots(alloc: Global, bidders: u8) -> Result<Vec<Option<Clock>>, NoMemory>
+    ensures { IfOk result (λ slots. length slots.items ≡ bidders + 1) }
+{
+    let mut slots = Vec::new(alloc);
+    for number in 0..u32::from(bidders) + 1 {
+        match slots.push(None) {
+            Ok(()) => {}
+            Err(_) => return Err(NoMemory),
+        }
+    }
+    Ok(slots)
+}
+
+/// Puts each clock of a part at its place.
+fn lay_over(slots: &mut Vec<Option<Clock>>, part: Vec<Option<Clock>>)
+    requires { length part.items ≡ length slots.old.items }
+    ensures { AreLaidOver part.items slots.old.items slots.new.items }
+{
+    let mut number = 0;
+    for slot in part {
+        if slot.is_some() {
+            slots[number] = slot;
+        }
+        number += 1;
+    }
+}
+
+/// The clocks of places that all have theirs.
+fn in_order(
+    alloc: Global,
+    terms: &Terms,
+    valuations: &[Valuation],
+    slots: Vec<Option<Clock>>,
+) -> Result<Vec<Clock>, NoMemory>
+    requires count { length slots.items ≡ terms.now.bidders + 1 }
+    requires full { (number : ℕ) → number ≤ terms.now.bidders → HasClock terms.now (bidders_of terms.now.goods valuations.now) number (slot_at slots.items number) }
+    ensures { IfOk result (λ clocks. IsTrial terms.now (bidders_of terms.now.goods valuations.now) (histories clocks.items)) }
+{
+    let mut clocks = Vec::new(alloc);
+    for slot in slots {
+        match clocks.push(slot.unwrap()) {
+            Ok(()) => {}
+            Err(_) => return Err(NoMemory),
+        }
+    }
+    Ok(clocks)
+}
