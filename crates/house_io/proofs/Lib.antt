@@ -2,6 +2,9 @@ pub mod Telling
 mod Fronts
 mod Reading
 mod Writing
+mod Sending
+mod Rows
+mod Renewed
 mod Counting
 pub mod Moments
 pub mod Overlays

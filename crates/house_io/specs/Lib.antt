@@ -3,13 +3,17 @@ pub mod Told
 pub mod Sources
 pub mod Reading
 pub mod Sinks
+pub mod Links
+pub mod Doors
 pub mod Shelves
+pub mod Nets
 pub mod Counts
 pub mod Tallies
 pub mod SureForms
 pub mod ShelvedFiles
 pub mod SureFiles
 pub mod ListForms
+pub mod LinkForms
 pub mod ListShelves
 pub mod ListFiles
 pub mod Moments

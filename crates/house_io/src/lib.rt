@@ -4,6 +4,10 @@
 
 // The traits.
 pub mod disk;
+pub mod doors;
+pub mod gates;
+pub mod links;
+pub mod nets;
 pub mod shelves;
 pub mod sinks;
 pub mod sources;
@@ -15,16 +19,25 @@ pub mod real;
 mod tallies;
 
 pub use disk::Disk;
+pub use doors::Door;
+pub use gates::{Gate, GatedDisk};
+pub use links::{Link, send_whole};
 pub use memory::list::{ListSink, ListSource};
 pub use memory::list_disk::ListDisk;
+pub use memory::list_link::ListLink;
+pub use memory::list_net::{ListDoor, ListNet};
 pub use memory::list_shelf::{ListFile, ListShelf};
 pub use memory::recorded_file::{Fill, RecordedFile};
 pub use memory::sure::{SureSink, SureSource};
 pub use memory::sure_disk::SureDisk;
+pub use memory::sure_link::SureLink;
+pub use memory::sure_net::{SureDoor, SureNet};
 pub use memory::sure_shelf::{SureFile, SureShelf};
+pub use nets::Net;
 pub use real::file_disk::FileDisk;
 pub use real::folder_shelf::FolderShelf;
 pub use real::streams::{FileSource, StdoutSink};
+pub use real::tcp::{TcpDoor, TcpLink, TcpNet};
 pub use shelves::{Refusal, Shelf};
 pub use sinks::{Sink, write_whole};
 pub use sources::{ReadWhole, Source, read_whole};

@@ -3,9 +3,15 @@
 mod failing;
 pub mod list;
 pub mod list_disk;
+pub mod list_link;
+pub mod list_net;
 pub mod list_shelf;
+mod places;
 pub mod recorded_file;
+mod rows;
 mod shelved;
 pub mod sure;
 pub mod sure_disk;
+pub mod sure_link;
+pub mod sure_net;
 pub mod sure_shelf;

@@ -1,6 +1,7 @@
-//! The real forms: files that are named relative to the working directory, and standard output. They count their faults and
+//! The real forms: files that are named relative to the working directory, standard output, and TCP. They count their faults and
 //! tell no content.
 pub mod file_disk;
 pub mod folder_shelf;
 mod opening;
 pub mod streams;
+pub mod tcp;

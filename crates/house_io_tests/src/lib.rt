@@ -6,4 +6,6 @@ mod disk_tests;
 #[cfg(test)]
 mod file_tests;
 #[cfg(test)]
+mod link_tests;
+#[cfg(test)]
 mod tests;

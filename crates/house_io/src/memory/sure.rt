@@ -107,6 +107,17 @@ impl SureSink {
         })
     }
 
+    /// An empty sink without room.
+    pub(crate) fn without_room(alloc: Global) -> SureSink
+        ensures { result ≡ empty_sink 0 }
+    {
+        SureSink {
+            bytes: Vec::new(alloc),
+            room: 0,
+            overflowed: false,
+        }
+    }
+
     /// The bytes that it kept.
     pub fn written(&self) -> &[u8]
         ensures { IfSome self.now.written (λ bytes. result.now ≡ bytes) }

@@ -1,0 +1,44 @@
+//! Disks before which a gate is reached.
+ghost use Rattle.std.specs.Prelude.{◌≡◌};
+
+use crate::{Disk, Failed};
+
+/// Somewhere that a call waits, or is noted.
+pub trait Gate {
+    /// The call has come to the gate.
+    fn reach(&mut self);
+}
+
+/// A disk that reaches its gate before each write, and else is the disk.
+#[derive(Drop)]
+pub struct GatedDisk<D: Disk, G: Gate> {
+    pub disk: D,
+    pub gate: G,
+}
+
+impl<D: Disk, G: Gate> Disk for GatedDisk<D, G> {
+    ghost tells = { λ gated. D.tells gated.disk };
+
+    ghost moments = { λ gated. D.moments gated.disk };
+
+    ghost faults = { λ gated. D.faults gated.disk };
+
+    ghost reads_an_image = { λ gated told. D.reads_an_image gated.disk told };
+
+    fn size(&mut self) -> Result<u64, Failed> {
+        self.disk.size()
+    }
+
+    fn read_at(&mut self, at: u64, into: &mut [u8]) -> Result<usize, Failed> {
+        self.disk.read_at(at, into)
+    }
+
+    fn write_at(&mut self, at: u64, from: &[u8]) -> Result<(), Failed> {
+        self.gate.reach();
+        self.disk.write_at(at, from)
+    }
+
+    fn sync(&mut self) -> Result<(), Failed> {
+        self.disk.sync()
+    }
+}
