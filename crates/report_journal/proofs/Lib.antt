@@ -11,3 +11,4 @@ pub mod Chains
 pub mod OneKind
 pub mod FindKind
 pub mod Spans
+pub mod Rooms

@@ -1,6 +1,6 @@
 -- What each call of a journal answers and leaves, by cases on its answer. A relation between two states takes the old one, then
 -- the new one. What is said of contents, moments and bytes is said where the disk tells them at the call's end; all else always.
-use Rattle.std.specs.Prelude.{◌≡◌, ◌≢◌, ℕ, ◌+◌, ◌≤◌, ◌<◌, Bool, IsTrue, List, [], ◌∷◌, ◌++◌, length, slice_index, Option, Some, None, IsSome, MatchOption, Result, Ok, Err}
+use Rattle.std.specs.Prelude.{◌≡◌, ◌≢◌, ℕ, ◌+◌, ◌-◌, ◌≤◌, ◌<◌, Bool, IsTrue, List, [], ◌∷◌, ◌++◌, length, slice_index, Option, Some, None, IsSome, MatchOption, Result, Ok, Err}
 use Rattle.house_io.specs.Faults.{Rose}
 use Rattle.house_io.specs.Moments.{Moments, Leaves, AtEach, Torn, overlaid, synced_at}
 use Rattle.lot_base.specs.declared.limits.TheConstants.{GREATEST_FILE}
@@ -50,6 +50,7 @@ pub record IsReady {D : Type 0} (payload : List ℕ) (j : JournalOf D) : Type 0 
 pub record KeepsAll {D : Type 0} (tells : D → Bool) (old new : JournalOf D) : Type 0 where
   pub records : KeepsRecords old new
   pub pending : new.pending ≡ old.pending
+  pub spare : new.spare ≡ old.spare
   pub contents : IsTrue (tells new.disk) → new.contents ≡ old.contents
 
 -- at each moment of a forming a read and each image are unformed or stand for no payloads, and no byte but those of the header and
@@ -64,6 +65,7 @@ pub record Forms {D : Type 0} (tells : D → Bool) (moments : D → Moments) (fa
   pub places : new.places ≡ []
   pub end : new.end ≡ first_gate header
   pub pending : new.pending ≡ None
+  pub spare : new.spare ≡ 0
   pub steady : faults new.disk ≡ faults old
   pub told : IsTrue (tells new.disk) → IsTrue (tells old)
   pub every_image : IsTrue (tells new.disk) → Leaves (StandsFor (empty header)) (moments new.disk).now
@@ -90,15 +92,16 @@ pub record Attaches {D : Type 0} (moments : D → Moments) (given : D) (scan : S
   pub places : new.places ≡ places_in scan
   pub end : new.end ≡ end_in scan
   pub pending : new.pending ≡ None
+  pub spare : new.spare ≡ 0
 
--- an append
+-- An append. It takes a spare record where it writes; where one is spare it takes no memory.
 abbrev pub Appends : {D : Type 0} → List ℕ → JournalOf D → JournalOf D → Result ℕ JournalFault → Type 0
 Appends payload old new (Ok number) =
-    IsReady payload old × AddsRecord (length payload) old new × (new.pending ≡ None) × (number ≡ length new.places) × (number ≡ length new.contents.payloads)
+    IsReady payload old × AddsRecord (length payload) old new × (new.pending ≡ None) × (new.spare ≡ old.spare - 1) × (number ≡ length new.places) × (number ≡ length new.contents.payloads)
 Appends payload old new (Err NotMended) = IsSome old.pending × (new ≡ old)
 Appends payload old new (Err (Full needed)) = (old.pending ≡ None) × (needed ≡ record_end payload old) × (GREATEST_FILE < needed) × (new ≡ old)
-Appends payload old new (Err DiskFault) = IsReady payload old × KeepsRecords old new × (new.pending ≡ Some payload)
-Appends payload old new (Err NoMemory) = IsReady payload old × (new ≡ old)
+Appends payload old new (Err DiskFault) = IsReady payload old × KeepsRecords old new × (new.pending ≡ Some payload) × (new.spare ≡ old.spare - 1)
+Appends payload old new (Err NoMemory) = IsReady payload old × (new ≡ old) × (old.spare ≡ 0)
 
 -- where the disk tells: an append that went well has written its bytes and no others, and every image has the record; one that failed
 -- has left the contents
@@ -114,12 +117,12 @@ pub record AppendLeaves (payload : List ℕ) (contents : Contents) (end : ℕ) (
   pub stand : AtEach (IsBeforeOrAfter contents payload) old new
   pub range : AtEach (Torn end (6 + length payload) old.now.read) old new
 
--- a mend
+-- A mend. A record that it drops is spare again.
 abbrev pub Mends : {D : Type 0} → JournalOf D → JournalOf D → Result Mended JournalFault → Type 0
 Mends old new (Ok Nothing) = (old.pending ≡ None) × (new ≡ old)
-Mends old new (Ok Counted) = MatchOption old.pending ⊥ (λ payload. AddsRecord (length payload) old new × (new.pending ≡ None))
-Mends old new (Ok Dropped) = IsSome old.pending × KeepsRecords old new × (new.pending ≡ None)
-Mends old new (Err DiskFault) = IsSome old.pending × KeepsRecords old new × (new.pending ≡ old.pending)
+Mends old new (Ok Counted) = MatchOption old.pending ⊥ (λ payload. AddsRecord (length payload) old new × (new.pending ≡ None) × (new.spare ≡ old.spare))
+Mends old new (Ok Dropped) = IsSome old.pending × KeepsRecords old new × (new.pending ≡ None) × (new.spare ≡ old.spare + 1)
+Mends old new (Err DiskFault) = IsSome old.pending × KeepsRecords old new × (new.pending ≡ old.pending) × (new.spare ≡ old.spare)
 Mends old new (Err NoMemory) = ⊥
 Mends old new (Err NotMended) = ⊥
 Mends old new (Err (Full needed)) = ⊥

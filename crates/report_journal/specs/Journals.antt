@@ -1,7 +1,8 @@
 -- A journal as its callers see it: a disk, the payloads that count, and the one that is in doubt.
-use Rattle.std.specs.Prelude.{◌≡◌, ℕ, ◌+◌, ◌*◌, ◌≤◌, ◌<◌, List, [], ◌∷◌, ◌++◌, length, take, drop, map, Option, Some, None}
+use Rattle.std.specs.Prelude.{◌≡◌, ℕ, ◌+◌, ◌*◌, ◌^◌, ◌≤◌, ◌<◌, List, [], ◌∷◌, ◌++◌, length, take, drop, map, Option, Some, None}
+use Rattle.std.specs.Option.{option_map}
 use Rattle.house_io.specs.Moments.{Moments, Leaves, IsSettled}
-use Rattle.lot_base.specs.declared.limits.TheConstants.{GREATEST_FILE}
+use Rattle.lot_base.specs.declared.limits.TheConstants.{GREATEST_PAYLOAD, GREATEST_FILE}
 use Rattle.report_journal.specs.declared.headers.Header.{Header}
 use Rattle.report_journal.specs.Format.{Contents, IsHeader, StandsFor, Fits, front, first_gate}
 use Rattle.report_journal.specs.Puts.{with_one_more, IsBeforeOrAfter}
@@ -17,6 +18,8 @@ pub record JournalOf (D : Type 0) : Type 0 where
   pub end : ℕ
   -- the payload in doubt: that of an append that failed on the disk and was not mended
   pub pending : Option (List ℕ)
+  -- how many more records an append may put without taking memory
+  pub spare : ℕ
 
 -- Of two states of a journal: the header is the same, and so are the records in number and place.
 pub record KeepsRecords {D : Type 0} (old new : JournalOf D) : Type 0 where
@@ -60,14 +63,30 @@ pub record IsKept (x : Contents) (places : List Place) (end : ℕ) (pending : Op
   pub placed : ArePlaced (first_gate x.header) places x.payloads
   pub size : length (front x) ≡ end
 
--- the record in doubt fits, and its place has room among so many
-abbrev pub HasRoom : ℕ → ℕ → ℕ → Option (List ℕ) → Type 0
-HasRoom end len capacity None = Unit {0}
-HasRoom end len capacity (Some payload) = (end + 6 + length payload ≤ GREATEST_FILE) × (len < capacity)
+-- the payload in doubt, of this length in the buffer that holds the record that was put last: behind the four bytes of its length
+abbrev pub in_doubt : List ℕ → Option ℕ → Option (List ℕ)
+in_doubt bytes pending = option_map (λ size. take size (drop 4 bytes)) pending
+
+-- the room for so many places beside those that there are, and for the bytes of the longest record
+pub record IsReserved (more len places_room bytes_room : ℕ) : Type 0 where
+  pub places : len + more ≤ places_room
+  pub bytes : GREATEST_PAYLOAD + 5 ≤ bytes_room
+
+-- the record in doubt, of a payload of this length, fits and stands in the buffer, and its place has room beside the spare ones
+pub record HoldsDoubt (size end len spare : ℕ) (bytes : List ℕ) (places_room bytes_room : ℕ) : Type 0 where
+  pub fits : end + 6 + size ≤ GREATEST_FILE
+  pub buffered : size + 4 ≤ length bytes
+  pub below : spare < 2 ^ 32
+  pub reserved : IsReserved (spare + 1) len places_room bytes_room
+
+-- the room that a journal keeps
+abbrev pub HasRoom : ℕ → ℕ → ℕ → List ℕ → ℕ → ℕ → Option ℕ → Type 0
+HasRoom end len spare bytes places_room bytes_room None = (spare ≤ 2 ^ 32) × (1 ≤ spare → IsReserved spare len places_room bytes_room)
+HasRoom end len spare bytes places_room bytes_room (Some size) = HoldsDoubt size end len spare bytes places_room bytes_room
 
 -- what a journal keeps of any disk
-pub record IsWithin (header : Header) (places : List Place) (end capacity : ℕ) (pending : Option (List ℕ)) : Type 0 where
+pub record IsWithin (header : Header) (places : List Place) (end spare : ℕ) (bytes : List ℕ) (places_room bytes_room : ℕ) (pending : Option ℕ) : Type 0 where
   pub spelled : IsHeader header
   pub limit : end + 1 ≤ GREATEST_FILE
   pub roomy : 5 * length places ≤ end
-  pub room : HasRoom end (length places) capacity pending
+  pub room : HasRoom end (length places) spare bytes places_room bytes_room pending

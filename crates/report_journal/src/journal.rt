@@ -1,19 +1,21 @@
 //! A journal of payloads, each on the disk before it is acknowledged.
-ghost use Rattle.std.specs.Prelude.{◌≡◌, ◌+◌, ◌-◌, ◌≤◌, ◌<◌, ◌++◌, [], ◌∷◌, length, vec_len, vec_capacity, slice_get, IsTrue, IfOk, IfErr, IfSome, None, Some};
+ghost use Rattle.std.specs.Prelude.{◌≡◌, ◌+◌, ◌-◌, ◌≤◌, ◌<◌, ◌++◌, [], ◌∷◌, length, vec_len, vec_capacity, slice_get, max, IsTrue, IfOk, OnOk, OnErr, IfErr, IfSome, None, Some};
 ghost use Rattle.house_io.specs.Moments.{IsSettled};
 ghost use Rattle.lot_base.specs.declared.limits.TheConstants.{GREATEST_PAYLOAD, GREATEST_FILE};
-ghost use Rattle.report_journal.specs.Calls.{OnlyReads, CountsFaults, CountsReading, Appends, AppendEnds, AppendLeaves, Mends, MendEnds, MendLeaves, KeepsAll, Forms, FailsToForm, Attaches};
+ghost use Rattle.report_journal.specs.Calls.{OnlyReads, CountsFaults, CountsReading, Appends, AppendEnds, AppendLeaves, IsReady, Mends, MendEnds, MendLeaves, KeepsAll, Forms, FailsToForm, Attaches};
 ghost use Rattle.report_journal.specs.Format.{IsHeader, IsUnformed};
 ghost use Rattle.report_journal.specs.Journals.{IsKept, payload_at};
+ghost use Rattle.report_journal.specs.declared.spellings.TheConstants.{LONGEST_RECORD};
 ghost use Rattle.report_journal.specs.Scans.{IsFormed, IsScan, IsInOrder};
 
 use crate::faults::{JournalFault, Mended, NotFormed};
 use crate::headers::{Header, head_bytes};
 use crate::places::Place;
 use crate::scanning::Scanned;
-use crate::spellings::record_bytes;
+use crate::spellings::{LONGEST_RECORD, fill_record};
 use crate::steps::{form_file, is_open_now, put_record};
 use house_io::{Disk, Failed};
+use lot_base::NoMemory;
 use lot_base::limits::GREATEST_FILE;
 use std::alloc::Global;
 use std::marker::Model;
@@ -27,14 +29,17 @@ pub struct Journal<D: Disk> {
     places: Vec<Place>,
     /// The gate that ends the list.
     end: u32,
-    /// The payload in doubt: that of an append that failed on the disk and was not mended.
-    pending: Option<Vec<u8>>,
+    /// The bytes of the record that was put last, behind its gate.
+    buffer: Vec<u8>,
+    /// The length of the payload in doubt, which the record has: that of an append that failed on the disk and was not mended.
+    pending: Option<u32>,
+    /// How many more records there is room for.
+    spare: u64,
 }
 
 impl<D: Disk> Model for Journal<D> {
     ghost use Rattle.std.specs.Prelude.{vec_capacity, IsTrue};
-    ghost use Rattle.std.specs.Option.{option_map};
-    ghost use Rattle.report_journal.specs.Journals.{JournalOf, said, IsWithin, IsKept};
+    ghost use Rattle.report_journal.specs.Journals.{JournalOf, said, in_doubt, IsWithin, IsKept};
 
     ghost Value = { JournalOf D };
 
@@ -43,12 +48,13 @@ impl<D: Disk> Model for Journal<D> {
       contents = said j.header j.places.items (D.moments j.disk).now.read;
       places = j.places.items;
       end = j.end;
-      pending = option_map (λ p. p.items) j.pending;
+      pending = in_doubt j.buffer.items j.pending;
+      spare = j.spare;
     } };
 
-    ghost invariant = { λ j. IsWithin j.header j.places.items j.end (vec_capacity j.places) (option_map (λ p. p.items) j.pending)
+    ghost invariant = { λ j. IsWithin j.header j.places.items j.end j.spare j.buffer.items (vec_capacity j.places) (vec_capacity j.buffer) j.pending
         × (IsTrue (D.tells j.disk) → IsKept (said j.header j.places.items (D.moments j.disk).now.read)
-        j.places.items j.end (option_map (λ p. p.items) j.pending) (D.moments j.disk)) };
+        j.places.items j.end (in_doubt j.buffer.items j.pending) (D.moments j.disk)) };
 }
 
 impl<D: Disk> Journal<D> {
@@ -74,15 +80,33 @@ impl<D: Disk> Journal<D> {
             header: _,
             places: _,
             end: _,
+            buffer: _,
             pending: _,
+            spare: _,
         } = self;
         disk
     }
 }
 
 impl<D: Disk> Journal<D> {
+    /// Takes room for so many more records, where there is less. Where there is enough it takes no memory.
+    pub fn reserve(&mut self, _alloc: Global, records: u32) -> Result<(), NoMemory>
+        ensures ok { OnOk result (self.new ≡ record self.old { spare = max self.old.spare records }) }
+        ensures err { OnErr result (self.new ≡ self.old) }
+        ensures enough { OnErr result (self.old.spare < records) }
+    {
+        let records = records as u64;
+        if records <= self.spare {
+            return Ok(());
+        }
+        // One place more than those spare: that of the record in doubt.
+        make_room(&mut self.places, &mut self.buffer, records as usize + 1)?;
+        self.spare = records;
+        Ok(())
+    }
+
     /// Adds a record and answers its number, from 1. At `Ok` every image has it. After `DiskFault` it is in doubt until a
-    /// mend succeeds. Its memory is taken before the first write.
+    /// mend succeeds. Its memory is taken before the first write; where a record is spare it takes none.
     pub fn append(&mut self, alloc: Global, payload: &[u8]) -> Result<u32, JournalFault>
         requires { length payload.now ≤ GREATEST_PAYLOAD }
         ensures answer { Appends payload.now self.old self.new result }
@@ -100,12 +124,30 @@ impl<D: Disk> Journal<D> {
         if needed > GREATEST_FILE {
             return Err(JournalFault::Full(needed));
         }
-        let bytes = record_bytes(alloc, payload)?;
-        let kept = payload.to_vec(alloc)?;
-        self.places.reserve(1)?;
-        match put_record(&mut self.disk, self.end as u64, &bytes) {
+        match self.reserve(alloc, 1) {
+            Err(NoMemory) => Err(JournalFault::NoMemory),
+            Ok(()) => self.put(payload),
+        }
+    }
+
+    /// Adds a record that fits and for which there is room. Takes no memory.
+    fn put(&mut self, payload: &[u8]) -> Result<u32, JournalFault>
+        requires short { length payload.now ≤ GREATEST_PAYLOAD }
+        requires ready { IsReady payload.now self.old }
+        requires spare { 1 ≤ self.old.spare }
+        ensures answer { Appends payload.now self.old self.new result }
+        ensures end { IsTrue (D.tells self.new.disk) → AppendEnds payload.now self.old.contents self.new.contents self.old.end
+            (D.moments self.old.disk) (D.moments self.new.disk) result }
+        ensures moments { IsTrue (D.tells self.new.disk)
+            → AppendLeaves payload.now self.old.contents self.old.end (D.moments self.old.disk) (D.moments self.new.disk) }
+        ensures tells { IsTrue (D.tells self.new.disk) → IsTrue (D.tells self.old.disk) }
+        ensures faults { CountsFaults (D.faults self.old.disk) (D.faults self.new.disk) result }
+    {
+        fill_record(&mut self.buffer, payload);
+        match put_record(&mut self.disk, self.end as u64, &self.buffer) {
             Err(Failed) => {
-                self.pending = Some(kept);
+                self.pending = Some(payload.len() as u32);
+                self.spare -= 1;
                 Err(JournalFault::DiskFault)
             }
             Ok(()) => {
@@ -114,7 +156,8 @@ impl<D: Disk> Journal<D> {
                     length: payload.len() as u32,
                 };
                 push_reserved(&mut self.places, place);
-                self.end = needed - 1;
+                self.end = self.end + 5 + payload.len() as u32;
+                self.spare -= 1;
                 Ok(self.places.len() as u32)
             }
         }
@@ -132,14 +175,14 @@ impl<D: Disk> Journal<D> {
         ensures tells { IsTrue (D.tells self.new.disk) → IsTrue (D.tells self.old.disk) }
         ensures faults { CountsFaults (D.faults self.old.disk) (D.faults self.new.disk) result }
     {
-        let length = match &self.pending {
-            None => return Ok(Mended::Nothing),
-            Some(payload) => payload.len() as u32,
+        let Some(length) = self.pending else {
+            return Ok(Mended::Nothing);
         };
         match is_open_now(&mut self.disk, self.end as u64) {
             Err(Failed) => Err(JournalFault::DiskFault),
             Ok(false) => {
                 self.pending = None;
+                self.spare += 1;
                 Ok(Mended::Dropped)
             }
             Ok(true) => {
@@ -188,12 +231,16 @@ impl<D: Disk> Journal<D> {
         else {
             unreachable!()
         };
+        let places = records.into_vec();
+        let buffer = Vec::new(*places.allocator());
         Journal {
             disk,
             header,
-            places: records.into_vec(),
+            places,
             end,
+            buffer,
             pending: None,
+            spare: 0,
         }
     }
 
@@ -221,18 +268,38 @@ impl<D: Disk> Journal<D> {
                 header: *header,
                 places: Vec::new(alloc),
                 end: header.first_gate(),
+                buffer: Vec::new(alloc),
                 pending: None,
+                spare: 0,
             }),
         }
+    }
+}
+
+/// Makes room for so many more places, and for the bytes of the longest record. What is kept stays, whatever is answered.
+fn make_room(places: &mut Vec<Place>, buffer: &mut Vec<u8>, more: usize) -> Result<(), NoMemory>
+    ensures places { (places.new.items ≡ places.old.items) × (vec_capacity places.old ≤ vec_capacity places.new) }
+    ensures buffer { (buffer.new.items ≡ buffer.old.items) × (vec_capacity buffer.old ≤ vec_capacity buffer.new) }
+    ensures room_places { OnOk result (length places.old.items + more ≤ vec_capacity places.new) }
+    ensures room_buffer { OnOk result (LONGEST_RECORD ≤ vec_capacity buffer.new) }
+{
+    let rest = LONGEST_RECORD.saturating_sub(buffer.len());
+    match buffer.reserve(rest) {
+        Err(_) => Err(NoMemory),
+        Ok(()) => match places.reserve(more) {
+            Err(_) => Err(NoMemory),
+            Ok(()) => Ok(()),
+        },
     }
 }
 
 /// Takes no memory.
 fn push_reserved(places: &mut Vec<Place>, place: Place)
     requires { vec_len places.old < vec_capacity places.old }
-    ensures { places.new.items ≡ places.old.items ++ place ∷ [] }
+    ensures places { places.new.items ≡ places.old.items ++ place ∷ [] }
+    ensures room { vec_capacity places.old ≤ vec_capacity places.new }
 {
-    let _ = places.push(place);
+    let _in_room = places.push(place);
 }
 
 /// Reads a payload at its place; bytes that a disk has not are 0.

@@ -1,10 +1,10 @@
 //! The bytes of gates and records. Numbers are big-endian.
-ghost use Rattle.std.specs.Prelude.{◌≡◌, ◌+◌, ◌≤◌, ◌++◌, [], ◌∷◌, length, IfOk};
+ghost use Rattle.std.specs.Prelude.{◌≡◌, ◌+◌, ◌≤◌, ◌++◌, [], ◌∷◌, length, vec_capacity};
 ghost use Rattle.std.specs.Int.{w32, to_be_bytes, from_be_bytes};
 ghost use Rattle.lot_base.specs.declared.limits.TheConstants.{GREATEST_PAYLOAD};
 ghost use Rattle.report_journal.specs.Format.{body};
 
-use std::alloc::{AllocError, Global};
+use lot_base::limits::GREATEST_PAYLOAD;
 
 /// A gate with this byte is open; with any other it is closed.
 pub const OPEN: u8 = 0xa5;
@@ -12,19 +12,23 @@ pub const OPEN: u8 = 0xa5;
 /// The byte with which a closed gate is written.
 pub const SHUT: u8 = 0;
 
+/// The bytes of the longest record behind its gate: a length, a payload and a closed gate.
+pub const LONGEST_RECORD: usize = GREATEST_PAYLOAD as usize + 5;
+
 /// The bytes of the shortest file that is formed: its gate, a header of version 1, and the gate of record 1.
 pub const SHORTEST_FORMED: usize = 42;
 
-/// A payload's length, the payload and a closed gate.
-pub fn record_bytes(alloc: Global, payload: &[u8]) -> Result<Vec<u8>, AllocError>
-    requires { length payload.now ≤ GREATEST_PAYLOAD }
-    ensures { IfOk result (λ bytes. bytes.items ≡ body payload.now ++ 0 ∷ []) }
+/// Writes a payload's length, the payload and a closed gate into a buffer that has room for them. Takes no memory.
+pub fn fill_record(bytes: &mut Vec<u8>, payload: &[u8])
+    requires short { length payload.now ≤ GREATEST_PAYLOAD }
+    requires room { length payload.now + 5 ≤ vec_capacity bytes.old }
+    ensures record { bytes.new.items ≡ body payload.now ++ 0 ∷ [] }
+    ensures room { vec_capacity bytes.old ≤ vec_capacity bytes.new }
 {
-    let mut bytes = Vec::with_capacity(alloc, payload.len() + 5)?;
-    bytes.extend_from_slice(&(payload.len() as u32).to_be_bytes())?;
-    bytes.extend_from_slice(payload)?;
-    bytes.push(SHUT)?;
-    Ok(bytes)
+    bytes.clear();
+    let _length = bytes.extend_from_slice(&(payload.len() as u32).to_be_bytes());
+    let _payload = bytes.extend_from_slice(payload);
+    let _gate = bytes.push(SHUT);
 }
 
 /// The number that four bytes spell.

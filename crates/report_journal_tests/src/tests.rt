@@ -174,6 +174,21 @@ fn a_record_is_written_as_the_format_says(rt: HostRuntime) -> Result<(), Fail> {
     Ok(())
 }
 
+/// The numbers that appends into reserved room answer: two records are reserved, and a third takes its own memory.
+fn reserved_numbers(alloc: Global) -> Result<(u32, u32, u32), Fail> {
+    let mut journal = empty_journal(alloc, plain())?;
+    journal.reserve(alloc, 2)?;
+    let (first, second) = append_both(alloc, &mut journal)?;
+    let third = journal.append(alloc, &PAYLOAD)?;
+    Ok((first, second, third))
+}
+
+#[test]
+fn records_are_appended_into_reserved_room(rt: HostRuntime) -> Result<(), Fail> {
+    assert_eq!(rt; reserved_numbers(rt.alloc())?, (1, 2, 3));
+    Ok(())
+}
+
 #[test]
 fn a_header_with_opening_prices_is_written_as_the_format_says(rt: HostRuntime) -> Result<(), Fail> {
     let alloc = rt.alloc();

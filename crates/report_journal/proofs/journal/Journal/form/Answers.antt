@@ -31,7 +31,7 @@ invariant_of-result g c =
         spelled = c.requires.header;
         limit = omega (arith, c.first_gate.ensures, header_within c.args.header.now c.requires.header);
         roomy = omega arith;
-        room = tt;
+        room = (omega arith, λ some. absurd (omega (arith, some)));
       },
       λ told. record {
         stands = (c.in-Ok-form_file.ensures.done told, c.in-Ok-form_file.ensures.formed told c.args.header.now is_head);
@@ -48,6 +48,7 @@ returns-clause-ok g c =
       places = refl;
       end = c.first_gate.ensures;
       pending = refl;
+      spare = refl;
       steady = c.in-Ok-form_file.ensures.cause.steady;
       told = λ told. c.form_file.ensures.tells told;
       every_image = λ told. leaves_here _ _ (c.in-Ok-form_file.ensures.done told) (c.in-Ok-form_file.ensures.formed told c.args.header.now is_head);

@@ -1,9 +1,8 @@
-use Rattle.std.proofs.Common.{◌≡◌, ◌+◌, ◌<◌, ◌≤◌, [], ◌∷◌, length, vec_capacity, Some, refl, ap, subst, arith, rules, length-append}
-use Rattle.std.specs.Option.{option_map}
+use Rattle.std.proofs.Common.{◌≡◌, ◌+◌, [], ◌∷◌, length, take, drop, vec_capacity, Some, refl, sym, ap, subst, arith, length-append}
 use Rattle.house_io.proofs.Moments.{leaves_here}
-use Rattle.lot_base.specs.declared.limits.TheConstants.{GREATEST_FILE}
-use Rattle.report_journal.specs.Journals.{HasRoom}
+use Rattle.report_journal.specs.Journals.{HasRoom, HoldsDoubt, in_doubt}
 use Rattle.report_journal.proofs.Kept.{is_false, is_true, mend_leaves, still_is, still_kept, dropped, drop_kept, counted, put_is, put_kept}
+use Rattle.report_journal.proofs.Rooms.{doubt-length}
 use Rattle.report_journal.proofs.journal.Journal.mend.Goals as goal
 
 pub returns-in-Err-clause-moments : goal.returns-in-Err-clause-moments
@@ -22,61 +21,76 @@ pub invariant_of-self : goal.invariant_of-self
 invariant_of-self g c = (
   c.self.invariant.0,
   λ told.
-      let pending : option_map (λ p. p.items) c.self.inside.pending ≡ Some c.in-Some.payload.items = ap (option_map (λ p. p.items)) c.in-Some.is in
+      let payload = take c.in-Some.length (drop 4 c.self.inside.buffer.items) in
+      let pending : in_doubt c.self.inside.buffer.items c.self.inside.pending ≡ Some payload = ap (in_doubt c.self.inside.buffer.items) c.in-Some.is in
       let kept = rw pending at (c.self.invariant.1 (c.is_open_now.ensures.tells told)) in
       let synced = c.is_open_now.ensures.moments told in
-      rw pending (still_kept _ _ _ _ _ c.in-Some.payload.items kept synced),
+      rw pending (still_kept _ _ _ _ _ payload kept synced),
 )
 
 pub invariant_of-self-in-Ok-false : goal.invariant_of-self-in-Ok-false
-invariant_of-self-in-Ok-false g c = (
-  record { spelled = c.self.invariant.0.spelled; limit = c.self.invariant.0.limit; roomy = c.self.invariant.0.roomy; room = tt },
-  λ told.
-      let pending : option_map (λ p. p.items) c.self.inside.pending ≡ Some c.in-Some.payload.items = ap (option_map (λ p. p.items)) c.in-Some.is in
-      let kept = rw pending at (c.self.invariant.1 (c.is_open_now.ensures.tells told)) in
-      let synced = c.is_open_now.ensures.moments told in
-      drop_kept _ _ _ _ _ c.in-Some.payload.items kept synced (c.in-Ok-false.ensures.settled told) (λ opened. is_false (c.in-Ok-false.ensures.open told) c.in-Ok-false.field-0-test opened),
-)
+invariant_of-self-in-Ok-false g c =
+    let room : HoldsDoubt c.in-Some.length c.self.inside.end (length c.self.inside.places.items) c.self.inside.spare c.self.inside.buffer.items (vec_capacity c.self.inside.places) (vec_capacity c.self.inside.buffer) =
+    subst (λ p. HasRoom c.self.inside.end (length c.self.inside.places.items) c.self.inside.spare c.self.inside.buffer.items (vec_capacity c.self.inside.places) (vec_capacity c.self.inside.buffer) p) c.in-Some.is c.self.invariant.0.room in (
+      record {
+        spelled = c.self.invariant.0.spelled;
+        limit = c.self.invariant.0.limit;
+        roomy = c.self.invariant.0.roomy;
+        room = (omega (arith, room.below), λ some. room.reserved);
+      },
+      λ told.
+          let payload = take c.in-Some.length (drop 4 c.self.inside.buffer.items) in
+          let pending : in_doubt c.self.inside.buffer.items c.self.inside.pending ≡ Some payload = ap (in_doubt c.self.inside.buffer.items) c.in-Some.is in
+          let kept = rw pending at (c.self.invariant.1 (c.is_open_now.ensures.tells told)) in
+          let synced = c.is_open_now.ensures.moments told in
+          drop_kept _ _ _ _ _ payload kept synced (c.in-Ok-false.ensures.settled told) (λ opened. is_false (c.in-Ok-false.ensures.open told) c.in-Ok-false.field-0-test opened),
+    )
 
 pub invariant_of-self-in-Ok-true : goal.invariant_of-self-in-Ok-true
 invariant_of-self-in-Ok-true g c =
-    let room : (c.self.inside.end + 6 + length c.in-Some.payload.items ≤ GREATEST_FILE) × (length c.self.inside.places.items < vec_capacity c.self.inside.places) =
-    subst (λ p. HasRoom c.self.inside.end (length c.self.inside.places.items) (vec_capacity c.self.inside.places) p) (ap (option_map (λ p. p.items)) c.in-Some.is) c.self.invariant.0.room in
-    let long : c.len.result ≡ length c.in-Some.payload.items = search rules in
-    rw c.push_reserved.ensures (
+    let room : HoldsDoubt c.in-Some.length c.self.inside.end (length c.self.inside.places.items) c.self.inside.spare c.self.inside.buffer.items (vec_capacity c.self.inside.places) (vec_capacity c.self.inside.buffer) =
+    subst (λ p. HasRoom c.self.inside.end (length c.self.inside.places.items) c.self.inside.spare c.self.inside.buffer.items (vec_capacity c.self.inside.places) (vec_capacity c.self.inside.buffer) p) c.in-Some.is c.self.invariant.0.room in
+    let payload = take c.in-Some.length (drop 4 c.self.inside.buffer.items) in
+    let long : c.in-Some.length ≡ length payload = sym (doubt-length c.in-Some.length c.self.inside.buffer.items room.buffered) in
+    let more = length-append c.self.inside.places.items (record { at = c.self.inside.end + 5; length = c.in-Some.length } ∷ []) in
+    rw c.push_reserved.ensures.places (
       record {
         spelled = c.self.invariant.0.spelled;
-        limit = omega (arith, room, long);
-        roomy = omega (arith, c.self.invariant.0.roomy, length-append c.self.inside.places.items (record { at = c.self.inside.end + 5; length = c.len.result } ∷ []));
-        room = tt;
+        limit = omega (arith, room.fits);
+        roomy = omega (arith, c.self.invariant.0.roomy, more);
+        room = (omega (arith, room.below), λ some. record { places = omega (arith, more, room.reserved.places, c.push_reserved.ensures.room); bytes = room.reserved.bytes });
       },
       λ told.
-          let pending : option_map (λ p. p.items) c.self.inside.pending ≡ Some c.in-Some.payload.items = ap (option_map (λ p. p.items)) c.in-Some.is in
+          let pending : in_doubt c.self.inside.buffer.items c.self.inside.pending ≡ Some payload = ap (in_doubt c.self.inside.buffer.items) c.in-Some.is in
           let kept = rw pending at (c.self.invariant.1 (c.is_open_now.ensures.tells told)) in
           let synced = c.is_open_now.ensures.moments told in
           let opened = is_true (c.in-Ok-true.ensures.open told) c.in-Ok-true.field-0-test in
-          let has_it = counted _ _ _ _ (g.D.Disk.moments c.is_open_now.new.disk) c.in-Some.payload.items kept synced opened in
-          put_kept _ _ _ _ c.in-Some.payload.items _ kept _ (g.D.Disk.moments c.is_open_now.new.disk) (c.in-Ok-true.ensures.settled told) has_it refl long _ (omega (arith, long)),
+          let has_it = counted _ _ _ _ (g.D.Disk.moments c.is_open_now.new.disk) payload kept synced opened in
+          put_kept _ _ _ _ payload _ kept _ (g.D.Disk.moments c.is_open_now.new.disk) (c.in-Ok-true.ensures.settled told) has_it refl long _ (omega (arith, long)),
     )
 
 pub returns-in-Ok-true-clause-end : goal.returns-in-Ok-true-clause-end
-returns-in-Ok-true-clause-end g c = rw (← c.self.view_is, c.push_reserved.ensures) (λ told.
-    let long : c.len.result ≡ length c.in-Some.payload.items = search rules in
-    let pending : option_map (λ p. p.items) c.self.inside.pending ≡ Some c.in-Some.payload.items = ap (option_map (λ p. p.items)) c.in-Some.is in
+returns-in-Ok-true-clause-end g c = rw (← c.self.view_is, c.push_reserved.ensures.places) (λ told.
+    let room : HoldsDoubt c.in-Some.length c.self.inside.end (length c.self.inside.places.items) c.self.inside.spare c.self.inside.buffer.items (vec_capacity c.self.inside.places) (vec_capacity c.self.inside.buffer) =
+    subst (λ p. HasRoom c.self.inside.end (length c.self.inside.places.items) c.self.inside.spare c.self.inside.buffer.items (vec_capacity c.self.inside.places) (vec_capacity c.self.inside.buffer) p) c.in-Some.is c.self.invariant.0.room in
+    let payload = take c.in-Some.length (drop 4 c.self.inside.buffer.items) in
+    let long : c.in-Some.length ≡ length payload = sym (doubt-length c.in-Some.length c.self.inside.buffer.items room.buffered) in
+    let pending : in_doubt c.self.inside.buffer.items c.self.inside.pending ≡ Some payload = ap (in_doubt c.self.inside.buffer.items) c.in-Some.is in
     let kept = rw pending at (c.self.invariant.1 (c.is_open_now.ensures.tells told)) in
     let synced = c.is_open_now.ensures.moments told in
     let opened = is_true (c.in-Ok-true.ensures.open told) c.in-Ok-true.field-0-test in
-    let has_it = counted _ _ _ _ (g.D.Disk.moments c.is_open_now.new.disk) c.in-Some.payload.items kept synced opened in
+    let has_it = counted _ _ _ _ (g.D.Disk.moments c.is_open_now.new.disk) payload kept synced opened in
     let settled_now = c.in-Ok-true.ensures.settled told in
-    rw pending ((put_is _ _ _ _ c.in-Some.payload.items _ kept _ (g.D.Disk.moments c.is_open_now.new.disk) settled_now has_it refl long, leaves_here _ _ settled_now has_it), opened))
+    rw pending ((put_is _ _ _ _ payload _ kept _ (g.D.Disk.moments c.is_open_now.new.disk) settled_now has_it refl long, leaves_here _ _ settled_now has_it), opened))
 
 pub returns-in-Ok-false-clause-end : goal.returns-in-Ok-false-clause-end
 returns-in-Ok-false-clause-end g c = rw (← c.self.view_is) (λ told.
-    let pending : option_map (λ p. p.items) c.self.inside.pending ≡ Some c.in-Some.payload.items = ap (option_map (λ p. p.items)) c.in-Some.is in
+    let payload = take c.in-Some.length (drop 4 c.self.inside.buffer.items) in
+    let pending : in_doubt c.self.inside.buffer.items c.self.inside.pending ≡ Some payload = ap (in_doubt c.self.inside.buffer.items) c.in-Some.is in
     let kept = rw pending at (c.self.invariant.1 (c.is_open_now.ensures.tells told)) in
     let synced = c.is_open_now.ensures.moments told in
     let closed = is_false (c.in-Ok-false.ensures.open told) c.in-Ok-false.field-0-test in (
-      still_is _ _ _ _ (g.D.Disk.moments c.is_open_now.new.disk) c.in-Some.payload.items kept synced,
-      leaves_here _ _ (c.in-Ok-false.ensures.settled told) (dropped _ _ _ _ _ c.in-Some.payload.items kept synced closed),
+      still_is _ _ _ _ (g.D.Disk.moments c.is_open_now.new.disk) payload kept synced,
+      leaves_here _ _ (c.in-Ok-false.ensures.settled told) (dropped _ _ _ _ _ payload kept synced closed),
       closed,
     ))
