@@ -3,3 +3,9 @@ pub mod Chained
 pub mod Sequences
 pub mod Shapes
 pub mod OneAnswer
+pub mod Histories
+pub mod Sizes
+pub mod Nexts
+pub mod Pasts
+pub mod Mending
+pub mod Begun

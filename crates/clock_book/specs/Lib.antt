@@ -1,1 +1,6 @@
 pub mod Opening
+pub mod DeskHistories
+pub mod Past
+pub mod Books
+pub mod Offers
+pub mod Opened

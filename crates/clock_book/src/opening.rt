@@ -1,11 +1,12 @@
 //! A clock that is read from a journal.
-ghost use Rattle.std.specs.Prelude.{◌≡◌, ◌≤◌, IsTrue, IfOk, IfErr, OnOk};
+ghost use Rattle.std.specs.Prelude.{◌≡◌, ◌≤◌, [], IsTrue, IfOk, IfErr, OnOk};
 ghost use Rattle.lot_base.specs.Demands.{IsDemand};
-ghost use Rattle.clock.specs.Reports.{with_report};
+ghost use Rattle.clock.specs.Reports.{with_report, applied};
 ghost use Rattle.clock.specs.Judging.{judgement_of};
 ghost use Rattle.clock.specs.declared.judging.Judgement.TheVariants.{Take};
 ghost use Rattle.recovery.specs.Journaled.{owner_of};
-ghost use Rattle.clock_book.specs.Opening.{IsHistoryOf, ReadsClock, Takes, CountsFaults, IsSyncedBy};
+ghost use Rattle.clock_book.specs.Opening.{history_of, IsHistoryOf, ReadsClock, Takes, CountsFaults, IsSyncedBy};
+ghost use Rattle.clock_book.specs.Opened.{ReadsBook, IsFound, KeepsRoom};
 
 use crate::faults::OpenFault;
 use clock::{Clock, Judgement};
@@ -13,6 +14,7 @@ use demand_set::Report;
 use house_io::Disk;
 use lot_base::Terms;
 use recovery::{Next, Reports};
+use report_journal::Scanned;
 use std::alloc::Global;
 
 /// The clock of the reports that a journal's file stands for. It syncs first, and changes no byte. Each report is taken as it is
@@ -31,7 +33,33 @@ pub fn read_clock<D: Disk>(
     ensures tells { IsTrue (D.tells disk.new) → IsTrue (D.tells disk.old) }
     ensures faults { CountsFaults (D.faults disk.old) (D.faults disk.new) result }
 {
-    let mut taken = Clock::new(alloc, terms, clock)?;
+    let taken = Clock::new(alloc, terms, clock)?;
+    match read_into(alloc, disk, taken, terms, clock, digest) {
+        Err(fault) => Err(fault),
+        Ok((taken, _scan)) => Ok(taken),
+    }
+}
+
+/// The clock with the reports that a journal's file stands for, and what the scan of the file found. The clock had none before.
+pub(crate) fn read_into<D: Disk>(
+    alloc: Global,
+    disk: &mut D,
+    empty: Clock,
+    terms: &Terms,
+    clock: u8,
+    digest: &[u8; 32],
+) -> Result<(Clock, Scanned), OpenFault>
+    requires number { clock ≤ terms.now.bidders }
+    requires empty { empty.history ≡ history_of (owner_of terms.now clock digest.now) [] }
+    ensures read { IsTrue (D.tells disk.new) → ReadsBook (owner_of terms.now clock digest.now) (D.moments disk.old).now.read result }
+    ensures history { IfOk result (λ r. IsHistoryOf (owner_of terms.now clock digest.now) r.0.history) }
+    ensures found { IfOk result (λ r. IsFound (IsTrue (D.tells disk.new)) (owner_of terms.now clock digest.now) r.0.history.reports r.1 (D.moments disk.new).now.read) }
+    ensures room { IfOk result (λ r. KeepsRoom empty r.0) }
+    ensures synced { IsTrue (D.tells disk.new) → IsSyncedBy result (D.moments disk.old) (D.moments disk.new) }
+    ensures tells { IsTrue (D.tells disk.new) → IsTrue (D.tells disk.old) }
+    ensures faults { CountsFaults (D.faults disk.old) (D.faults disk.new) result }
+{
+    let mut taken = empty;
     let mut reader = Reports::begin(alloc, disk, terms, clock, digest)?;
     'reports: loop {
         match reader.next(alloc, disk)? {
@@ -40,7 +68,7 @@ pub fn read_clock<D: Disk>(
                 Err(fault) => return Err(fault),
             },
             Next::Broken(broken) => return Err(OpenFault::Broken(broken)),
-            Next::End => return Ok(taken),
+            Next::End => return Ok((taken, reader.into_scan())),
         }
     }
 }
@@ -49,6 +77,7 @@ pub fn read_clock<D: Disk>(
 fn take(alloc: Global, clock: &mut Clock, report: Report, number: u32) -> Result<(), OpenFault>
     requires { IsDemand clock.old.history.terms.goods report.demand }
     ensures taken { OnOk result (clock.new.history ≡ with_report clock.old.history report) }
+    ensures spare { OnOk result (clock.new ≡ applied clock.old report) }
     ensures judged { OnOk result (judgement_of clock.old.history report ≡ Take) }
     ensures refused { IfErr result (Takes clock.old.history report number) }
 {

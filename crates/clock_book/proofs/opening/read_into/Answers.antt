@@ -5,8 +5,9 @@ use Rattle.demand_set.specs.declared.reports.Report.{Report}
 use Rattle.clock.specs.Reports.{ClockHistory}
 use Rattle.recovery.specs.Journaled.{Owner, owner_of}
 use Rattle.recovery.specs.Streams.{ReportsOf, HasGiven}
+use Rattle.clock_book.proofs.Begun.{room-taken}
 use Rattle.clock_book.proofs.Taking.{refused, broken-off, history-more}
-use Rattle.clock_book.proofs.opening.read_clock.Goals as goal
+use Rattle.clock_book.proofs.opening.read_into.Goals as goal
 
 pub returns-in-Err-clause-read : goal.returns-in-Err-clause-read
 returns-in-Err-clause-read g c told =
@@ -46,6 +47,7 @@ reports-preserved g c =
       given = subst G (sym (ap (λ (h : ClockHistory). h.reports) taken)) answer.0;
       history = history-more (owner_of c.args.terms.now c.args.clock c.args.digest.now) history c.take.new.clock.history c.in-Report.report i.history taken c.in-Ok.ensures.judged
           (subst (λ (o : Owner). IsDemand o.terms.goods c.in-Report.report.demand) i.owner goes.2.fits);
+      room = room-taken c.args.empty c.reports.taken c.take.new.clock c.in-Report.report i.room c.in-Ok.ensures.spare;
       synced = λ t. reads.same t ∙ i.synced (reads.told t);
       tells = λ t. i.tells (reads.told t);
       steady = c.in_ok-report.ensures.faults ∙ i.steady;

@@ -1,0 +1,19 @@
+use Rattle.clock_book.specs.Past.{owner_in}
+use Rattle.clock_book.proofs.Mending.{stands-either, next-of, reports-of}
+use Rattle.clock_book.proofs.books.ClockBook.clock.Goals as goal
+
+pub returns-clause-kept : goal.returns-clause-kept
+returns-clause-kept g c =
+    let b = c.self.inside in
+    let kept = c.self.invariant in
+    rw (← c.self.view_is) (record {
+      legal = c.clock.ensures.legal;
+      terms = kept.terms;
+      number = kept.number;
+      reports = c.clock.ensures.reports;
+      marks = kept.marks;
+      next = next-of b.noted b.pending kept.waits;
+      after = kept.after;
+      stands = λ t. stands-either (owner_in b.start) b.noted.clock.reports b.pending b.journal.contents b.journal.pending (g.D.Disk.moments b.journal.disk) kept.are (reports-of b.start.terms b.noted b.pending kept.terms kept.waits) (kept.contents t) kept.in_doubt (c.count-kept.ensures.kept t).stands;
+      past = kept.past;
+    })

@@ -1,0 +1,83 @@
+-- A clock book as its callers see it.
+use Rattle.std.specs.Prelude.{◌≡◌, ℕ, ◌+◌, ◌*◌, ◌≤◌, min, List, [], ◌∷◌, length, Option, Some, None, IfSome}
+use Rattle.std.specs.List.{concat}
+use Rattle.std.specs.Option.{option_map}
+use Rattle.lot_base.specs.Goods.{box_size}
+use Rattle.lot_base.specs.declared.auction_terms.Terms.{Terms}
+use Rattle.demand_set.specs.declared.reports.Report.{Report}
+use Rattle.clock.specs.Reports.{ClockHistory, most_reports}
+use Rattle.clock.specs.Judging.{IsLegal}
+use Rattle.house_io.specs.Moments.{Moments, Leaves}
+use Rattle.report_journal.specs.Format.{front}
+use Rattle.report_journal.specs.Journals.{JournalOf}
+use Rattle.recovery.specs.Entries.{payload_of, AreReportsOf}
+use Rattle.recovery.specs.Journaled.{contents_of}
+use Rattle.clock_book.specs.declared.entries.Entry.{Entry}
+use Rattle.clock_book.specs.declared.origins.Origin.{Origin}
+use Rattle.clock_book.specs.DeskHistories.{NotedOf, HasRoomFor, reports_in, marks_in, EndsInMark}
+use Rattle.clock_book.specs.Past.{owner_in, IsNext, IsEither, KeepsPast}
+
+-- the clock, the history of its desk, and the report that is pending: one that was offered and is in doubt since the disk failed
+pub record BookState : Type 0 where
+  pub clock : ClockHistory
+  pub history : List Entry
+  pub pending : Option Report
+
+pub record BookOf (D : Type 0) : Type 0 where
+  pub disk : D
+  pub state : BookState
+  pub origin : Origin
+
+-- What a book keeps, as its callers see it. Its history is legal. The disk's file stands for its reports, or for these and the
+-- pending one, at each image that a crash may leave now; and it stood for a front of them since the opening was answered.
+pub record IsKept {D : Type 0} (told : Type 0) (ms : Moments) (faults : ℕ) (b : BookOf D) : Type 0 where
+  pub legal : IsLegal b.state.clock
+  pub terms : b.state.clock.terms ≡ b.origin.terms
+  pub number : b.state.clock.number ≡ b.origin.clock
+  pub reports : reports_in b.state.history ≡ b.state.clock.reports
+  pub marks : marks_in b.state.history ≤ faults
+  pub next : IfSome b.state.pending (IsNext b.state.clock)
+  pub after : IfSome b.state.pending (λ r. EndsInMark b.state.history)
+  pub stands : told → Leaves (IsEither (owner_in b.origin) b.state.clock.reports b.state.pending) ms.now
+  pub past : told → KeepsPast b.origin b.state.clock ms
+
+-- the quantities of these reports
+abbrev pub quantities_in : List Report → ℕ
+quantities_in [] = 0
+quantities_in (r ∷ reports) = length (concat r.demand) + quantities_in reports
+
+-- The most quantities of a clock's reports: a journal has room for 33,554,432 of two bytes each, and a report has at most one of each
+-- good in each bundle of the box.
+abbrev pub most_quantities : Terms → ℕ → ℕ
+most_quantities terms number = min 33554432 (most_reports terms number * (length terms.goods * box_size terms.goods))
+
+-- how many records are kept for the report that is pending
+abbrev pub kept_for : Option Report → ℕ
+kept_for None = 0
+kept_for (Some r) = 1
+
+-- there is room for the most reports and the most quantities, in the clock and its notes, and for as many records in the journal
+pub record HasRoom (n : NotedOf) (records : ℕ) : Type 0 where
+  pub reports : most_reports n.clock.terms n.clock.number ≤ length n.clock.reports + n.spare_reports
+  pub quantities : most_quantities n.clock.terms n.clock.number ≤ quantities_in n.clock.reports + n.spare_quantities
+  pub records_are : most_reports n.clock.terms n.clock.number ≤ length n.clock.reports + records
+
+-- the clock takes this report next, and has room for it
+pub record IsWaiting (n : NotedOf) (r : Report) : Type 0 where
+  pub next : IsNext n.clock r
+  pub room : HasRoomFor n r
+
+-- The same of its parts: its journal is that of its clock, its marks are at most the faults of its disk, and it has room.
+pub record IsBook {D : Type 0} (j : JournalOf D) (told : Type 0) (ms : Moments) (faults : ℕ) (n : NotedOf) (pending : Option Report) (origin : Origin) : Type 0 where
+  pub terms : n.clock.terms ≡ origin.terms
+  pub number : n.clock.number ≡ origin.clock
+  pub are : AreReportsOf origin.terms n.clock.reports
+  pub opened : origin.reports ≤ length n.clock.reports
+  pub end : j.end ≡ length (front (contents_of (owner_in origin) n.clock.reports))
+  pub in_doubt : j.pending ≡ option_map (payload_of (length origin.terms.goods)) pending
+  pub waits : IfSome pending (IsWaiting n)
+  pub after : IfSome pending (λ r. EndsInMark n.history)
+  pub marks : marks_in n.history ≤ faults
+  pub room : HasRoom n (j.spare + kept_for pending)
+  pub contents : told → j.contents ≡ contents_of (owner_in origin) n.clock.reports
+  pub past : told → KeepsPast origin n.clock ms

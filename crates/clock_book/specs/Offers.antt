@@ -1,0 +1,71 @@
+-- What an offer does to a book.
+use Rattle.std.specs.Prelude.{◌≡◌, ◌≢◌, ◌⊎◌, ℕ, ◌+◌, ◌<◌, ◌≤◌, List, [], ◌∷◌, ◌++◌, length, Option, Some, None, IsSome}
+use Rattle.lot_base.specs.declared.limits.TheConstants.{GREATEST_FILE}
+use Rattle.demand_set.specs.declared.reports.Report.{Report}
+use Rattle.clock.specs.Reports.{with_report}
+use Rattle.clock.specs.Judging.{judgement_of}
+use Rattle.clock.specs.declared.judging.Judgement.TheVariants as judged
+use Rattle.clock.specs.declared.judging.Offered.{Offered}
+use Rattle.clock.specs.declared.judging.Offered.TheVariants as answers
+use Rattle.house_io.specs.Moments.{Moments, AtEach}
+use Rattle.report_journal.specs.Format.{front}
+use Rattle.recovery.specs.Entries.{payload_of}
+use Rattle.recovery.specs.Journaled.{Owner, contents_of}
+use Rattle.clock_book.specs.declared.entries.Entry.TheVariants as entry
+use Rattle.clock_book.specs.DeskHistories.{with_mark}
+use Rattle.clock_book.specs.Past.{IsEither}
+use Rattle.clock_book.specs.Books.{BookState}
+
+-- the report is appended, as one that was offered, or as one that was counted
+abbrev pub taken : BookState → Report → BookState
+taken s r = record { clock = with_report s.clock r; history = s.history ++ entry.Offered r ∷ []; pending = None }
+
+abbrev pub counted : BookState → Report → BookState
+counted s r = record { clock = with_report s.clock r; history = s.history ++ entry.Counted r ∷ []; pending = None }
+
+-- one mark more
+abbrev pub marked : BookState → BookState
+marked s = record { clock = s.clock; history = with_mark s.history; pending = s.pending }
+
+-- another report is pending, or none is
+abbrev pub with_pending : Option Report → BookState → BookState
+with_pending pending s = record { clock = s.clock; history = s.history; pending = pending }
+
+-- what a mend leaves: the pending report, if there was one, is counted or dropped
+abbrev pub IsMended : BookState → BookState → Type 0
+IsMended old new = (new ≡ with_pending None old) ⊎ ((q : Report) × (old.pending ≡ Some q) × (new ≡ counted old q))
+
+-- where the record of this report would end in the owner's journal of these reports
+abbrev pub record_end : Owner → List Report → Report → ℕ
+record_end owner reports r = length (front (contents_of owner reports)) + 6 + length (payload_of (length owner.terms.goods) r)
+
+abbrev pub needed_for : Owner → BookState → Report → ℕ
+needed_for owner s r = record_end owner s.clock.reports r
+
+-- the clock takes the report, and its record is within the limit
+pub record IsNew (owner : Owner) (s : BookState) (r : Report) : Type 0 where
+  pub take : judgement_of s.clock r ≡ judged.Take
+  pub within : needed_for owner s r ≤ GREATEST_FILE
+
+-- What each answer leaves of the state after the mend, and when it comes. Want of memory is never answered.
+abbrev pub Answers : Owner → Offered → BookState → Report → BookState → Type 0
+Answers owner answers.Taken mid r new = IsNew owner mid r × (new ≡ taken mid r)
+Answers owner answers.Again mid r new = (judgement_of mid.clock r ≡ judged.Again) × (new ≡ mid)
+Answers owner (answers.Refused judgement) mid r new = (judgement_of mid.clock r ≡ judgement) × (judgement ≢ judged.Take) × (judgement ≢ judged.Again) × (new ≡ mid)
+Answers owner (answers.Full needed) mid r new = (judgement_of mid.clock r ≡ judged.Take) × (needed ≡ needed_for owner mid r) × (GREATEST_FILE < needed) × (new ≡ mid)
+Answers owner answers.DiskFault mid r new = IsNew owner mid r × (new ≡ marked (with_pending (Some r) mid))
+Answers owner answers.NoMemory mid r new = ⊥
+
+-- An offer: the mend fails, and a mark is all that is appended; or it does not, and an answer follows.
+abbrev pub IsOffer : Owner → BookState → Report → Offered → BookState → Type 0
+IsOffer owner old r answer new =
+    ((answer ≡ answers.DiskFault) × IsSome old.pending × (new ≡ marked old))
+    ⊎ ((mid : BookState) × IsMended old mid × Answers owner answer mid r new)
+
+-- What a crash at any moment of an offer leaves: the reports at its start or these and the pending one, and then the reports
+-- after the mend or these and the offered one.
+abbrev pub OfferLeaves : Owner → BookState → Report → Offered → BookState → Moments → Moments → Type 0
+OfferLeaves owner old r answer new before after =
+    ((answer ≡ answers.DiskFault) × (new ≡ marked old) × AtEach (IsEither owner old.clock.reports old.pending) before after)
+    ⊎ ((mid : BookState) × IsMended old mid × Answers owner answer mid r new
+    × ((between : Moments) × AtEach (IsEither owner old.clock.reports old.pending) before between × AtEach (IsEither owner mid.clock.reports (Some r)) between after))
