@@ -1,0 +1,4 @@
+pub mod Offering
+pub mod Turning
+pub mod Passing
+pub mod Places

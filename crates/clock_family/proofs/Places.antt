@@ -1,0 +1,94 @@
+-- Places in lists of disks and desks.
+use Rattle.std.proofs.Common.{◌≡◌, ◌⊎◌, inl, inr, ⊎_elim, ◌<◌, ◌≤◌, ℕ, zero, suc, ◌+◌, ◌-◌, Bool, List, [], ◌∷◌, ◌++◌, length, drop, get_or, reverse, refl, sym, ◌∙◌, ap, subst, arith, length-append, length-drop}
+use Rattle.std.proofs.lemmas.List.{get_or_at, reverse-append, drop_more}
+use Rattle.std.proofs.lemmas.Bool.{cases_lt}
+use Rattle.lot_base.specs.declared.auction_terms.Terms.{Terms}
+use Rattle.house_io.specs.Moments.{Moments}
+use Rattle.recovery.specs.Journaled.{owner_of}
+use Rattle.clock_book.specs.Books.{BookOf}
+use Rattle.clock_book.specs.Opened.{Opens, IsUnopened}
+use Rattle.clock_book.specs.declared.faults.OpenFault.{OpenFault}
+use Rattle.clock_family.specs.Opening.{LaidOf, IsLaidFor, AreLaid, IsNotOpen}
+
+module _ {A : Type 0} where
+  get-front : (xs ys : List A) (k : ℕ) (d : A) → k < length xs → get_or (xs ++ ys) k d ≡ get_or xs k d
+  get-front [] ys k d below = absurd (omega (arith, below))
+  get-front (x ∷ xs) ys zero d below = refl
+  get-front (x ∷ xs) ys (suc k) d below = get-front xs ys k d (omega (arith, below))
+
+  get-past : (front : List A) (y : A) (ds : List A) (k : ℕ) (d : A) → length front < k → get_or (front ++ y ∷ drop (suc (length front)) ds) k d ≡ get_or ds k d
+  get-past [] y ds zero d past = absurd (omega (arith, past))
+  get-past [] y [] (suc k) d past = refl
+  get-past [] y (x ∷ ds) (suc k) d past = refl
+  get-past (z ∷ front) y ds zero d past = absurd (omega (arith, past))
+  get-past (z ∷ front) y [] (suc k) d past = get-past front y [] k d (omega (arith, past))
+  get-past (z ∷ front) y (x ∷ ds) (suc k) d past = get-past front y ds k d (omega (arith, past))
+
+  some-of : (xs : List A) (k : ℕ) → k < length xs → A
+  some-of [] k below = absurd (omega (arith, below))
+  some-of (x ∷ xs) k below = x
+
+  -- the next of a list that lies reversed
+  pub record IsTaken (whole left : List A) (n : ℕ) (x : A) : Type 0 where
+    pub within : n < length whole
+    pub here : (d : A) → x ≡ get_or whole n d
+    pub rest : reverse left ≡ drop (n + 1) whole
+
+  heads : (x y : A) (xs ys : List A) → x ∷ xs ≡ y ∷ ys → (x ≡ y) × (xs ≡ ys)
+  heads x y xs ys e = (ap (first x) e, ap (others xs) e)
+    where
+      first : A → List A → A
+      first d [] = d
+      first d (z ∷ zs) = z
+
+      others : List A → List A → List A
+      others d [] = d
+      others d (z ∷ zs) = zs
+
+  pub taken-next : (whole rest left : List A) (n : ℕ) (x : A) → rest ≡ left ++ x ∷ [] → reverse rest ≡ drop n whole → IsTaken whole left n x
+  taken-next whole rest left n x is back =
+      let e : x ∷ reverse left ≡ drop n whole = sym (reverse-append left (x ∷ [])) ∙ ap reverse (sym is) ∙ back in
+      let more : n < length whole = omega (arith, ap length e, length-drop n whole) in
+      record {
+        within = more;
+        here = λ d. (heads x (get_or whole n d) (reverse left) (drop (n + 1) whole) (e ∙ drop_more whole n d more)).0;
+        rest = (heads x (get_or whole n x) (reverse left) (drop (n + 1) whole) (e ∙ drop_more whole n x more)).1;
+      }
+
+module _ {D : Type 0} (tells : D → Bool) (moments : D → Moments) (faults : D → ℕ) (terms : Terms) (digest : List ℕ) (count : ℕ) where
+  -- one desk more
+  pub laid-more : (disks left : List D) (laid : List (LaidOf D)) (n : ℕ) (disk : D) (l : LaidOf D) → AreLaid tells moments faults terms digest count disks laid → length laid ≡ n → IsTaken disks left n disk
+      → IsLaidFor tells moments faults terms digest count n disk l.desk l.passes → AreLaid tells moments faults terms digest count disks (laid ++ l ∷ [])
+  laid-more disks left laid n disk l are size next fits =
+      let longer : length (laid ++ l ∷ []) ≡ n + 1 = omega (arith, length-append laid (l ∷ []), size) in
+      let For : ℕ → D → LaidOf D → Type 0 = λ k x m. IsLaidFor tells moments faults terms digest count k x m.desk m.passes in
+      record {
+        within = omega (arith, longer, next.within);
+        each = λ k x m below. elim (cases_lt k (length laid)) [
+          | inl less ↦ subst (λ z. For k (get_or disks k x) z) (sym (get-front laid (l ∷ []) k m less)) (are.each k x m less)
+          | inr beyond ↦
+              let here : n ≡ k = omega (arith, beyond, below, longer, size) in
+              let last : get_or (laid ++ l ∷ []) k m ≡ l = get_or_at laid l [] m k (size ∙ here) in
+              subst (λ z. For k (get_or disks k x) z) (sym last) (subst (λ (i : ℕ). For i (get_or disks i x) l) here (subst (λ z. For n z l) (next.here x) fits))
+        ];
+      }
+
+  -- the disks are given back where one was not opened
+  pub not-open : (disks left front new : List D) (laid : List (LaidOf D)) (n : ℕ) (disk back : D) (fault : OpenFault) → AreLaid tells moments faults terms digest count disks laid → length laid ≡ n → IsTaken disks left n disk
+      → IsUnopened tells moments faults (owner_of terms n digest) disk back fault → length front ≡ length laid → new ≡ front ++ reverse (left ++ back ∷ []) → IsNotOpen tells moments faults terms digest disks new n fault
+  not-open disks left front new laid n disk back fault are size next unopened long is =
+      let suc-n : suc (length front) ≡ n + 1 = omega (arith, long, size) in
+      let all : new ≡ front ++ back ∷ drop (suc (length front)) disks =
+      is ∙ ap (λ l. front ++ l) (reverse-append left (back ∷ [])) ∙ ap (λ l. front ++ back ∷ l) (next.rest ∙ ap (λ (k : ℕ). drop k disks) (sym suc-n)) in
+      record {
+        within = next.within;
+        count = omega (arith, ap length all, length-append front (back ∷ drop (suc (length front)) disks), length-drop (suc (length front)) disks, suc-n, next.within);
+        before = λ k x less.
+            let below : k < length laid = omega (arith, less, size) in
+            let l = some-of laid k below in
+            ((get_or laid k l).desk.book.book, (are.each k x l below).opens);
+        refused = λ x.
+            let here : get_or new n x ≡ back = ap (λ l. get_or l n x) all ∙ get_or_at front back (drop (suc (length front)) disks) x n (long ∙ size) in
+            subst (λ z. IsUnopened tells moments faults (owner_of terms n digest) z (get_or new n x) fault) (next.here x) (subst (λ z. IsUnopened tells moments faults (owner_of terms n digest) disk z fault) (sym here) unopened);
+        after = λ k x more. ap (λ l. get_or l k x) all ∙ get-past front back disks k x (omega (arith, more, long, size));
+      }

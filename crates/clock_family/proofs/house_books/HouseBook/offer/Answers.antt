@@ -1,0 +1,29 @@
+use Rattle.std.proofs.Common.{sym, subst}
+use Rattle.lot_base.specs.Demands.{IsDemand}
+use Rattle.lot_base.specs.declared.auction_terms.Terms.{Terms}
+use Rattle.demand_set.specs.declared.reports.Report.{Report}
+use Rattle.clock_book.specs.Past.{owner_in}
+use Rattle.clock_family.proofs.Offering.{history-offer, goes-on}
+use Rattle.clock_family.proofs.house_books.HouseBook.offer.Goals as goal
+
+pub offer-requires : goal.offer-requires
+offer-requires g c =
+    let kept = c.clock-kept.ensures.kept in
+    let P : Terms → Type 0 = λ t. IsDemand t.goods c.args.demand in
+    subst P (sym kept.terms) c.requires
+
+pub returns-clause-history : goal.returns-clause-history
+returns-clause-history g c =
+    let kept = c.clock-kept.ensures.kept in
+    let b = c.args.self.now.book in
+    history-offer (owner_in b.origin) b.state c.offer.new.self.state (record { bidder = c.args.bidder; round = c.args.round; demand = c.args.demand }) c.offer.result
+    (λ i. record { terms = kept.terms i; number = kept.number i; reports = sym kept.reports i }) kept.after c.offer.ensures.answer
+
+pub returns-clause-goes_on : goal.returns-clause-goes_on
+returns-clause-goes_on g c =
+    let kept = c.clock-kept.ensures.kept in
+    let b = c.args.self.now.book in
+    let r : Report = record { bidder = c.args.bidder; round = c.args.round; demand = c.args.demand } in
+    goes-on (owner_in b.origin) b.state.history c.offer.new.self.state.history r c.offer.result
+    (history-offer (owner_in b.origin) b.state c.offer.new.self.state r c.offer.result
+    (λ i. record { terms = kept.terms i; number = kept.number i; reports = sym kept.reports i }) kept.after c.offer.ensures.answer)

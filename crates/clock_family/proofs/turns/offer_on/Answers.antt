@@ -1,0 +1,41 @@
+use Rattle.std.proofs.Common.{◌≡◌, ◌∙◌, ap, sym, subst}
+use Rattle.lot_base.specs.Goods.{IsRange}
+use Rattle.recovery.specs.Journaled.{Owner}
+use Rattle.demand_set.specs.declared.reports.Report.{Report}
+use Rattle.session.specs.Asking.{IsOffered}
+use Rattle.clock_book.specs.declared.entries.Entry.{Entry}
+use Rattle.clock_book.specs.declared.origins.Origin.{Origin}
+use Rattle.clock_book.specs.Past.{owner_in}
+use Rattle.turn_desk.specs.Passes.{Known, after_giving}
+use Rattle.clock_family.proofs.Offering.{same-some, refusal-of}
+use Rattle.clock_family.proofs.turns.offer_on.Goals as goal
+
+pub returns-clause-of_house : goal.returns-clause-of_house
+returns-clause-of_house g c =
+    let h = c.requires.of_house in
+    (h.0, ap (λ (p : Known Entry Origin). p.origin) c.give.ensures.given ∙ ap (λ (p : Known Entry Origin). p.origin) c.take-book.ensures.turn ∙ h.1, h.2)
+
+pub returns-clause-offers : goal.returns-clause-offers
+returns-clause-offers g c =
+    let book = c.take-book.result.book in
+    let after = c.offer-answer.new.self.book.state.history in
+    record {
+      origin = book.origin;
+      origin_is = c.take-book.ensures.origin;
+      before = book.state.history;
+      goes_on = c.take-book.ensures.goes_on;
+      after = after;
+      offers = c.offer-answer.ensures.history;
+      gives = c.give.ensures.given ∙ ap (λ (p : Known Entry Origin). after_giving p after) c.take-book.ensures.turn;
+    }
+
+pub returns-clause-refusal : goal.returns-clause-refusal
+returns-clause-refusal g c =
+    let h = c.requires.of_house in
+    let here = same-some c.take-book.result.book.origin h.0 (sym c.take-book.ensures.origin ∙ h.1) in
+    let owner : owner_in c.take-book.result.book.origin ≡ owner_in h.0 = ap owner_in here in
+    let whole = owner ∙ h.2 in
+    let r : Report = record { bidder = c.args.bidder; round = c.args.round; demand = c.args.demand } in
+    let O : Owner → Type 0 = λ o. IsOffered (r.bidder ≡ o.clock) c.offer-answer.result in
+    let R : Owner → Type 0 = λ o. IsRange 1 o.terms.bidders r.bidder in
+    subst O whole (refusal-of (owner_in c.take-book.result.book.origin) c.take-book.result.book.state.history c.offer-answer.new.self.book.state.history r c.offer-answer.result (subst R (sym whole) c.requires.bidder) c.offer-answer.ensures.history)

@@ -1,0 +1,108 @@
+//! How a house is opened: a desk for each clock.
+ghost use Rattle.std.specs.Prelude.{◌≡◌, ◌≤◌, ◌+◌, ◌++◌, List, length, reverse, vec_len, vec_capacity, IfOk, IfErr};
+ghost use Rattle.recovery.specs.Journaled.{owner_of};
+ghost use Rattle.clock_book.specs.Opened.{IsUnopened};
+ghost use Rattle.clock_family.specs.Opening.{IsLaidFor, AreLaid, IsNotOpen};
+
+use crate::house_books::HouseBook;
+use crate::laid::Laid;
+use clock_book::{ClockBook, OpenFault, Unopened};
+use house_io::Disk;
+use lot_base::Terms;
+use std::alloc::Global;
+use turn_desk::{Desk, NotMade};
+
+/// Opens the book of a clock, and lays it on a desk.
+pub(crate) fn lay<D: Disk>(
+    alloc: Global,
+    disk: D,
+    terms: &Terms,
+    clock: u8,
+    digest: &[u8; 32],
+    passes: u32,
+) -> Result<Laid<D>, Unopened<D>>
+    requires clock { clock ≤ terms.now.bidders }
+    requires passes { (1 ≤ passes) × (passes ≤ 64) }
+    ensures ok { IfOk result (λ l. IsLaidFor D.tells D.moments D.faults terms.now digest.now passes clock disk l.desk l.passes) }
+    ensures err { IfErr result (λ e. IsUnopened D.tells D.moments D.faults (owner_of terms.now clock digest.now) disk e.disk e.fault) }
+{
+    let book = match ClockBook::open(alloc, disk, terms, clock, digest) {
+        Err(unopened) => return Err(unopened),
+        Ok(book) => book,
+    };
+    match Desk::new(alloc, HouseBook { book }, passes) {
+        Ok((desk, passes)) => Ok(Laid { desk, passes }),
+        Err(NotMade { book }) => {
+            let HouseBook { book } = book;
+            let (_clock, disk) = book.into_parts();
+            Err(Unopened {
+                disk,
+                fault: OpenFault::NoMemory,
+            })
+        }
+    }
+}
+
+/// Disks on which no house was opened, in order of the clocks: the book of this clock was not opened, for this fault.
+pub struct NotOpen<D> {
+    pub disks: Vec<D>,
+    pub clock: u8,
+    pub fault: OpenFault,
+}
+
+/// Lays the books of all clocks on desks, one disk after another.
+pub(crate) fn lay_all<D: Disk>(
+    alloc: Global,
+    disks: Vec<D>,
+    terms: &Terms,
+    digest: &[u8; 32],
+    passes: u32,
+) -> Result<Vec<Laid<D>>, NotOpen<D>>
+    requires disks { length disks.items ≡ terms.now.bidders + 1 }
+    requires passes { (1 ≤ passes) × (passes ≤ 64) }
+    ensures ok { IfOk result (λ laid. AreLaid D.tells D.moments D.faults terms.now digest.now passes disks.items laid.items) }
+    ensures count { IfOk result (λ laid. length laid.items ≡ length disks.items) }
+    ensures err { IfErr result (λ e. IsNotOpen D.tells D.moments D.faults terms.now digest.now disks.items e.disks.items e.clock e.fault) }
+{
+    let Ok(mut laid) = Vec::with_capacity(alloc, disks.len()) else {
+        return Err(NotOpen {
+            disks,
+            clock: 0,
+            fault: OpenFault::NoMemory,
+        });
+    };
+    let mut rest = disks;
+    rest.reverse();
+    for clock in 0..terms.bidders + 1 {
+        let disk = rest.pop().unwrap();
+        match lay(alloc, disk, terms, clock, digest, passes) {
+            Ok(stand) => laid.push_reserved(stand),
+            Err(Unopened { disk, fault }) => {
+                rest.push_reserved(disk);
+                let disks = given_back(rest, laid);
+                return Err(NotOpen {
+                    disks,
+                    clock,
+                    fault,
+                });
+            }
+        }
+    }
+    rest.destroy_empty();
+    Ok(laid)
+}
+
+/// The disks in order: those of the desks, and then these, of which the last comes first.
+fn given_back<D: Disk>(rest: Vec<D>, laid: Vec<Laid<D>>) -> Vec<D>
+    requires room { length rest.items + length laid.items ≤ vec_capacity rest }
+    ensures { (front : List D) × (length front ≡ length laid.items) × (result.items ≡ front ++ reverse rest.items) }
+{
+    let mut disks = rest;
+    let mut laid = laid;
+    while let Some(stand) = laid.pop() {
+        disks.push_reserved(stand.into_disk());
+    }
+    laid.destroy_empty();
+    disks.reverse();
+    disks
+}
