@@ -1,0 +1,6 @@
+mod Behind
+mod Turned
+mod Taking
+mod Pulling
+mod Whole
+mod Visits

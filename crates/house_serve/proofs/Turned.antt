@@ -1,0 +1,120 @@
+-- Turns behind turns.
+use Rattle.std.proofs.Common.{◌≡◌, ℕ, ◌<◌, ◌+◌, ◌-◌, zero, suc, List, [], ◌∷◌, ◌++◌, length, take, drop, get_or, map, Option, Some, None, refl, sym, ◌∙◌, ap, subst, arith, append_assoc, append-nil, take-append-drop}
+use Rattle.std.proofs.lemmas.List.{map-append}
+use Rattle.std.specs.List.{AllByRecursion}
+use Rattle.house_io.specs.Told.{IfTold}
+use Rattle.house_io.specs.Links.{LinkBytes}
+use Rattle.house_io.proofs.Telling.{told-trans, told-map, told-same}
+use Rattle.auction_file.specs.declared.listing.Auction.{Auction}
+use Rattle.report_wire.specs.Frames.{IsMessage, IsSent, spelled}
+use Rattle.report_wire.specs.Messages.{to_house, house_sent, house_kind, house_payload, bidder_sent}
+use Rattle.report_wire.specs.declared.messages.ToHouse.{ToHouse}
+use Rattle.report_wire.specs.declared.messages.ToBidder.{ToBidder}
+use Rattle.session.specs.declared.halls.Asked.{Asked}
+use Rattle.session.specs.Table.{bidder_after}
+use Rattle.session.specs.Turns.{Turn, IsTurn, AreTurns, frames_of, bytes_of, bidder_behind}
+use Rattle.house_serve.specs.declared.ends.SessionEnd.{SessionEnd}
+use Rattle.house_serve.specs.Pieces.{Adds, WritesBy, GoesBy, Answers}
+use Rattle.house_serve.proofs.Behind.{goes_join, writes_join}
+
+pub bytes_on : {M : Type 0} (ts us : List (Turn M)) → bytes_of (ts ++ us) ≡ bytes_of ts ++ bytes_of us
+bytes_on [] us = refl
+bytes_on (t ∷ ts) us = ap (λ (l : List ℕ). spelled (bidder_sent t.reply) ++ l) (bytes_on ts us) ∙ sym (append_assoc (spelled (bidder_sent t.reply)) (bytes_of ts) (bytes_of us))
+
+pub frames_on : {M : Type 0} (ts us : List (Turn M)) → frames_of (ts ++ us) ≡ frames_of ts ++ frames_of us
+frames_on {M = M} ts us = map-append (λ (t : Turn M). t.frame) ts us
+
+pub take_more : {A : Type 0} (xs : List A) (i : ℕ) (x : A) → i < length xs → x ≡ get_or xs i x → take (i + 1) xs ≡ take i xs ++ x ∷ []
+take_more [] i x lt is = absurd (omega arith)
+take_more (y ∷ ys) zero x lt is = ap (λ z. z ∷ []) (sym is)
+take_more {A = A} (y ∷ ys) (suc i) x lt is =
+    let e : suc i + 1 ≡ suc (i + 1) = omega arith in
+    subst (λ (n : ℕ). take n (y ∷ ys) ≡ y ∷ (take i ys ++ x ∷ [])) (sym e) (ap (λ (l : List A). y ∷ l) (take_more ys i x (omega arith) is))
+
+pub split_at_item : {A : Type 0} (xs : List A) (i : ℕ) (x : A) → i < length xs → x ≡ get_or xs i x → xs ≡ (take i xs ++ x ∷ []) ++ drop (i + 1) xs
+split_at_item xs i x lt is = sym (take-append-drop (i + 1) xs) ∙ ap (λ l. l ++ drop (i + 1) xs) (take_more xs i x lt is)
+
+pub sent_at : (fs : List ToHouse) (i : ℕ) (f : ToHouse) → AllByRecursion (IsSent to_house) (map house_sent fs) → i < length fs → f ≡ get_or fs i f → IsMessage to_house (house_kind f) (house_payload f)
+sent_at [] i f all lt is = absurd (omega arith)
+sent_at (g ∷ gs) zero f all lt is = subst (λ (h : ToHouse). IsMessage to_house (house_kind h) (house_payload h)) (sym is) all.0
+sent_at (g ∷ gs) (suc i) f all lt is = sent_at gs i f all.1 (omega arith) is
+
+module _ {M : Type 0} (allows : M → Asked → M → Type 0) (auction : Auction) where
+  pub turns_on : (ts us : List (Turn M)) (w w1 w2 : Option ℕ) (m m1 m2 : M) → AreTurns allows auction w m ts w1 m1 → AreTurns allows auction w1 m1 us w2 m2 → AreTurns allows auction w m (ts ++ us) w2 m2
+  turns_on [] us w w1 w2 m m1 m2 p q = subst (λ (x : Option ℕ). AreTurns allows auction x m us w2 m2) p.0 (subst (λ (y : M). AreTurns allows auction w1 y us w2 m2) p.1 q)
+  turns_on (t ∷ ts) us w w1 w2 m m1 m2 p q = (p.0, turns_on ts us (bidder_after auction w t.frame) w1 w2 t.now m1 m2 p.1 q)
+
+  pub later_is : (ts : List (Turn M)) (w w1 : Option ℕ) (m m1 : M) → AreTurns allows auction w m ts w1 m1 → w1 ≡ bidder_behind auction w (frames_of ts)
+  later_is [] w w1 m m1 p = p.0
+  later_is (t ∷ ts) w w1 m m1 p = later_is ts (bidder_after auction w t.frame) w1 t.now m1 p.1
+
+  pub start : (w : Option ℕ) (m : M) (t : Option LinkBytes) → Answers allows auction [] w m t w m t None
+  start w m t = record {
+    turns = [];
+    more = [];
+    frames_are = refl;
+    all = λ _. refl;
+    held = (refl, refl);
+    goes = refl;
+    sent = told-same t (λ b a. (given : List ℕ) × Adds given b a × WritesBy None [] given) (λ x. ([], (refl, sym (append-nil x.written)), refl));
+  }
+
+  pub one : (f : ToHouse) (w w1 : Option ℕ) (m m1 : M) (t t1 : Option LinkBytes) (reply : ToBidder) (asked : Option Asked) (end : Option SessionEnd) → IsTurn allows auction w m (record { frame = f; asked = asked; reply = reply; now = m1 })
+      → w1 ≡ bidder_after auction w f → GoesBy auction w (f ∷ []) end → IfTold t t1 (λ b a. (given : List ℕ) × Adds given b a × WritesBy end (spelled (bidder_sent reply)) given)
+      → Answers allows auction (f ∷ []) w m t w1 m1 t1 end
+  one f w w1 m m1 t t1 reply asked end turn later goes sent = record {
+    turns = record { frame = f; asked = asked; reply = reply; now = m1 } ∷ [];
+    more = [];
+    frames_are = refl;
+    all = λ _. refl;
+    held = (turn, (later, refl));
+    goes = goes;
+    sent = told-map t t1 (λ b a. (given : List ℕ) × Adds given b a × WritesBy end (spelled (bidder_sent reply)) given) (λ b a. (given : List ℕ) × Adds given b a × WritesBy end (spelled (bidder_sent reply) ++ []) given) sent (λ x y h. (h.0, h.1, subst (λ (l : List ℕ). WritesBy end l h.0) (sym (append-nil (spelled (bidder_sent reply)))) h.2));
+  }
+
+  pub join : (fs gs : List ToHouse) (w w1 w2 : Option ℕ) (m m1 m2 : M) (t t1 t2 : Option LinkBytes) (end : Option SessionEnd) → Answers allows auction fs w m t w1 m1 t1 None → Answers allows auction gs w1 m1 t1 w2 m2 t2 end
+      → Answers allows auction (fs ++ gs) w m t w2 m2 t2 end
+  join fs gs w w1 w2 m m1 m2 t t1 t2 end a b =
+      let whole : fs ≡ frames_of a.turns = a.frames_are ∙ ap (λ (l : List ToHouse). frames_of a.turns ++ l) (a.all refl) ∙ append-nil (frames_of a.turns) in
+      let later = later_is a.turns w w1 m m1 a.held in
+      let both = frames_on a.turns b.turns in
+      let bytes = bytes_on a.turns b.turns in
+      record {
+        turns = a.turns ++ b.turns;
+        more = b.more;
+        frames_are = ap (λ (l : List ToHouse). l ++ gs) whole ∙ ap (λ (l : List ToHouse). frames_of a.turns ++ l) b.frames_are ∙ sym (append_assoc (frames_of a.turns) (frames_of b.turns) b.more) ∙ ap (λ (l : List ToHouse). l ++ b.more) (sym both);
+        all = b.all;
+        held = turns_on a.turns b.turns w w1 w2 m m1 m2 a.held b.held;
+        goes = subst (λ (l : List ToHouse). GoesBy auction w l end) (sym both) (goes_join auction (frames_of a.turns) (frames_of b.turns) w end a.goes (subst (λ (x : Option ℕ). GoesBy auction x (frames_of b.turns) end) later b.goes));
+        sent = told-trans t t1 t2 (λ x y. (given : List ℕ) × Adds given x y × WritesBy None (bytes_of a.turns) given) (λ x y. (given : List ℕ) × Adds given x y × WritesBy end (bytes_of b.turns) given) (λ x y. (given : List ℕ) × Adds given x y × WritesBy end (bytes_of (a.turns ++ b.turns)) given) a.sent b.sent (λ x y z p q. (
+          bytes_of a.turns ++ q.0,
+          (q.1.0 ∙ p.1.0, q.1.1 ∙ ap (λ (l : List ℕ). l ++ q.0) (p.1.1 ∙ ap (λ (l : List ℕ). x.written ++ l) p.2) ∙ append_assoc x.written (bytes_of a.turns) q.0),
+          subst (λ (l : List ℕ). WritesBy end l (bytes_of a.turns ++ q.0)) (sym bytes) (writes_join end (bytes_of a.turns) (bytes_of b.turns) q.0 q.2),
+        ));
+      }
+
+  pub extend : (gs hs : List ToHouse) (w w1 : Option ℕ) (m m1 : M) (t t1 : Option LinkBytes) (e : SessionEnd) → Answers allows auction gs w m t w1 m1 t1 (Some e) → Answers allows auction (gs ++ hs) w m t w1 m1 t1 (Some e)
+  extend gs hs w w1 m m1 t t1 e a = record {
+    turns = a.turns;
+    more = a.more ++ hs;
+    frames_are = ap (λ (l : List ToHouse). l ++ hs) a.frames_are ∙ append_assoc (frames_of a.turns) a.more hs;
+    all = λ same. absurd (let f : Some e ≡ None = same in cc);
+    held = a.held;
+    goes = a.goes;
+    sent = a.sent;
+  }
+
+-- a front of a text was written
+pub cut_off : (t t1 : Option LinkBytes) (text bytes : List ℕ) → text ≡ bytes → IfTold t t1 (λ b a. (a.left ≡ b.left) × (a.written ≡ b.written ++ take (length a.written - length b.written) text))
+    → IfTold t t1 (λ b a. (given : List ℕ) × (more : List ℕ) × (bytes ≡ given ++ more) × Adds given b a)
+cut_off t t1 text bytes same h =
+    told-map t t1 (λ b a. (a.left ≡ b.left) × (a.written ≡ b.written ++ take (length a.written - length b.written) text)) (λ b a. (given : List ℕ) × (more : List ℕ) × (bytes ≡ given ++ more) × Adds given b a) h
+    (λ x y g. (take (length y.written - length x.written) text, drop (length y.written - length x.written) text, sym same ∙ sym (take-append-drop (length y.written - length x.written) text), g))
+
+pub sent_whole : (t t1 : Option LinkBytes) (text : List ℕ) (end : Option SessionEnd) → WritesBy end text text → IfTold t t1 (Adds text) → IfTold t t1 (λ b a. (given : List ℕ) × Adds given b a × WritesBy end text given)
+sent_whole t t1 text end w h = told-map t t1 (Adds text) (λ b a. (given : List ℕ) × Adds given b a × WritesBy end text given) h (λ x y g. (text, g, w))
+
+pub cut_short : (t t1 : Option LinkBytes) (text : List ℕ) (end : Option SessionEnd) → ((given more : List ℕ) → text ≡ given ++ more → WritesBy end text given)
+    → IfTold t t1 (λ b a. (given : List ℕ) × (more : List ℕ) × (text ≡ given ++ more) × Adds given b a) → IfTold t t1 (λ b a. (given : List ℕ) × Adds given b a × WritesBy end text given)
+cut_short t t1 text end w h =
+    told-map t t1 (λ b a. (given : List ℕ) × (more : List ℕ) × (text ≡ given ++ more) × Adds given b a) (λ b a. (given : List ℕ) × Adds given b a × WritesBy end text given) h (λ x y g. (g.0, g.3, w g.0 g.1 g.2))

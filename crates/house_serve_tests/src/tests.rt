@@ -1,0 +1,228 @@
+//! Sessions over links in memory, and the doors at which they come in.
+use auction_file::{Auction, MOST_BYTES, read};
+use house_io::{Link, ListLink, SureLink};
+use house_serve::{SessionEnd, serve_link};
+use report_wire::{WireFault, WireKind};
+use session::ListHall;
+use std::alloc::Global;
+use std::process::Abort;
+use std::sync::Wait;
+use std::test::Fail;
+
+/// One unit of one good for two bidders, whose tokens are `abc` and `hello`.
+const FILE: &str = r#"
+version = 1
+ceiling = 10
+
+[[goods]]
+name = "oil"
+supply = 1
+
+[[bidders]]
+name = "ada"
+token = "ba7816bf8f01cfea414140de5dae2223b00361a396177a9cb410ff61f20015ad"
+
+[[bidders]]
+name = "bob"
+token = "2cf24dba5fb0a30e26e83b2ac5b9e29e1b161e5c1fa7425e73043362938b9824"
+"#;
+
+pub(crate) const HELLO: &[u8] = b"\x00\x00\x00\x04\x01\x01abc";
+
+pub(crate) const WELCOME: &[u8] = b"\x00\x00\x00\x02\x11\x01\x03";
+
+pub(crate) const REPORT: &[u8] = b"\x00\x00\x00\x0a\x03\x00\x00\x00\x00\x01\x01\x00\x01\x00\x01";
+
+pub(crate) const TAKEN: &[u8] = b"\x00\x00\x00\x05\x13\x00\x00\x00\x00\x01";
+
+const AGAIN: &[u8] = b"\x00\x00\x00\x05\x14\x00\x00\x00\x00\x01";
+
+pub(crate) const QUIT: &[u8] = b"\x00\x00\x00\x00\x04";
+
+pub(crate) const BYE: &[u8] = b"\x00\x00\x00\x00\x16";
+
+/// What comes, in pieces, what goes, in pieces, and the end.
+type Case<'a> = (&'a [&'a [u8]], &'a [&'a [u8]], SessionEnd);
+
+pub(crate) fn auction(rt: &impl Abort, alloc: Global) -> Result<Auction, Fail> {
+    assert!(rt; FILE.len() <= MOST_BYTES);
+    Ok(read(alloc, FILE.as_bytes())?)
+}
+
+pub(crate) fn joined(alloc: Global, pieces: &[&[u8]]) -> Result<Vec<u8>, Fail> {
+    let mut bytes = Vec::new(alloc);
+    for piece in pieces {
+        bytes.extend_from_slice(piece)?;
+    }
+    Ok(bytes)
+}
+
+pub(crate) fn sure_link(alloc: Global, pieces: &[&[u8]]) -> Result<SureLink, Fail> {
+    Ok(SureLink::new(alloc, joined(alloc, pieces)?, 1000)?)
+}
+
+/// A link with a hello, a report and a quit, of which the call of this number fails.
+fn list_link(alloc: Global, failing: u64) -> Result<ListLink, Fail> {
+    let bytes = joined(alloc, &[HELLO, REPORT, QUIT])?;
+    let mut numbers = Vec::new(alloc);
+    numbers.push(failing)?;
+    Ok(ListLink::new(alloc, bytes, 1000, numbers)?)
+}
+
+/// Serves a session over a link, with a hall of its own.
+fn serve<L: Link, T: Wait + Abort>(
+    rt: &T,
+    alloc: Global,
+    link: &mut L,
+) -> Result<SessionEnd, Fail> {
+    let auction = auction(rt, alloc)?;
+    let mut hall = ListHall::open(alloc, &auction.terms)?;
+    Ok(serve_link(rt, alloc, &auction, &mut hall, link))
+}
+
+fn serves<T: Wait + Abort>(rt: &T, alloc: Global, case: &Case) -> Result<bool, Fail> {
+    let (comes, goes, end) = case;
+    let mut link = sure_link(alloc, comes)?;
+    let found = serve(rt, alloc, &mut link)?;
+    let wanted = joined(alloc, goes)?;
+    Ok(found == *end && link.written() == wanted.as_slice())
+}
+
+fn check<T: Wait + Abort>(rt: &T, alloc: Global, cases: &[Case]) -> Result<(), Fail> {
+    for case in cases {
+        let served = serves(rt, alloc, case)?;
+        assert!(rt; served, "{case:?}");
+    }
+    Ok(())
+}
+
+fn fault(place: u64, kind: WireKind) -> SessionEnd {
+    SessionEnd::Wire(WireFault { place, kind })
+}
+
+#[test]
+fn each_frame_is_answered(rt: HostRuntime) -> Result<(), Fail> {
+    let comes = [
+        b"\x00\x00\x00\x01\x02\x00".as_slice(),
+        HELLO,
+        b"\x00\x00\x00\x01\x02\x00",
+        REPORT,
+        REPORT,
+        b"\x00\x00\x00\x01\x02\x01",
+        b"\x00\x00\x00\x01\x02\x03",
+        QUIT,
+    ];
+    let goes = [
+        b"\x00\x00\x00\x06\x15\x01\x00\x00\x00\x00\x00".as_slice(),
+        WELCOME,
+        b"\x00\x00\x00\x0c\x12\x00\x00\x00\x00\x01\x00\x00\x01\x00\x00\x00\x00",
+        TAKEN,
+        AGAIN,
+        b"\x00\x00\x00\x06\x15\x04\x00\x00\x00\x00\x01",
+        b"\x00\x00\x00\x06\x15\x03\x00\x00\x00\x00\x03",
+        BYE,
+    ];
+    check(&rt, rt.alloc(), &[(&comes, &goes, SessionEnd::Quit)])
+}
+
+#[test]
+fn a_fault_is_answered_behind_the_frames_and_ends_the_session(rt: HostRuntime) -> Result<(), Fail> {
+    check(
+        &rt,
+        rt.alloc(),
+        &[
+            (
+                &[b"\x00\x00\x80\x01"],
+                &[b"\x00\x00\x00\x06\x15\x0e\x00\x00\x00\x80\x01"],
+                fault(0, WireKind::TooLong(32_769)),
+            ),
+            (
+                &[HELLO, b"\x00\x00\x00\x00\x09", QUIT],
+                &[WELCOME, b"\x00\x00\x00\x06\x15\x0f\x00\x00\x00\x00\x09"],
+                fault(9, WireKind::UnknownKind(9)),
+            ),
+            (
+                &[WELCOME],
+                &[b"\x00\x00\x00\x06\x15\x0f\x00\x00\x00\x00\x11"],
+                fault(0, WireKind::UnknownKind(17)),
+            ),
+            (
+                &[b"\x00\x00\x00\x02\x02\x00"],
+                &[b"\x00\x00\x00\x06\x15\x10\x00\x00\x00\x00\x02"],
+                fault(0, WireKind::BadPayload { kind: 2, length: 2 }),
+            ),
+            (
+                &[b"\x00\x00\x00\x42\x01"],
+                &[b"\x00\x00\x00\x06\x15\x10\x00\x00\x00\x00\x01"],
+                fault(
+                    0,
+                    WireKind::BadPayload {
+                        kind: 1,
+                        length: 66,
+                    },
+                ),
+            ),
+            (
+                &[
+                    HELLO,
+                    b"\x00\x00\x00\x08\x03\x00\x00\x00\x00\x01\x01\x00\x01",
+                ],
+                &[WELCOME, b"\x00\x00\x00\x06\x15\x10\x00\x00\x00\x00\x03"],
+                fault(9, WireKind::BadPayload { kind: 3, length: 8 }),
+            ),
+        ],
+    )
+}
+
+#[test]
+fn a_session_ends_with_its_frames_or_its_input(rt: HostRuntime) -> Result<(), Fail> {
+    check(
+        &rt,
+        rt.alloc(),
+        &[
+            (&[], &[], SessionEnd::Closed { rest: 0 }),
+            (&[b"\x00\x00"], &[], SessionEnd::Closed { rest: 2 }),
+            (
+                &[REPORT, HELLO, b"\x00\x00\x00\x01\x02"],
+                &[b"\x00\x00\x00\x06\x15\x01\x00\x00\x00\x00\x00", WELCOME],
+                SessionEnd::Closed { rest: 5 },
+            ),
+            (
+                &[HELLO, HELLO, QUIT, REPORT],
+                &[
+                    WELCOME,
+                    b"\x00\x00\x00\x06\x15\x0d\x00\x00\x00\x00\x00",
+                    BYE,
+                ],
+                SessionEnd::Quit,
+            ),
+            (
+                &[b"\x00\x00\x00\x04\x01\x01abd", HELLO],
+                &[b"\x00\x00\x00\x06\x15\x02\x00\x00\x00\x00\x01"],
+                SessionEnd::BadToken,
+            ),
+        ],
+    )
+}
+
+/// Whether the session ends by the link's fault, with these replies before it.
+fn is_cut<T: Wait + Abort>(
+    rt: &T,
+    alloc: Global,
+    failing: u64,
+    goes: &[&[u8]],
+) -> Result<bool, Fail> {
+    let mut link = list_link(alloc, failing)?;
+    let end = serve(rt, alloc, &mut link)?;
+    let wanted = joined(alloc, goes)?;
+    Ok(end == SessionEnd::LinkFault && link.written() == wanted.as_slice())
+}
+
+#[test]
+fn a_link_that_fails_ends_its_session(rt: HostRuntime) -> Result<(), Fail> {
+    assert!(rt; is_cut(&rt, rt.alloc(), 0, &[])?);
+    assert!(rt; is_cut(&rt, rt.alloc(), 1, &[])?);
+    assert!(rt; is_cut(&rt, rt.alloc(), 2, &[WELCOME])?);
+    assert!(rt; is_cut(&rt, rt.alloc(), 3, &[WELCOME, TAKEN])?);
+    Ok(())
+}
