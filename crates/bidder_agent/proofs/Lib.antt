@@ -1,0 +1,6 @@
+mod Replies
+mod Conversing
+mod Clocks
+mod Visits
+mod Turns
+mod Wanted
