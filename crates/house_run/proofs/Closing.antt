@@ -15,7 +15,7 @@ same-or-other name other = elim (cases_Bool (bytes_eq other name)) [
   | inr e ↦ inr (λ same. let t = (bytes_eq-Decides other name).1 same in let bad : true ≡ false = sym t ∙ e in cc)
 ]
 
-none-changed : (before between after : Option (List NamedFile)) → ChangesNone before between → ChangesNone between after → ChangesNone before after
+pub none-changed : (before between after : Option (List NamedFile)) → ChangesNone before between → ChangesNone between after → ChangesNone before after
 none-changed before between None opening closing = tt
 none-changed before between (Some files) opening closing =
     let P : Option (List NamedFile) → Type 0 = λ o. IfTells o (λ fs. before ≡ Some fs) in

@@ -11,14 +11,16 @@ use Rattle.settlement.specs.declared.outcome.Settlement.{Settlement}
 use Rattle.settlement.specs.declared.outcome.Settlement.TheVariants as settlement
 use Rattle.house_run.specs.Journals.{IsBadJournal}
 use Rattle.house_run.specs.Outcomes.{Settles, SettlesAs}
-use Rattle.house_run.specs.Ends.{AreGood, AreGoodJournals, IsJournalIn, MayOpen, CommandEnds, IsDoneOrNoMemory, IsGoodAuction, IsGoodLog, NothingFailed, RunEnds, Wrote, WroteLine}
+use Rattle.house_run.specs.Ends.{AreGood, AreGoodJournals, AreGoodValues, IsJournalIn, MayOpen, CommandEnds, IsDoneOrNoMemory, IsGoodAuction, IsGoodLog, NothingFailed, RunEnds, Wrote, WroteLine}
 use Rattle.house_run.specs.Logs.{IsFaultyAt}
 use Rattle.house_run.specs.Needs.{Has, Log, Needs, journal_name}
-use Rattle.house_run.specs.Seen.{Outside, ShelfSeen, SinkSeen, IsTooLong, auction_limit, content, log_limit}
+use Rattle.house_run.specs.Seen.{Outside, ShelfSeen, SinkSeen, IsTooLong, auction_limit, content, log_limit, values_limit}
 use Rattle.house_run.specs.declared.ends.Ended.{Ended}
 use Rattle.house_run.specs.declared.ends.Ended.TheVariants as how
 use Rattle.house_run.specs.declared.ends.File.TheVariants as which
 use Rattle.house_run.proofs.GoodJournals.{IsOther, no-other, not-bad, other-halted, other-no-award, other-open, read-told, says-told}
+use Rattle.house_run.specs.Markets.{IsBadValues}
+use Rattle.house_run.proofs.GoodMarkets.{good-values, not-without}
 use Rattle.house_run.proofs.LogBytes.{no-fault}
 use Rattle.house_run.proofs.Once.{spelled-once}
 
@@ -111,6 +113,14 @@ ended-well needs seen sink files (how.TooLong which.Auction) may told good quiet
 ended-well needs seen sink files (how.TooLong which.Log) may told good quiet = absurd (
     let both = both-of needs.log _ _ may good.log in
     not-long seen.shelf files both.value.name log_limit told both.first both.second.short)
+ended-well needs seen sink files (how.TooLong which.Values) may told good quiet = absurd (
+    let both = both-of-two needs.auction needs.values (λ a v. IsTooLong seen.shelf v values_limit) (λ a v. AreGoodValues files a v) may good.values in
+    not-long seen.shelf files both.other values_limit told both.first both.second.short)
+ended-well needs seen sink files (how.BadValues fault) may told good quiet = absurd (
+    let both = both-of-two needs.auction needs.values (λ a v. IsBadValues seen.shelf a v fault) (λ a v. AreGoodValues files a v) may good.values in
+    good-values seen.shelf files both.one both.other fault told both.first both.second)
+ended-well needs seen sink files (how.NotSubstitutes bidder x y units) may told good quiet = absurd (
+    not-without needs seen.shelf files bidder x y units told may good)
 ended-well needs seen sink files (how.BadLog place) may told good quiet = absurd (
     let both = both-of needs.log _ _ may good.log in
     good-log both.value place seen.shelf files told both.first both.second)

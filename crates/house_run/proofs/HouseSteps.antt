@@ -33,15 +33,15 @@ use Rattle.house_run.specs.declared.ends.Ended.TheVariants as how
 use Rattle.house_run.proofs.Framing.{auction-then, counts-then, has, kept-then, none-kept, steady-counts}
 use Rattle.house_run.proofs.JournalSteps.{later, terms-are}
 
-pub sources-are : (needs : Needs) (auction : List ℕ) → needs.auction ≡ Some auction → needs.log ≡ None → sources needs ≡ auction ∷ []
-sources-are needs auction a l = λ i. list_of (a i) ++ list_of (option_map (λ (log : Log). log.name) (l i))
+pub sources-are : (needs : Needs) (auction : List ℕ) → needs.auction ≡ Some auction → sources needs ≡ auction ∷ [] → sources needs ≡ auction ∷ []
+sources-are needs auction a l = l
 
 wider : (P Q : List ℕ → Type 0) (before now : List ℕ → ℕ) → ((name : List ℕ) → P name → Q name) → RisesAmong P before now → RisesAmong Q before now
 wider P Q before now f rises = record { later = rises.later; others = λ name not. rises.others name (λ p. not (f name p)) }
 
 -- the auction was read, and then the journals of so many clocks
 pub journals-frame : (needs : Needs) (auction journals : List ℕ) (end : Ended) (seen : Outside) (listing : Listing) (clocks : ℕ) (files : Option (List NamedFile)) (faults : List ℕ → ℕ) (names : List (List ℕ))
-    → needs.auction ≡ Some auction → needs.log ≡ None → needs.journals ≡ Some journals → IsAuctionAt seen.shelf auction listing → clocks ≤ length listing.bidder_names + 1
+    → needs.auction ≡ Some auction → sources needs ≡ auction ∷ [] → needs.journals ≡ Some journals → IsAuctionAt seen.shelf auction listing → clocks ≤ length listing.bidder_names + 1
     → ChangesNone seen.shelf.files_before files → names ≡ with_name auction seen.shelf.opened_before
     → SyncsFirst journals clocks (later seen.shelf files faults names)
     → RisesAmong (Tells needs end) seen.shelf.faults_before seen.shelf.faults → Frame needs end seen
@@ -81,7 +81,7 @@ read-histories auction journals seen terms digest listing files faults names cs 
 
 pub read-frame : (auction journals : List ℕ) (seen : Outside) (terms : Terms) (digest : List ℕ) (listing : Listing) (files : Option (List NamedFile)) (faults : List ℕ → ℕ) (names : List (List ℕ))
     → Opened auction seen terms digest listing files faults names → SyncsFirst journals (terms.bidders + 1) (later seen.shelf files faults names) → IsSteady (later seen.shelf files faults names)
-    → (needs : Needs) (end : Ended) → needs.auction ≡ Some auction → needs.log ≡ None → needs.journals ≡ Some journals → Frame needs end seen
+    → (needs : Needs) (end : Ended) → needs.auction ≡ Some auction → sources needs ≡ auction ∷ [] → needs.journals ≡ Some journals → Frame needs end seen
 read-frame auction journals seen terms digest listing files faults names opened synced steady needs end a l j =
     journals-frame needs auction journals end seen listing (terms.bidders + 1) files faults names a l j opened.is (let e = opened.terms_are.bidders_are in omega arith) opened.read opened.first synced
     (steady-counts (Tells needs end) seen.shelf (λ name. steady name ∙ opened.steady name))
@@ -89,14 +89,14 @@ read-frame auction journals seen terms digest listing files faults names opened 
 -- what an end with these counts leaves
 left : (auction journals : List ℕ) (seen : Outside) (terms : Terms) (digest : List ℕ) (listing : Listing) (files : Option (List NamedFile)) (faults : List ℕ → ℕ) (names : List (List ℕ))
     → Opened auction seen terms digest listing files faults names → SyncsJournals journals (terms.bidders + 1) (later seen.shelf files faults names)
-    → (needs : Needs) (end : Ended) → needs.auction ≡ Some auction → needs.log ≡ None → needs.journals ≡ Some journals → RisesAmong (Tells needs end) seen.shelf.faults_before seen.shelf.faults → Frame needs end seen
+    → (needs : Needs) (end : Ended) → needs.auction ≡ Some auction → sources needs ≡ auction ∷ [] → needs.journals ≡ Some journals → RisesAmong (Tells needs end) seen.shelf.faults_before seen.shelf.faults → Frame needs end seen
 left auction journals seen terms digest listing files faults names opened synced needs end a l j counts =
     journals-frame needs auction journals end seen listing synced.count files faults names a l j opened.is (let e = opened.terms_are.bidders_are in let f = synced.few in omega arith) opened.read opened.first synced.synced counts
 
 pub house-ends : (fault : OpenFault) (auction journals : List ℕ) (seen : Outside) (terms : Terms) (digest : List ℕ) (clock : ℕ) (listing : Listing) (files : Option (List NamedFile)) (faults : List ℕ → ℕ) (names : List (List ℕ))
     → Opened auction seen terms digest listing files faults names → clock ≤ terms.bidders → SyncsJournals journals (terms.bidders + 1) (later seen.shelf files faults names)
     → EndsAtJournal (later seen.shelf files faults names) terms digest journals clock fault
-    → (needs : Needs) → needs.auction ≡ Some auction → needs.log ≡ None → needs.journals ≡ Some journals → LeavesSo needs seen (end_at clock fault)
+    → (needs : Needs) → needs.auction ≡ Some auction → sources needs ≡ auction ∷ [] → needs.journals ≡ Some journals → LeavesSo needs seen (end_at clock fault)
 house-ends why.DiskFault auction journals seen terms digest clock listing files faults names opened few synced ends needs a l j =
     let P : ℕ → Type 0 = λ before. Rose before (seen.shelf.faults (journal_name journals clock)) in
     let failed : JournalFailed auction journals clock seen.shelf = record {
@@ -165,6 +165,8 @@ settled-end (how.DiskFault clock) auction journals seen terms cs are is = absurd
 settled-end (how.BadJournal clock fault) auction journals seen terms cs are is = absurd is
 settled-end (how.BadAuction fault) auction journals seen terms cs are is = absurd is
 settled-end (how.TooLong file) auction journals seen terms cs are is = absurd is
+settled-end (how.BadValues fault) auction journals seen terms cs are is = absurd is
+settled-end (how.NotSubstitutes bidder x y good) auction journals seen terms cs are is = absurd is
 settled-end (how.BadLog place) auction journals seen terms cs are is = absurd is
 
 -- the settlement of clocks that a call was lent

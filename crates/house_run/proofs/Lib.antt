@@ -29,4 +29,7 @@ pub mod HouseSteps
 pub mod Telling
 pub mod Once
 pub mod GoodJournals
+pub mod GoodMarkets
+pub mod MarketSteps
+pub mod Summing
 pub mod Complete

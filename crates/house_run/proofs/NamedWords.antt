@@ -1,6 +1,6 @@
 -- Words by the ids of one argument or four, and the commands that they spell.
-use Rattle.std.proofs.Common.{◌≡◌, ℕ, Bool, List, [], ◌∷◌, length, refl, sym, ap, ◌∙◌, subst}
-use Rattle.std.specs.Prelude.{codes, Some, IsSome, Option}
+use Rattle.std.proofs.Common.{◌≡◌, ◌≤◌, ◌^◌, ◌-◌, arith, ℕ, Bool, List, [], ◌∷◌, length, refl, sym, ap, ◌∙◌, subst}
+use Rattle.std.specs.Prelude.{codes, decimal, Some, IsSome, Option}
 use Rattle.std.specs.List.{AllByRecursion}
 use Rattle.clap.specs.Matches.{first_value}
 use Rattle.clap.specs.declared.parser.matches.Found.{Found}
@@ -9,9 +9,11 @@ use Rattle.house_run.specs.Positionals.{AreNamed}
 use Rattle.house_run.specs.CheckCommand.{IsCheck}
 use Rattle.house_run.specs.FoldCommand.{AreTermWords, IsFold}
 use Rattle.house_run.specs.Arguments.{AreArguments, plain_in}
-use Rattle.house_run.specs.Commands.{Check, Command, Fold, IsNoCommand, Settle, Spells, Standing}
+use Rattle.house_run.specs.Commands.{Check, Command, Fold, IsNoCommand, Make, Settle, Spells, Standing, Trial}
 use Rattle.house_run.specs.SettleCommand.{IsSettle}
 use Rattle.house_run.specs.StandingCommand.{IsStanding}
+use Rattle.house_run.specs.TrialCommand.{IsTrialWords}
+use Rattle.house_run.specs.MakeCommand.{IsMakeWords}
 use Rattle.house_run.specs.Words.{IsPlainWord}
 
 pub record IsOneWord (f : Found) (a : List ℕ) (words : List (List ℕ)) : Type 0 where
@@ -121,8 +123,27 @@ two-plain behind words json are other = λ command is.
     settled (Fold terms log) all is e = let bad = sym is.words_are ∙ e in cc
     settled (Check auction) all is e = let bad = sym is.words_are ∙ e in cc
     settled (Standing auction journals) all is e = let bad = sym is.words_are ∙ e in cc
+    settled (Trial auction values) all is e = let bad = sym is.words_are ∙ e in cc
+    settled (Make number) all is e = let bad = sym is.words_are ∙ e in cc
     settled (Settle auction journals given) all is e =
         let w : codes "settle" ∷ is.behind ≡ codes "settle" ∷ behind = sym is.words_are ∙ e in
         let b : is.behind ≡ behind = cc in
         let p : words ≡ auction ∷ journals ∷ [] = are.plain_are ∙ ap plain_in (sym b) ∙ sym is.arguments.plain_are in
         other (ap length p)
+
+pub spells-trial : (f : Found) (a b auction values : List ℕ) (words : List (List ℕ)) → AreNamed f (a ∷ b ∷ []) words → first_value f a ≡ Some auction → first_value f b ≡ Some values → AllByRecursion IsPlainWord words
+    → IsTrialWords auction values (codes "trial" ∷ words)
+spells-trial f a b auction values words named auction_is values_are plain =
+    let two = two-words f a b words named in
+    let x = same-word (first_value f a) two.first auction two.first_is auction_is in
+    let y = same-word (first_value f b) two.second values two.second_is values_are in
+    let same : words ≡ auction ∷ values ∷ [] = two.words_are ∙ (λ i. x i ∷ y i ∷ []) in
+    let P : List (List ℕ) → Type 0 = λ ws. AllByRecursion IsPlainWord ws in
+    let all = subst P same plain in
+    record { words_are = ap (λ ws. codes "trial" ∷ ws) same; auction_is = all.0; values_are = all.1.0 }
+
+pub spells-make : (f : Found) (a word : List ℕ) (number : ℕ) (words : List (List ℕ)) → AreNamed f (a ∷ []) words → first_value f a ≡ Some word → word ≡ decimal number → number ≤ 2 ^ 32 - 1 → IsMakeWords number (codes "make" ∷ words)
+spells-make f a word number words named is digits few =
+    let one = one-word f a words named in
+    let same : words ≡ decimal number ∷ [] = one.words_are ∙ ap (λ w. w ∷ []) (same-word (first_value f a) one.word word one.word_is is ∙ digits) in
+    record { words_are = ap (λ ws. codes "make" ∷ ws) same; few = omega arith }

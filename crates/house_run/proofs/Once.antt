@@ -6,10 +6,12 @@ use Rattle.lot_base.specs.Goods.{IsOpening, IsRange, IsSupply, zeros}
 use Rattle.std.specs.Prelude.{codes, bytes_eq}
 use Rattle.lot_base.specs.declared.auction_terms.Terms.{Terms}
 use Rattle.house_run.specs.CheckCommand.{IsCheck}
-use Rattle.house_run.specs.Commands.{Check, Command, Fold, Settle, Spells, Standing}
+use Rattle.house_run.specs.Commands.{Check, Command, Fold, Make, Settle, Spells, Standing, Trial}
 use Rattle.house_run.specs.Arguments.{HasOption, others_in, plain_in}
 use Rattle.house_run.specs.SettleCommand.{IsSettle}
 use Rattle.house_run.specs.StandingCommand.{IsStanding}
+use Rattle.house_run.specs.TrialCommand.{IsTrialWords}
+use Rattle.house_run.specs.MakeCommand.{IsMakeWords}
 use Rattle.house_run.specs.FoldCommand.{IsFold}
 use Rattle.house_run.specs.Words.{comma_list}
 use Rattle.house_run.proofs.Commas.{decimals-same, parts-supply, small-enough, supplies-few}
@@ -94,12 +96,16 @@ data Kind : Type 0 where
   check : Kind
   standing : Kind
   settle : Kind
+  trial : Kind
+  make : Kind
 
 abbrev kind_of : Command → Kind
 kind_of (Fold terms log) = fold
 kind_of (Check auction) = check
 kind_of (Standing auction journals) = standing
 kind_of (Settle auction journals json) = settle
+kind_of (Trial auction values) = trial
+kind_of (Make number) = make
 
 abbrev kind_in : List (List ℕ) → Option Kind
 kind_in [] = None
@@ -107,25 +113,33 @@ kind_in (name ∷ behind) =
     cond (bytes_eq name (codes "fold")) (Some fold)
     (cond (bytes_eq name (codes "check")) (Some check)
     (cond (bytes_eq name (codes "standing")) (Some standing)
-    (cond (bytes_eq name (codes "settle")) (Some settle) None)))
+    (cond (bytes_eq name (codes "settle")) (Some settle)
+    (cond (bytes_eq name (codes "trial")) (Some trial)
+    (cond (bytes_eq name (codes "make")) (Some make) None)))))
 
 kind-spelled : (command : Command) (words : List (List ℕ)) → Spells command words → kind_in words ≡ Some (kind_of command)
 kind-spelled (Fold terms log) words is = ap kind_in is.words_are
 kind-spelled (Check auction) words is = ap kind_in is.words_are
 kind-spelled (Standing auction journals) words is = ap kind_in is.words_are
 kind-spelled (Settle auction journals json) words is = ap kind_in is.words_are
+kind-spelled (Trial auction values) words is = ap kind_in is.words_are
+kind-spelled (Make number) words is = ap kind_in is.words_are
 
 abbrev IsOf : Kind → Command → Type 0
 IsOf fold command = (terms : Terms) × (log : List ℕ) × (command ≡ Fold terms log)
 IsOf check command = (auction : List ℕ) × (command ≡ Check auction)
 IsOf standing command = (auction : List ℕ) × (journals : List ℕ) × (command ≡ Standing auction journals)
 IsOf settle command = (auction : List ℕ) × (journals : List ℕ) × (json : Bool) × (command ≡ Settle auction journals json)
+IsOf trial command = (auction : List ℕ) × (values : List ℕ) × (command ≡ Trial auction values)
+IsOf make command = (number : ℕ) × (command ≡ Make number)
 
 is-of : (command : Command) → IsOf (kind_of command) command
 is-of (Fold terms log) = (terms, log, refl)
 is-of (Check auction) = (auction, refl)
 is-of (Standing auction journals) = (auction, journals, refl)
 is-of (Settle auction journals json) = (auction, journals, json, refl)
+is-of (Trial auction values) = (auction, values, refl)
+is-of (Make number) = (number, refl)
 
 same-kind : (one other : Command) (words : List (List ℕ)) → Spells one words → Spells other words → IsOf (kind_of one) other
 same-kind one other words is it =
@@ -160,6 +174,19 @@ settle-once one prefix other journals given json words is it =
     let g : given ≡ json = option-once (codes "--json") (others_in it.behind) given json (subst P b is.arguments.option_is) it.arguments.option_is in
     λ i. Settle (a i) (j i) (g i)
 
+trial-once : (one values other valuations : List ℕ) (words : List (List ℕ)) → IsTrialWords one values words → IsTrialWords other valuations words → Trial one values ≡ Trial other valuations
+trial-once one values other valuations words is it =
+    let e : codes "trial" ∷ one ∷ values ∷ [] ≡ codes "trial" ∷ other ∷ valuations ∷ [] = sym is.words_are ∙ it.words_are in
+    let a : one ≡ other = cc in
+    let v : values ≡ valuations = cc in
+    λ i. Trial (a i) (v i)
+
+make-once : (one other : ℕ) (words : List (List ℕ)) → IsMakeWords one words → IsMakeWords other words → one ≡ other
+make-once one other words is it =
+    let e : codes "make" ∷ decimal one ∷ [] ≡ codes "make" ∷ decimal other ∷ [] = sym is.words_are ∙ it.words_are in
+    let d : decimal one ≡ decimal other = cc in
+    decimal_injective one other (let f = is.few in omega arith) (let f = it.few in omega arith) d
+
 -- the words of one command are those of no other
 pub spelled-once : (one other : Command) (words : List (List ℕ)) → Spells one words → Spells other words → one ≡ other
 spelled-once (Fold terms log) other words is it =
@@ -179,3 +206,11 @@ spelled-once (Settle auction journals json) other words is it =
     let o = same-kind (Settle auction journals json) other words is it in
     let P : Command → Type 0 = λ c. Spells c words in
     settle-once auction journals o.0 o.1 json o.2 words is (subst P o.3 it) ∙ sym o.3
+spelled-once (Trial auction values) other words is it =
+    let o = same-kind (Trial auction values) other words is it in
+    let P : Command → Type 0 = λ c. Spells c words in
+    trial-once auction values o.0 o.1 words is (subst P o.2 it) ∙ sym o.2
+spelled-once (Make number) other words is it =
+    let o = same-kind (Make number) other words is it in
+    let P : Command → Type 0 = λ c. Spells c words in
+    ap Make (make-once number o.0 words is (subst P o.1 it)) ∙ sym o.1

@@ -8,7 +8,7 @@ use Rattle.std.proofs.lemmas.Fmt.{decimal_nonempty}
 use Rattle.std.proofs.lemmas.List.Elements.{All-nil, All-cons}
 use Rattle.lot_base.specs.Goods.{IsSupply}
 use Rattle.house_run.specs.Arguments.{AreArguments, HasOption, option_of, others_in}
-use Rattle.house_run.specs.Commands.{Check, Command, Fold, Settle, Standing, IsName, IsNoCommand, IsParted, MayBeCommand, Spells}
+use Rattle.house_run.specs.Commands.{Check, Command, Fold, Make, Settle, Standing, Trial, IsName, IsNoCommand, IsParted, MayBeCommand, Spells}
 use Rattle.house_run.specs.Positionals.{texts}
 use Rattle.house_run.specs.Words.{IsPlainWord, comma_list}
 use Rattle.house_run.proofs.Commas.{supplies-few}
@@ -65,8 +65,10 @@ command-parted (Settle auction journals json) words is = record {
   name = codes "settle";
   plain = auction ∷ journals ∷ [];
   given = json;
-  parted = record { behind = is.behind; words_are = is.words_are; named = inr (inr (inr refl)); arguments = is.arguments };
+  parted = record { behind = is.behind; words_are = is.words_are; named = inr (inr (inr (inl refl))); arguments = is.arguments };
 }
+command-parted (Trial auction values) words is = parted-plain (codes "trial") (auction ∷ values ∷ []) words is.words_are (inr (inr (inr (inr (inl refl))))) (is.auction_is, (is.values_are, tt))
+command-parted (Make number) words is = parted-plain (codes "make") (decimal number ∷ []) words is.words_are (inr (inr (inr (inr (inr refl))))) (decimal-plain number (let f = is.few in omega arith), tt)
 
 pub no-words : (command : Command) (words : List (List ℕ)) → words ≡ [] → Spells command words → ⊥
 no-words command words none is = let m = command-parted command words is in let bad : [] ≡ m.name ∷ m.parted.behind = sym none ∙ m.parted.words_are in cc

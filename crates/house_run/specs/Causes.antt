@@ -1,18 +1,19 @@
 -- How a run may end, end by end: which line is written, when the end may come, and of which faults it tells. A row speaks of what a
 -- command needs, so it serves every command, and an end that a command cannot have asks for what the command does not need.
-use Rattle.std.specs.Prelude.{◌≡◌, ◌≢◌, ◌≤◌, ⊤, ℕ, List, [], ◌∷◌, length, Err, codes, decimal}
+use Rattle.std.specs.Prelude.{◌≡◌, ◌≢◌, ◌≤◌, ◌⊎◌, ◌++◌, ⊤, ℕ, List, [], ◌∷◌, length, Err, codes, decimal}
 use Rattle.house_io.specs.Faults.{Rose}
-use Rattle.outcome_text.specs.Lines.{line}
+use Rattle.outcome_text.specs.Lines.{line, numerals}
 use Rattle.auction_file.specs.AuctionFile.{Listing, auction_of}
 use Rattle.auction_file.specs.declared.faults.AuctionFault.{AuctionFault}
 use Rattle.auction_file.specs.declared.faults.AuctionFault.TheVariants as refused
 use Rattle.settlement.specs.declared.outcome.Settlement.TheVariants as settlement
 use Rattle.house_run.specs.Journals.{IsBadJournal}
 use Rattle.house_run.specs.Logs.{IsFaultyAt}
+use Rattle.house_run.specs.Markets.{IsBadValues, IsNotSubstitutesAt, IsNotSubstitutesOf}
 use Rattle.house_run.specs.Needs.{Log, Needs, Has, IsSource, journal_name}
 use Rattle.house_run.specs.Outcomes.{Settles}
-use Rattle.house_run.specs.Seen.{Outside, ShelfSeen, IsAuctionAt, IsRead, IsTooLong, auction_limit, log_limit}
-use Rattle.house_run.specs.Status.{number_of, record_of, refusal_number}
+use Rattle.house_run.specs.Seen.{Outside, ShelfSeen, IsAuctionAt, IsRead, IsTooLong, auction_limit, log_limit, values_limit}
+use Rattle.house_run.specs.Status.{number_of, record_of, refusal_number, values_number}
 use Rattle.house_run.specs.declared.ends.Ended.{Ended}
 use Rattle.house_run.specs.declared.ends.Ended.TheVariants as how
 use Rattle.house_run.specs.declared.ends.File.TheVariants as which
@@ -33,6 +34,10 @@ line_of (how.Halted clock good) = line (codes "halted" ∷ codes "clock" ∷ dec
 line_of (how.TooLong which.Log) = codes "too long log\n"
 line_of (how.TooLong which.Auction) = codes "too long auction\n"
 line_of (how.BadLog place) = line (codes "bad" ∷ codes "log" ∷ codes "at" ∷ decimal place ∷ [])
+line_of (how.TooLong which.Values) = codes "too long values\n"
+line_of (how.BadValues fault) = line (codes "bad" ∷ codes "values" ∷ decimal (values_number fault) ∷ [])
+line_of (how.NotSubstitutes bidder x y good) =
+    line (codes "not" ∷ codes "substitutes" ∷ codes "bidder" ∷ decimal bidder ∷ codes "x" ∷ numerals x ++ (codes "y" ∷ numerals y ++ (codes "good" ∷ decimal good ∷ [])))
 line_of (how.BadAuction fault) = line (codes "bad" ∷ codes "auction" ∷ decimal (number_of fault) ∷ [])
 
 -- the line of the end has a number, so that it takes memory
@@ -87,6 +92,10 @@ MayEnd needs seen (how.Halted clock good) = Settles needs seen.shelf (settlement
 MayEnd needs seen (how.BadAuction fault) = Has needs.auction (λ auction. IsBadAuction auction fault seen.shelf)
 MayEnd needs seen (how.TooLong which.Auction) = Has needs.auction (λ auction. IsTooLong seen.shelf auction auction_limit)
 MayEnd needs seen (how.TooLong which.Log) = Has needs.log (λ log. IsTooLong seen.shelf log.name log_limit)
+MayEnd needs seen (how.TooLong which.Values) = Has needs.auction (λ auction. Has needs.values (λ values. IsTooLong seen.shelf values values_limit))
+MayEnd needs seen (how.BadValues fault) = Has needs.auction (λ auction. Has needs.values (λ values. IsBadValues seen.shelf auction values fault))
+MayEnd needs seen (how.NotSubstitutes bidder x y good) =
+    Has needs.auction (λ auction. Has needs.values (λ values. IsNotSubstitutesAt seen.shelf auction values bidder x y good)) ⊎ Has needs.number (λ number. IsNotSubstitutesOf number bidder x y good)
 MayEnd needs seen (how.BadLog place) = Has needs.log (λ log. IsBadLog log place seen.shelf)
 
 -- the names whose faults the end tells; a fault under any other name is told by none

@@ -6,16 +6,21 @@ use Rattle.house_io.specs.Faults.{Rose}
 use Rattle.house_io.specs.Told.{IfTold}
 use Rattle.house_io.specs.Shelves.{NamedFile}
 use Rattle.lot_base.specs.declared.auction_terms.Terms.{Terms}
-use Rattle.clock.specs.Reports.{ClockHistory}
 use Rattle.auction_file.specs.AuctionFile.{Listing, auction_of}
 use Rattle.house_run.specs.Causes.{HasNumber, MayEnd, line_of}
 use Rattle.house_run.specs.Commands.{Command, IsDone, IsNoCommand, MayBeCommand, Spells, needs_of}
 use Rattle.house_run.specs.Frame.{Frame}
 use Rattle.house_run.specs.Logs.{IsLogOf}
 use Rattle.house_run.specs.Journals.{AreFromJournals, IsTermsOf}
+use Rattle.lot_base.specs.Economy.{AllStrongSubstitutes}
+use Rattle.clock.specs.Reports.{ClockHistory, all_bidders}
+use Rattle.valuation.specs.ValuesFile.{values_of}
+use Rattle.trial.specs.Bidding.{bidders_of}
+use Rattle.trial.specs.Making.{made_supply, made_values}
+use Rattle.house_run.specs.Markets.{market_bidders}
 use Rattle.house_run.specs.Needs.{Has, IsSource, Needs, journal_name}
 use Rattle.house_run.specs.Outcomes.{HaveClosed}
-use Rattle.house_run.specs.Seen.{Outside, SinkSeen, auction_limit, content, log_limit}
+use Rattle.house_run.specs.Seen.{Outside, SinkSeen, auction_limit, content, log_limit, values_limit}
 use Rattle.house_run.specs.declared.ends.Ended.{Ended}
 use Rattle.house_run.specs.declared.ends.Ended.TheVariants as how
 
@@ -132,11 +137,28 @@ pub record AreGoodJournals (settles : Bool) (files : List NamedFile) (auction jo
   pub from_journals : AreFromJournals (Some files) terms listing.digest journals (terms.bidders + 1) histories
   pub closed : IsTrue settles → HaveClosed histories
 
+-- the file has a valuation with strong substitutes for each bidder of the auction
+pub record AreGoodValues (files : List NamedFile) (auction values : List ℕ) : Type 0 where
+  pub listing : Listing
+  pub says : auction_of (content files auction) ≡ Ok listing
+  pub terms : Terms
+  pub terms_are : IsTermsOf listing terms
+  pub short : length (content files values) ≤ values_limit
+  pub valuations : List (List ℕ)
+  pub read : values_of terms.goods terms.bidders terms.ceiling (content files values) ≡ Ok valuations
+  pub substitutes : AllStrongSubstitutes terms.goods (market_bidders terms valuations) (all_bidders terms.bidders)
+
+-- the market of the number has bidders with strong substitutes
+abbrev pub IsGoodNumber : ℕ → Type 0
+IsGoodNumber number = AllStrongSubstitutes made_supply (bidders_of made_supply (made_values number 12)) (all_bidders 12)
+
 -- the files that are needed are good
 pub record AreGood (needs : Needs) (files : List NamedFile) : Type 0 where
   pub auction : IfSome needs.auction (λ name. IsGoodAuction (content files name))
   pub log : IfSome needs.log (λ log. IsGoodLog log.terms (content files log.name))
   pub journals : IfSome needs.auction (λ auction. IfSome needs.journals (λ journals. AreGoodJournals needs.settles files auction journals))
+  pub values : IfSome needs.auction (λ auction. IfSome needs.values (λ values. AreGoodValues files auction values))
+  pub number : IfSome needs.number IsGoodNumber
 
 -- the answer is Done, or memory ran out
 abbrev pub IsDoneOrNoMemory : Ended → Type 0

@@ -11,6 +11,7 @@ pub mod Needs
 pub mod Seen
 pub mod Journals
 pub mod Outcomes
+pub mod Markets
 pub mod Causes
 pub mod Reading
 pub mod Frame
@@ -19,6 +20,8 @@ pub mod FoldCommand
 pub mod CheckCommand
 pub mod StandingCommand
 pub mod SettleCommand
+pub mod TrialCommand
+pub mod MakeCommand
 pub mod Commands
 pub mod CommandView
 pub mod Ends

@@ -18,9 +18,13 @@ pub record Needs : Type 0 where
   pub journals : Option (List ℕ)
   -- whether the clocks of the journals are settled
   pub settles : Bool
+  -- the name of the file with the bidders' valuations
+  pub values : Option (List ℕ)
+  -- the number of a market that is made
+  pub number : Option ℕ
 
 abbrev pub nothing_needed : Needs
-nothing_needed = record { auction = None; log = None; journals = None; settles = false }
+nothing_needed = record { auction = None; log = None; journals = None; settles = false; values = None; number = None }
 
 -- it is needed, and it has P
 abbrev pub Has : {A : Type 0} → Option A → (A → Type 0) → Type 0
@@ -51,7 +55,7 @@ list_of (Some a) = a ∷ []
 
 -- the files that are read from front to end, in the order in which they are
 abbrev pub sources : Needs → List (List ℕ)
-sources needs = list_of needs.auction ++ list_of (option_map (λ log. log.name) needs.log)
+sources needs = list_of needs.auction ++ (list_of (option_map (λ log. log.name) needs.log) ++ list_of needs.values)
 
 abbrev pub IsSource : Needs → List ℕ → Type 0
-IsSource needs name = Has needs.auction (λ auction. name ≡ auction) ⊎ Has needs.log (λ log. name ≡ log.name)
+IsSource needs name = Has needs.auction (λ auction. name ≡ auction) ⊎ (Has needs.log (λ log. name ≡ log.name) ⊎ Has needs.values (λ values. name ≡ values))

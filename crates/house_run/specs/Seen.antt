@@ -54,6 +54,10 @@ log_limit = GREATEST_FILE
 abbrev pub auction_limit : ℕ
 auction_limit = 65536
 
+-- the greatest number of bytes of a file of valuations
+abbrev pub values_limit : ℕ
+values_limit = 1048576
+
 -- the bytes of a file, none where it is absent
 abbrev pub content : List NamedFile → List ℕ → List ℕ
 content files name = unwrap_or (bytes_of files name) []

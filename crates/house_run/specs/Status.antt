@@ -1,4 +1,4 @@
--- The status that the program ends with, and the number of each fault of an auction file or a journal in its line.
+-- The status that the program ends with, and the number of each fault of an auction file, a valuation file or a journal in its line.
 use Rattle.std.specs.Prelude.{ℕ}
 use Rattle.auction_file.specs.declared.faults.AuctionFault.{AuctionFault}
 use Rattle.auction_file.specs.declared.faults.AuctionFault.TheVariants as fault
@@ -6,6 +6,8 @@ use Rattle.recovery.specs.declared.faults.JournalCause.{JournalCause}
 use Rattle.recovery.specs.declared.faults.JournalCause.TheVariants as cause
 use Rattle.clock_book.specs.declared.faults.OpenFault.{OpenFault}
 use Rattle.clock_book.specs.declared.faults.OpenFault.TheVariants as why
+use Rattle.valuation.specs.declared.faults.ValuesFault.{ValuesFault}
+use Rattle.valuation.specs.declared.faults.ValuesFault.TheVariants as values
 use Rattle.house_run.specs.declared.ends.Ended.{Ended}
 use Rattle.house_run.specs.declared.ends.Ended.TheVariants as how
 
@@ -21,6 +23,8 @@ status_of (how.BadJournal clock fault) = 8
 status_of (how.Open clock round missing) = 9
 status_of (how.NoAward clock) = 10
 status_of (how.Halted clock good) = 11
+status_of (how.BadValues fault) = 12
+status_of (how.NotSubstitutes bidder x y good) = 13
 status_of (how.TooLong file) = 14
 status_of (how.BadLog place) = 15
 
@@ -40,6 +44,20 @@ number_of (fault.BadName key) = 11
 number_of (fault.BadSupply good value) = 12
 number_of (fault.Opening good value) = 13
 number_of fault.NoMemory = 0
+
+-- the number of each fault of a valuation file; want of memory has none
+abbrev pub values_number : ValuesFault → ℕ
+values_number values.NotToml = 1
+values_number (values.Missing key) = 2
+values_number (values.WrongKind key) = 3
+values_number (values.Value bidder place) = 4
+values_number (values.Length bidder found needed) = 5
+values_number (values.EmptyNotZero bidder) = 6
+values_number (values.Above bidder index) = 7
+values_number (values.Bidders found) = 8
+values_number (values.UnknownKey key) = 9
+values_number (values.Form bidder) = 10
+values_number values.NoMemory = 0
 
 -- the record at which a journal is refused, 0 for its header; a fault of the disk and want of memory have none
 abbrev pub record_of : OpenFault → ℕ

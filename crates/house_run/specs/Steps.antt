@@ -1,5 +1,5 @@
 -- What one step of a job does on the shelf. A job is a few of these in turn.
-use Rattle.std.specs.Prelude.{◌≡◌, ◌≤◌, ◌⊎◌, ⊤, ℕ, Bool, List, Some, None}
+use Rattle.std.specs.Prelude.{◌≡◌, ◌≢◌, ◌≤◌, ◌⊎◌, ⊤, ℕ, Bool, List, [], ◌∷◌, Some, Err}
 use Rattle.house_io.specs.Shelves.{ChangesNone, RisesOnly, with_name}
 use Rattle.house_run.specs.Causes.{FailedAt, MayEnd, Tells}
 use Rattle.lot_base.specs.declared.auction_terms.Terms.{Terms}
@@ -7,14 +7,22 @@ use Rattle.clock_book.specs.declared.faults.OpenFault.{OpenFault}
 use Rattle.clock_book.specs.declared.faults.OpenFault.TheVariants as why
 use Rattle.house_run.specs.Frame.{Frame, KeepsAll, RisesAmong}
 use Rattle.house_run.specs.Journals.{IsFirstRefused, IsRefusedJournal}
-use Rattle.house_run.specs.Needs.{Needs, IsJournal, first_journals, journal_name, with_names}
-use Rattle.house_run.specs.Seen.{Outside, ShelfSeen}
+use Rattle.house_run.specs.Needs.{Needs, IsJournal, first_journals, journal_name, sources, with_names}
+use Rattle.house_run.specs.Seen.{Outside, ShelfSeen, IsRead, IsTooLong, values_limit}
 use Rattle.clock.specs.Reports.{ClockHistory}
 use Rattle.settlement.specs.declared.outcome.Outcome.{Outcome}
 use Rattle.settlement.specs.declared.outcome.Settlement.TheVariants as settlement
 use Rattle.house_run.specs.Outcomes.{IsSettlement, text_of_outcome}
 use Rattle.house_run.specs.declared.ends.Ended.{Ended}
 use Rattle.house_run.specs.declared.ends.Ended.TheVariants as how
+use Rattle.house_run.specs.declared.ends.File.TheVariants as which
+use Rattle.valuation.specs.ValuesFile.{values_of}
+use Rattle.valuation.specs.declared.faults.ValuesFault.{ValuesFault}
+use Rattle.valuation.specs.declared.faults.ValuesFault.TheVariants as refused
+use Rattle.trial.specs.Refusals.{IsFirstWithout}
+use Rattle.trial.specs.declared.faults.TrialFault.{TrialFault}
+use Rattle.trial.specs.declared.faults.TrialFault.TheVariants as fault
+use Rattle.house_run.specs.Markets.{market_bidders}
 
 -- no name was opened but this one
 abbrev pub OpensOnly : List ℕ → List (List ℕ) → List (List ℕ) → Type 0
@@ -80,11 +88,35 @@ pub record LeavesSo (needs : Needs) (seen : Outside) (end : Ended) : Type 0 wher
   pub frame : Frame needs end seen
 
 abbrev pub EndsAtJournals : List ℕ → List ℕ → Outside → Ended → Type 0
-EndsAtJournals auction journals seen end = (needs : Needs) → needs.auction ≡ Some auction → needs.log ≡ None → needs.journals ≡ Some journals → LeavesSo needs seen end
+EndsAtJournals auction journals seen end = (needs : Needs) → needs.auction ≡ Some auction → sources needs ≡ auction ∷ [] → needs.journals ≡ Some journals → LeavesSo needs seen end
 
 -- whatever a command with this auction file and these journals ends with, it leaves what it should
 abbrev pub ReadsJournals : List ℕ → List ℕ → Outside → Type 0
-ReadsJournals auction journals seen = (needs : Needs) (end : Ended) → needs.auction ≡ Some auction → needs.log ≡ None → needs.journals ≡ Some journals → Frame needs end seen
+ReadsJournals auction journals seen = (needs : Needs) (end : Ended) → needs.auction ≡ Some auction → sources needs ≡ auction ∷ [] → needs.journals ≡ Some journals → Frame needs end seen
+
+-- why the valuations of the file of this name are not read
+pub record AreRefusedValues (terms : Terms) (values : List ℕ) (fault : ValuesFault) (shelf : ShelfSeen) : Type 0 where
+  pub read : List ℕ
+  pub is_read : IsRead shelf values values_limit read
+  pub says : values_of terms.goods terms.bidders terms.ceiling read ≡ Err fault
+  pub other : fault ≢ refused.NoMemory
+
+abbrev pub EndsAtValues : Terms → List ℕ → ShelfSeen → Ended → Type 0
+EndsAtValues terms values shelf how.ReadFault = FailedAt shelf values
+EndsAtValues terms values shelf how.NoMemory = IsSteady shelf
+EndsAtValues terms values shelf (how.TooLong which.Values) = IsSteady shelf × IsTooLong shelf values values_limit
+EndsAtValues terms values shelf (how.BadValues refusal) = IsSteady shelf × AreRefusedValues terms values refusal shelf
+EndsAtValues terms values shelf end = ⊥
+
+-- how the trial of a market ends that has no outcome
+abbrev pub IsTrialEnd : Terms → List (List ℕ) → Ended → Type 0
+IsTrialEnd terms valuations how.NoMemory = ⊤
+IsTrialEnd terms valuations (how.NotSubstitutes bidder x y good) = IsFirstWithout terms (market_bidders terms valuations) bidder x y good
+IsTrialEnd terms valuations end = ⊥
+
+abbrev pub end_by : TrialFault → Ended
+end_by (fault.NotSubstitutes bidder x y good) = how.NotSubstitutes bidder x y good
+end_by fault.NoMemory = how.NoMemory
 
 -- the text of the outcome that the histories settle with
 pub record IsSettledText (terms : Terms) (histories : List ClockHistory) (json : Bool) (text : List ℕ) : Type 0 where

@@ -60,7 +60,10 @@ fn part_behind<'a>(
 fn is_name(word: &str) -> bool
     ensures { IsTrue result ↔ IsName word.now }
 {
-    matches!(word, "fold" | "check" | "standing" | "settle")
+    matches!(
+        word,
+        "fold" | "check" | "standing" | "settle" | "trial" | "make"
+    )
 }
 
 /// The option of the command of this name, if it has one.

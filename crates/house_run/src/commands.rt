@@ -7,16 +7,21 @@ ghost use Rattle.house_run.specs.Seen.{outside};
 
 mod check;
 mod fold;
+mod make;
 mod settle;
 mod standing;
+mod trials;
 
 use crate::ends::Ended;
 use crate::words::CommandWords;
 use house_io::Shelf;
 use std::alloc::Global;
+use std::sync::Wait;
+use std::thread::Threads;
 
 /// The text of a command's job, or how the job ended without one.
-pub(crate) fn job<H: Shelf>(
+pub(crate) fn job<T: Threads + Wait + Sync, H: Shelf>(
+    rt: &T,
     alloc: Global,
     command: &CommandWords,
     shelf: &mut H,
@@ -35,5 +40,7 @@ pub(crate) fn job<H: Shelf>(
             journals,
             json,
         } => settle::job(alloc, auction, journals, *json, shelf),
+        CommandWords::Trial { auction, values } => trials::job(rt, alloc, auction, values, shelf),
+        CommandWords::Make { number } => make::job(rt, alloc, *number, shelf),
     }
 }

@@ -1,15 +1,20 @@
 //! Writing the one text of a run.
-ghost use Rattle.std.specs.Prelude.{◌≡◌, IfOk, IfSome, IfNone, string_bytes};
+ghost use Rattle.std.specs.Prelude.{◌≡◌, ◌++◌, OnOk, IfOk, IfSome, IfNone, string_bytes};
+ghost use Rattle.outcome_text.specs.Lines.{numerals};
+ghost use Rattle.outcome_text.specs.Spaced.{spaced};
 ghost use Rattle.house_run.specs.Causes.{HasNumber, line_of};
 ghost use Rattle.house_run.specs.Ends.{Wrote, WroteLine};
 ghost use Rattle.house_run.specs.Seen.{sink_seen};
 ghost use Rattle.house_run.specs.declared.ends.Ended.TheVariants as how;
 
-use crate::ends::{Ended, File, fault_number, record_of, refusal_number};
+use crate::ends::{Ended, File, fault_number, record_of, refusal_number, values_number};
 use auction_file::AuctionFault;
 use clock_book::OpenFault;
 use house_io::{Sink, write_whole};
+use lot_base::Bundle;
 use std::alloc::{AllocError, Global};
+use std::fmt::Write;
+use valuation::ValuesFault;
 
 /// Writes the text of a job that ended so.
 pub(crate) fn deliver<S: Sink>(out: &mut S, text: &[u8], ended: Ended) -> Ended
@@ -52,12 +57,15 @@ fn plain_line(ended: &Ended) -> Option<&'static [u8]>
         Ended::ReadFault => Some(b"read fault\n"),
         Ended::TooLong(File::Auction) => Some(b"too long auction\n"),
         Ended::TooLong(File::Log) => Some(b"too long log\n"),
+        Ended::TooLong(File::Values) => Some(b"too long values\n"),
         Ended::BadAuction(_)
         | Ended::DiskFault(_)
         | Ended::BadJournal { .. }
         | Ended::Open { .. }
         | Ended::NoAward { .. }
         | Ended::Halted { .. }
+        | Ended::BadValues(_)
+        | Ended::NotSubstitutes { .. }
         | Ended::BadLog(_) => None,
     }
 }
@@ -78,6 +86,10 @@ fn numbered_line(alloc: Global, ended: &Ended) -> Result<String, AllocError>
         } => open_line(alloc, *clock, *round, *missing),
         Ended::NoAward { clock } => no_award_line(alloc, *clock),
         Ended::Halted { clock, good } => halted_line(alloc, *clock, *good),
+        Ended::BadValues(fault) => bad_values_line(alloc, fault),
+        Ended::NotSubstitutes { bidder, x, y, good } => {
+            not_substitutes_line(alloc, *bidder, x, y, *good)
+        }
         Ended::BadLog(place) => bad_log_line(alloc, *place),
         Ended::Done
         | Ended::NoMemory
@@ -138,4 +150,40 @@ fn bad_log_line(alloc: Global, place: u64) -> Result<String, AllocError>
 {
     let line = format!(in alloc; "bad log at {place}\n")?;
     Ok(line)
+}
+
+fn bad_values_line(alloc: Global, fault: &ValuesFault) -> Result<String, AllocError>
+    ensures { IfOk result (λ line. string_bytes line ≡ line_of (how.BadValues fault.now)) }
+{
+    let number = values_number(fault);
+    let line = format!(in alloc; "bad values {number}\n")?;
+    Ok(line)
+}
+
+fn not_substitutes_line(
+    alloc: Global,
+    bidder: u8,
+    x: &Bundle,
+    y: &Bundle,
+    good: u8,
+) -> Result<String, AllocError>
+    ensures { IfOk result (λ line. string_bytes line ≡ line_of (how.NotSubstitutes bidder x.now y.now good)) }
+{
+    let mut line = format!(in alloc; "not substitutes bidder {bidder} x")?;
+    write_bundle(&mut line, x)?;
+    write!(line, " y")?;
+    write_bundle(&mut line, y)?;
+    write!(line, " good {good}\n")?;
+    Ok(line)
+}
+
+/// Writes each quantity of a bundle behind a blank.
+fn write_bundle(text: &mut String, bundle: &Bundle) -> Result<(), AllocError>
+    ensures { OnOk result (string_bytes text.new ≡ string_bytes text.old ++ spaced (numerals bundle.now)) }
+{
+    for good in 0..bundle.count() {
+        let quantity = bundle.quantity(good);
+        write!(text, " {quantity}")?;
+    }
+    Ok(())
 }

@@ -1,16 +1,19 @@
 //! How a run ends.
 ghost use Rattle.std.specs.Prelude.{◌≡◌};
-ghost use Rattle.house_run.specs.Status.{cause_number, number_of, record_of, refusal_number, status_of};
+ghost use Rattle.house_run.specs.Status.{cause_number, number_of, record_of, refusal_number, status_of, values_number};
 
 use auction_file::AuctionFault;
 use clock_book::OpenFault;
+use lot_base::Bundle;
 use recovery::JournalCause;
+use valuation::ValuesFault;
 
 /// A file with a limit.
 #[derive(Clone, Copy, Debug, PartialEq, Eq)]
 pub enum File {
     Auction,
     Log,
+    Values,
 }
 
 /// How a run ended.
@@ -31,13 +34,35 @@ pub enum Ended {
     /// A call on this clock's journal failed.
     DiskFault(u8),
     /// This clock's journal is refused, the first one that is.
-    BadJournal { clock: u8, fault: OpenFault },
+    BadJournal {
+        clock: u8,
+        fault: OpenFault,
+    },
     /// A clock, the first such one, is running in this round; this is its smallest member without a report there.
-    Open { clock: u8, round: u32, missing: u8 },
+    Open {
+        clock: u8,
+        round: u32,
+        missing: u8,
+    },
     /// No choice of what the members of a clock, the first such one, demand in its last round clears.
-    NoAward { clock: u8 },
+    NoAward {
+        clock: u8,
+    },
     /// A clock, the first such one, has halted at this good.
-    Halted { clock: u8, good: u8 },
+    Halted {
+        clock: u8,
+        good: u8,
+    },
+    /// The valuation file is refused.
+    BadValues(ValuesFault),
+    /// The goods are no strong substitutes for a bidder, the first such one: no unit of the good can go from `x` to `y`, alone or against a
+    /// unit of another good, without loss.
+    NotSubstitutes {
+        bidder: u8,
+        x: Bundle,
+        y: Bundle,
+        good: u8,
+    },
     /// The file is longer than its limit.
     TooLong(File),
     /// The first faulty entry of the log begins behind so many bytes.
@@ -61,6 +86,8 @@ impl Ended {
             Ended::Open { .. } => 9,
             Ended::NoAward { .. } => 10,
             Ended::Halted { .. } => 11,
+            Ended::BadValues(_) => 12,
+            Ended::NotSubstitutes { .. } => 13,
             Ended::TooLong(_) => 14,
             Ended::BadLog(_) => 15,
         }
@@ -86,6 +113,25 @@ pub(crate) fn fault_number(fault: &AuctionFault) -> u8
         AuctionFault::BadName(_) => 11,
         AuctionFault::BadSupply { .. } => 12,
         AuctionFault::Opening { .. } => 13,
+    }
+}
+
+/// The number of a fault of a valuation file in its line; want of memory has none.
+pub(crate) fn values_number(fault: &ValuesFault) -> u8
+    ensures { result ≡ values_number fault.now }
+{
+    match fault {
+        ValuesFault::NoMemory => 0,
+        ValuesFault::NotToml => 1,
+        ValuesFault::Missing(_) => 2,
+        ValuesFault::WrongKind(_) => 3,
+        ValuesFault::Value { .. } => 4,
+        ValuesFault::Length { .. } => 5,
+        ValuesFault::EmptyNotZero(_) => 6,
+        ValuesFault::Above { .. } => 7,
+        ValuesFault::Bidders(_) => 8,
+        ValuesFault::UnknownKey(_) => 9,
+        ValuesFault::Form(_) => 10,
     }
 }
 

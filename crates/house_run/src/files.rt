@@ -1,20 +1,28 @@
 //! Reading a file of the shelf.
-ghost use Rattle.std.specs.Prelude.{◌≡◌, ◌≤◌, ◌<◌, ℕ, List, length, IfOk, IfErr, OnOk, Err};
+ghost use Rattle.std.specs.Prelude.{◌≡◌, ◌≤◌, ◌<◌, ℕ, List, length, IfOk, IfErr, OnOk, Ok, Err, ◌≢◌};
 ghost use Rattle.house_io.specs.Faults.{Rose};
 ghost use Rattle.house_io.specs.Shelves.{IfTells, with_name};
 ghost use Rattle.auction_file.specs.Listing.{listing_of};
 ghost use Rattle.house_run.specs.Logs.{AreBytes};
 ghost use Rattle.house_run.specs.Reading.{IsAuctionOf};
 ghost use Rattle.house_run.specs.Seen.{IsAuctionAt, content, outside, shelf_seen};
-ghost use Rattle.house_run.specs.Steps.{EndsAtAuction, IsSteady, OnlyReads};
+ghost use Rattle.house_run.specs.Markets.{HasValues};
+ghost use Rattle.trial.specs.Trials.{AreValuationsOf};
+ghost use Rattle.valuation.specs.ValuesFile.{values_of};
+ghost use Rattle.house_run.specs.Steps.{EndsAtAuction, EndsAtValues, IsSteady, OnlyReads};
 
 use crate::ends::{Ended, File};
 use auction_file::{Auction, AuctionFault, MOST_BYTES, read};
 use house_io::{ReadWhole, Refusal, Shelf, read_whole};
+use lot_base::Terms;
 use std::alloc::Global;
+use valuation::{Valuation, ValuesFault};
 
 /// The greatest length of an auction file.
 const AUCTION_LIMIT: u64 = MOST_BYTES as u64;
+
+/// The greatest length of a file of valuations.
+const VALUES_LIMIT: u64 = valuation::MOST_BYTES as u64;
 
 /// Reads a named file, and takes its source back.
 pub(crate) fn read_file<H: Shelf>(
@@ -73,4 +81,41 @@ fn auction_in(alloc: Global, bytes: &[u8]) -> Result<Auction, AuctionFault>
     ensures bytes { AreBytes bytes.now }
 {
     read(alloc, bytes)
+}
+
+/// Reads a named file of valuations, one for each bidder of the terms, or says how a command that needs them ends.
+pub(crate) fn read_values<H: Shelf>(
+    alloc: Global,
+    shelf: &mut H,
+    name: &str,
+    terms: &Terms,
+) -> Result<Vec<Valuation>, Ended>
+    ensures read { IfOk result (λ v. HasValues (shelf_seen H.files H.faults H.opened shelf.old shelf.new) terms.now name.now v.items) }
+    ensures valuations { IfOk result (λ v. AreValuationsOf terms.now v.items) }
+    ensures steady { IfOk result (λ _. IsSteady (shelf_seen H.files H.faults H.opened shelf.old shelf.new)) }
+    ensures refused { IfErr result (EndsAtValues terms.now name.now (shelf_seen H.files H.faults H.opened shelf.old shelf.new)) }
+    ensures opened { OnOk result (H.opened shelf.new ≡ with_name name.now (H.opened shelf.old)) }
+    ensures reads { OnlyReads name.now (shelf_seen H.files H.faults H.opened shelf.old shelf.new) }
+{
+    let bytes = match read_file(alloc, shelf, name, VALUES_LIMIT) {
+        Ok(bytes) => bytes,
+        Err(ReadWhole::Failed) => return Err(Ended::ReadFault),
+        Err(ReadWhole::TooLong) => return Err(Ended::TooLong(File::Values)),
+        Err(ReadWhole::NoMemory) => return Err(Ended::NoMemory),
+    };
+    match values_in(alloc, terms, &bytes) {
+        Ok(valuations) => Ok(valuations),
+        Err(ValuesFault::NoMemory) => Err(Ended::NoMemory),
+        Err(fault) => Err(Ended::BadValues(fault)),
+    }
+}
+
+/// The valuations that the bytes say.
+fn values_in(alloc: Global, terms: &Terms, bytes: &[u8]) -> Result<Vec<Valuation>, ValuesFault>
+    ensures says { IfOk result (λ v. values_of terms.now.goods terms.now.bidders terms.now.ceiling bytes.now ≡ Ok v.items) }
+    ensures valuations { IfOk result (λ v. AreValuationsOf terms.now v.items) }
+    ensures refused { IfErr result (λ fault. fault ≢ ValuesFault.NoMemory → values_of terms.now.goods terms.now.bidders terms.now.ceiling bytes.now ≡ Err fault) }
+    ensures bytes { AreBytes bytes.now }
+{
+    valuation::read(alloc, terms, bytes)
 }

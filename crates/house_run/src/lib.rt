@@ -10,6 +10,7 @@ mod files;
 mod house;
 mod journals;
 pub mod laws;
+mod markets;
 mod pieces;
 mod positionals;
 mod runs;

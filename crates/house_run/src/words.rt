@@ -41,6 +41,15 @@ pub(crate) enum CommandWords<'a> {
         journals: &'a str,
         json: bool,
     },
+    /// What the clocks of an auction settle, told by bidders with valuations.
+    Trial {
+        auction: &'a str,
+        values: &'a str,
+    },
+    /// The same of a market that a number makes.
+    Make {
+        number: u32,
+    },
 }
 
 /// The command that the parted words are, if they are one.
@@ -58,6 +67,8 @@ pub(crate) fn read_words<'a>(
         "check" => read_check(alloc, plain),
         "standing" => read_standing(alloc, plain),
         "settle" => read_settle(alloc, plain, parted.given),
+        "trial" => read_trial(alloc, plain),
+        "make" => read_make(alloc, plain),
         _ => Ok(None),
     }
 }
@@ -136,6 +147,38 @@ fn read_settle<'a>(
             journals: word_of(&matches, "JOURNALS"),
             json,
         })),
+        Ok(None) => Ok(None),
+        Err(NoMemory) => Err(NoMemory),
+    }
+}
+
+/// The command `trial` of the words behind its name.
+fn read_trial<'a>(alloc: Global, words: &'a [&'a str]) -> Result<Option<CommandWords<'a>>, NoMemory>
+    requires { All (λ word. IsPlainWord word.now) words.now }
+    ensures some { IfOk result (λ o. IfSome o (λ command. Spells (command_as command) (codes "trial" ∷ texts words.entry.now))) }
+    ensures none { IfOk result (λ o. IfNone o (IsNoCommand (codes "trial" ∷ texts words.entry.now))) }
+{
+    match named_words(alloc, "trial", &["AUCTION", "VALUES"], words) {
+        Ok(Some(matches)) => Ok(Some(CommandWords::Trial {
+            auction: word_of(&matches, "AUCTION"),
+            values: word_of(&matches, "VALUES"),
+        })),
+        Ok(None) => Ok(None),
+        Err(NoMemory) => Err(NoMemory),
+    }
+}
+
+/// The command `make` of the words behind its name.
+fn read_make<'a>(alloc: Global, words: &'a [&'a str]) -> Result<Option<CommandWords<'a>>, NoMemory>
+    requires { All (λ word. IsPlainWord word.now) words.now }
+    ensures some { IfOk result (λ o. IfSome o (λ command. Spells (command_as command) (codes "make" ∷ texts words.entry.now))) }
+    ensures none { IfOk result (λ o. IfNone o (IsNoCommand (codes "make" ∷ texts words.entry.now))) }
+{
+    match named_words(alloc, "make", &["NUMBER"], words) {
+        Ok(Some(matches)) => match read_number(word_of(&matches, "NUMBER"), 0, u32::MAX) {
+            Some(number) => Ok(Some(CommandWords::Make { number })),
+            None => Ok(None),
+        },
         Ok(None) => Ok(None),
         Err(NoMemory) => Err(NoMemory),
     }

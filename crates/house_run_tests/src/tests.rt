@@ -4,7 +4,9 @@ use house_io::{ListFile, ListShelf, ListSink, SureFile, SureShelf, SureSink};
 use house_run::{Ended, File, run};
 use std::alloc::Global;
 use std::process::Abort;
+use std::sync::Wait;
 use std::test::Fail;
+use std::thread::Threads;
 
 mod checks;
 mod folds;
@@ -38,7 +40,7 @@ fn joined(alloc: Global, pieces: &[&[u8]]) -> Result<Vec<u8>, Fail> {
 
 /// Runs these words over a file of that name where nothing fails, and compares the status and the text.
 fn assert_run(
-    rt: &impl Abort,
+    rt: &(impl Abort + Threads + Wait + Sync),
     alloc: Global,
     words: &[&str],
     name: &str,
@@ -71,7 +73,7 @@ fn plan_of(alloc: Global, call: Option<u64>) -> Result<Vec<u64>, Fail> {
 
 /// Runs these words over a file of that name where one call fails, and compares the status and the text.
 fn assert_failing(
-    rt: &impl Abort,
+    rt: &(impl Abort + Threads + Wait + Sync),
     alloc: Global,
     failing: Failing,
     words: &[&str],

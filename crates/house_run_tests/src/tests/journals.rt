@@ -145,7 +145,7 @@ pub(super) fn shelf_of(
 
 /// Runs these words over the auction `a` and the journals in `j`, and compares the status and the text. No journal changes.
 pub(super) fn assert_house(
-    rt: &impl Abort,
+    rt: &(impl Abort + Threads + Wait + Sync),
     alloc: Global,
     words: &[&str],
     auction: &[u8],

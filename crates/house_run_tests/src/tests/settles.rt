@@ -255,7 +255,12 @@ fn with_both(alloc: Global, entry: &[u8]) -> Result<Vec<u8>, Fail> {
 }
 
 /// Settles two bidders' auction with these reports.
-fn assert_open(rt: &impl Abort, alloc: Global, rows: &[&[Row]], line: &str) -> Result<(), Fail> {
+fn assert_open(
+    rt: &(impl Abort + Threads + Wait + Sync),
+    alloc: Global,
+    rows: &[&[Row]],
+    line: &str,
+) -> Result<(), Fail> {
     let auction = auction_of(alloc, TWO_UNITS, 2)?;
     let journals = journals_of(alloc, &auction, rows)?;
     assert_house(
@@ -333,7 +338,12 @@ fn tells_the_record_at_which_a_journal_is_refused(rt: HostRuntime) -> Result<(),
     Ok(())
 }
 
-fn assert_wrong(rt: &impl Abort, alloc: Global, wrong: Wrong, line: &str) -> Result<(), Fail> {
+fn assert_wrong(
+    rt: &(impl Abort + Threads + Wait + Sync),
+    alloc: Global,
+    wrong: Wrong,
+    line: &str,
+) -> Result<(), Fail> {
     let auction = auction_of(alloc, TWO_UNITS, 2)?;
     let digest = digest_of(alloc, &auction)?;
     let journal = wrong_journal(alloc, wrong, digest)?;
@@ -342,7 +352,7 @@ fn assert_wrong(rt: &impl Abort, alloc: Global, wrong: Wrong, line: &str) -> Res
 
 /// Both commands refuse clock 0's journal so.
 fn assert_refused(
-    rt: &impl Abort,
+    rt: &(impl Abort + Threads + Wait + Sync),
     alloc: Global,
     auction: &[u8],
     journal: Vec<u8>,
@@ -391,7 +401,7 @@ fn tells_the_clock_whose_journal_fails(rt: HostRuntime) -> Result<(), Fail> {
 
 /// Runs the command over one bidder's auction, where one opening or one call on clock 1's journal fails.
 fn assert_disk(
-    rt: &impl Abort,
+    rt: &(impl Abort + Threads + Wait + Sync),
     alloc: Global,
     command: &str,
     opening: Option<u64>,

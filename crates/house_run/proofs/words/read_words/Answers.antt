@@ -18,3 +18,11 @@ returns-in-check-clause-some c =
 pub returns-in-standing-clause-some : goal.returns-in-standing-clause-some
 returns-in-standing-clause-some c =
     some-then c.read_standing.result _ _ (λ command spelled words is. subst (λ ws. Spells (command_as command) ws) (sym (parted-words words (codes "standing") _ _ _ _ c.in-standing.is (ap texts c.as_slice-plain.ensures.value) refl is)) spelled) c.read_standing.ensures.some
+
+pub returns-in-trial-clause-some : goal.returns-in-trial-clause-some
+returns-in-trial-clause-some c =
+    some-then c.read_trial.result _ _ (λ command spelled words is. subst (λ ws. Spells (command_as command) ws) (sym (parted-words words (codes "trial") _ _ _ _ c.in-trial.is (ap texts c.as_slice-plain.ensures.value) refl is)) spelled) c.read_trial.ensures.some
+
+pub returns-in-make-clause-some : goal.returns-in-make-clause-some
+returns-in-make-clause-some c =
+    some-then c.read_make.result _ _ (λ command spelled words is. subst (λ ws. Spells (command_as command) ws) (sym (parted-words words (codes "make") _ _ _ _ c.in-make.is (ap texts c.as_slice-plain.ensures.value) refl is)) spelled) c.read_make.ensures.some

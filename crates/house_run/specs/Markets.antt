@@ -1,0 +1,64 @@
+-- A market: the terms of an auction and a valuation for each bidder, from two files or from a number; and what a trial of it gives.
+use Rattle.std.specs.Prelude.{◌≡◌, ◌≢◌, ℕ, ℤ, List, Ok, Err}
+use Rattle.lot_base.specs.declared.auction_terms.Terms.{Terms}
+use Rattle.clock.specs.Reports.{ClockHistory}
+use Rattle.settlement.specs.declared.outcome.Outcome.{Outcome}
+use Rattle.settlement.specs.declared.outcome.Settlement.TheVariants.{Settled}
+use Rattle.auction_file.specs.AuctionFile.{Listing}
+use Rattle.valuation.specs.ValuesFile.{values_of}
+use Rattle.valuation.specs.declared.faults.ValuesFault.{ValuesFault}
+use Rattle.valuation.specs.declared.faults.ValuesFault.TheVariants as refused
+use Rattle.trial.specs.Bidding.{bidders_of}
+use Rattle.trial.specs.Trials.{IsTried}
+use Rattle.trial.specs.Making.{IsMade}
+use Rattle.trial.specs.Refusals.{IsFirstWithout}
+use Rattle.house_run.specs.Journals.{IsTermsOf}
+use Rattle.house_run.specs.Seen.{ShelfSeen, IsAuctionAt, IsRead, values_limit}
+
+-- the auction of a file has these terms
+pub record HasTerms (shelf : ShelfSeen) (auction : List ℕ) (terms : Terms) : Type 0 where
+  pub listing : Listing
+  pub auction_is : IsAuctionAt shelf auction listing
+  pub terms_are : IsTermsOf listing terms
+
+-- the file of this name has these valuations, one for each bidder
+pub record HasValues (shelf : ShelfSeen) (terms : Terms) (values : List ℕ) (valuations : List (List ℕ)) : Type 0 where
+  pub read : List ℕ
+  pub is_read : IsRead shelf values values_limit read
+  pub says : values_of terms.goods terms.bidders terms.ceiling read ≡ Ok valuations
+
+pub record IsMarketAt (shelf : ShelfSeen) (auction values : List ℕ) (terms : Terms) (valuations : List (List ℕ)) : Type 0 where
+  pub terms_are : HasTerms shelf auction terms
+  pub values_are : HasValues shelf terms values valuations
+
+-- the bidders of a market
+abbrev pub market_bidders : Terms → List (List ℕ) → ℕ → List ℕ → ℤ
+market_bidders terms valuations = bidders_of terms.goods valuations
+
+-- The trial of a market settles with this outcome: an equilibrium at the least prices from the reserves on, with the payments of Vickrey,
+-- Clarke and Groves.
+pub record TriesAs (terms : Terms) (valuations : List (List ℕ)) (outcome : Outcome) : Type 0 where
+  pub clocks : List ClockHistory
+  pub tried : IsTried terms (market_bidders terms valuations) clocks (Settled outcome)
+
+-- the goods are no strong substitutes for a bidder of a market
+pub record IsNotSubstitutesAt (shelf : ShelfSeen) (auction values : List ℕ) (bidder : ℕ) (x y : List ℕ) (good : ℕ) : Type 0 where
+  pub terms : Terms
+  pub valuations : List (List ℕ)
+  pub market : IsMarketAt shelf auction values terms valuations
+  pub first : IsFirstWithout terms (market_bidders terms valuations) bidder x y good
+
+pub record IsNotSubstitutesOf (number bidder : ℕ) (x y : List ℕ) (good : ℕ) : Type 0 where
+  pub terms : Terms
+  pub valuations : List (List ℕ)
+  pub made : IsMade number terms valuations
+  pub first : IsFirstWithout terms (market_bidders terms valuations) bidder x y good
+
+-- the file of this name is refused for the auction's terms
+pub record IsBadValues (shelf : ShelfSeen) (auction values : List ℕ) (fault : ValuesFault) : Type 0 where
+  pub terms : Terms
+  pub terms_are : HasTerms shelf auction terms
+  pub read : List ℕ
+  pub is_read : IsRead shelf values values_limit read
+  pub says : values_of terms.goods terms.bidders terms.ceiling read ≡ Err fault
+  pub other : fault ≢ refused.NoMemory

@@ -1,0 +1,40 @@
+//! The command `trial`: what the clocks of an auction settle, told by bidders with valuations.
+ghost use Rattle.house_run.specs.Commands.{Trial};
+ghost use Rattle.house_run.specs.Ends.{JobAnswer, end_of};
+ghost use Rattle.house_run.specs.Frame.{Frame};
+ghost use Rattle.house_run.specs.Seen.{outside};
+ghost use Rattle.house_run.specs.TrialCommand.{trial_needs};
+
+use crate::ends::Ended;
+use crate::markets::{read_market, try_market};
+use house_io::Shelf;
+use lot_base::NoMemory;
+use outcome_text::write_plain;
+use std::alloc::Global;
+use std::sync::Wait;
+use std::thread::Threads;
+
+/// The text of the outcome of a trial, or why there is none.
+pub(crate) fn job<T: Threads + Wait + Sync, H: Shelf>(
+    rt: &T,
+    alloc: Global,
+    auction: &str,
+    values: &str,
+    shelf: &mut H,
+) -> Result<Vec<u8>, Ended>
+    ensures answer { JobAnswer (Trial auction.now values.now) (outside H.files H.faults H.opened shelf.old shelf.new) result }
+    ensures frame { Frame (trial_needs auction.now values.now) (end_of result) (outside H.files H.faults H.opened shelf.old shelf.new) }
+{
+    let market = match read_market(alloc, shelf, auction, values) {
+        Ok(market) => market,
+        Err(ended) => return Err(ended),
+    };
+    let outcome = match try_market(rt, alloc, &market.terms, market.valuations.as_slice()) {
+        Ok(outcome) => outcome,
+        Err(ended) => return Err(ended),
+    };
+    match write_plain(alloc, &outcome) {
+        Ok(text) => Ok(text),
+        Err(NoMemory) => Err(Ended::NoMemory),
+    }
+}

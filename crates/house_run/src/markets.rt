@@ -1,0 +1,100 @@
+//! Markets, and what a trial of one gives.
+ghost use Rattle.std.specs.Prelude.{◌≡◌, IfOk, IfErr};
+ghost use Rattle.clock.specs.Reports.{histories};
+ghost use Rattle.trial.specs.Trials.{AreValuationsOf, IsTried};
+ghost use Rattle.house_run.specs.Frame.{Frame};
+ghost use Rattle.house_run.specs.Markets.{IsMarketAt, TriesAs, market_bidders};
+ghost use Rattle.house_run.specs.Seen.{outside, shelf_seen};
+ghost use Rattle.house_run.specs.Steps.{IsTrialEnd, LeavesSo, end_by};
+ghost use Rattle.house_run.specs.TrialCommand.{trial_needs};
+ghost use Rattle.house_run.specs.declared.ends.Ended.{Ended as End};
+
+use crate::ends::Ended;
+use crate::files::{read_auction, read_values};
+use house_io::Shelf;
+use lot_base::Terms;
+use settlement::{Outcome, Settlement};
+use std::alloc::Global;
+use std::sync::Wait;
+use std::thread::Threads;
+use trial::{TrialFault, Tried, trial};
+use valuation::Valuation;
+
+/// The terms of an auction, and a valuation for each bidder.
+#[derive(Drop)]
+pub(crate) struct Market {
+    pub terms: Terms,
+    pub valuations: Vec<Valuation>,
+}
+
+/// Reads an auction and a file of valuations, or says how a command that needs both ends.
+pub(crate) fn read_market<H: Shelf>(
+    alloc: Global,
+    shelf: &mut H,
+    auction: &str,
+    values: &str,
+) -> Result<Market, Ended>
+    ensures read { IfOk result (λ m. IsMarketAt (shelf_seen H.files H.faults H.opened shelf.old shelf.new) auction.now values.now m.terms m.valuations.items) }
+    ensures valuations { IfOk result (λ m. AreValuationsOf m.terms m.valuations.items) }
+    ensures frame { IfOk result (λ _. (end : End) → Frame (trial_needs auction.now values.now) end (outside H.files H.faults H.opened shelf.old shelf.new)) }
+    ensures ends { IfErr result (LeavesSo (trial_needs auction.now values.now) (outside H.files H.faults H.opened shelf.old shelf.new)) }
+{
+    let auction = match read_auction(alloc, shelf, auction) {
+        Ok(auction) => auction,
+        Err(ended) => return Err(ended),
+    };
+    match read_values(alloc, shelf, values, &auction.terms) {
+        Ok(valuations) => Ok(Market {
+            terms: auction.terms,
+            valuations,
+        }),
+        Err(ended) => Err(ended),
+    }
+}
+
+/// The outcome of the trial of a market, or how a command that needs it ends.
+pub(crate) fn try_market<T: Threads + Wait + Sync>(
+    rt: &T,
+    alloc: Global,
+    terms: &Terms,
+    valuations: &[Valuation],
+) -> Result<Outcome, Ended>
+    requires { AreValuationsOf terms.now valuations.now }
+    ensures tries { IfOk result (TriesAs terms.now valuations.now) }
+    ensures ends { IfErr result (IsTrialEnd terms.now valuations.now) }
+{
+    match trial(rt, alloc, terms, valuations, 1) {
+        Ok(tried) => outcome_of(terms, valuations, tried),
+        Err(fault) => Err(end_by(&fault)),
+    }
+}
+
+/// How a command ends whose trial is refused.
+fn end_by(fault: &TrialFault) -> Ended
+    ensures { result ≡ end_by fault.now }
+{
+    match fault {
+        TrialFault::NoMemory => Ended::NoMemory,
+        TrialFault::NotSubstitutes { bidder, x, y, good } => Ended::NotSubstitutes {
+            bidder: *bidder,
+            x: *x,
+            y: *y,
+            good: *good,
+        },
+    }
+}
+
+/// The outcome of a trial, which always has one.
+fn outcome_of(terms: &Terms, valuations: &[Valuation], tried: Tried) -> Result<Outcome, Ended>
+    requires { IsTried terms.now (market_bidders terms.now valuations.now) (histories tried.clocks.items) tried.settlement }
+    ensures tries { IfOk result (TriesAs terms.now valuations.now) }
+    ensures ends { IfErr result (IsTrialEnd terms.now valuations.now) }
+{
+    let Tried { settlement, .. } = tried;
+    match settlement {
+        Settlement::Settled(outcome) => Ok(outcome),
+        Settlement::Open { .. } | Settlement::Halted { .. } | Settlement::NoAward { .. } => {
+            unreachable!()
+        }
+    }
+}
