@@ -66,8 +66,8 @@ past-begins origin c x o old new are count same none stands answered synced call
 pub begun : {D : Type 0} (k : JournalOf D) (told : Type 0) (old new : Moments) (faults : ℕ) (n : NotedOf) (origin : Origin) → n.clock.terms ≡ origin.terms → n.clock.number ≡ origin.clock → AreReportsOf origin.terms n.clock.reports
     → origin.reports ≡ length n.clock.reports → k.end ≡ length (front (contents_of (owner_in origin) n.clock.reports)) → k.pending ≡ None → marks_in n.history ≡ 0 → HasRoom n (k.spare + 0)
     → (told → k.contents ≡ contents_of (owner_in origin) n.clock.reports) → (told → Stands k.contents k.pending new) → (told → origin.answered ≡ length new.past) → (told → origin.synced ≡ length old.past)
-    → (told → AtEach (IsAsOpened (owner_in origin) origin.read) old new) → IsBook k told new faults n None origin
-begun k told old new faults n origin terms number are count end none unmarked room contents stands answered synced call = record {
+    → (told → AtEach (IsAsOpened (owner_in origin) origin.read) old new) → (told → IsTrue origin.told) → IsBook k told new faults n None origin
+begun k told old new faults n origin terms number are count end none unmarked room contents stands answered synced call first = record {
   terms = terms;
   number = number;
   are = are;
@@ -80,6 +80,7 @@ begun k told old new faults n origin terms number are count end none unmarked ro
   room = room;
   contents = contents;
   past = λ t. past-begins origin n.clock k.contents k.pending old new are count (contents t) none (stands t) (answered t) (synced t) (call t);
+  first = first;
 }
 
 -- an unformed file is formed

@@ -125,6 +125,7 @@ module _ {D : Type 0} (j k : JournalOf D) (told told' : Type 0) (old new : Momen
         room = room-same n m (j.spare + kept_for pending) (k.spare + kept_for pending) clock reports quantities (ap (λ s. s + kept_for pending) same_spare) book.room;
         contents = λ t. same_contents t ∙ book.contents (tells t) ∙ ap (λ c. contents_of (owner_in origin) c.reports) (sym clock);
         past = λ t. subst (λ (c : ClockHistory). KeepsPast origin c new) (sym clock) (past-same origin n.clock q book.are (report-of q next) old new book.opened next (book.past (tells t)) (own q call t));
+        first = λ t. book.first (tells t);
       }
 
   -- the pending report is dropped
@@ -144,6 +145,7 @@ module _ {D : Type 0} (j k : JournalOf D) (told told' : Type 0) (old new : Momen
         room = let kept : kept_for pending ≡ 1 = ap kept_for is in room-same n n (j.spare + kept_for pending) (k.spare + 0) refl refl refl (omega (arith, spare, kept)) book.room;
         contents = λ t. same_contents t ∙ book.contents (tells t);
         past = λ t. past-same origin n.clock q book.are (report-of q next) old new book.opened next (book.past (tells t)) (own q call t);
+        first = λ t. book.first (tells t);
       }
 
   -- a report that the clock takes next is behind the others on the disk, and the clock took it
@@ -165,6 +167,7 @@ module _ {D : Type 0} (j k : JournalOf D) (told told' : Type 0) (old new : Momen
         room = room-less n m q (j.spare + kept_for pending) (k.spare + 0) clock reports quantities (omega (arith, spare)) book.room;
         contents = λ t. more t ∙ ap (λ x. with_one_more x (payload q)) (book.contents (tells t)) ∙ sym (contents-push (owner_in origin) n.clock.reports q) ∙ ap (λ c. contents_of (owner_in origin) c.reports) (sym clock);
         past = λ t. subst (λ (c : ClockHistory). KeepsPast origin c new) (sym clock) (past-more origin n.clock q book.are report old new book.opened next (book.past (tells t)) (own q call t));
+        first = λ t. book.first (tells t);
       }
 
   -- an append failed: its report is pending, and there is one mark more
@@ -189,6 +192,7 @@ module _ {D : Type 0} (j k : JournalOf D) (told told' : Type 0) (old new : Momen
             record { reports = first.reports; quantities = first.quantities; records_are = omega (arith, first.records_are, spare, none) };
         contents = λ t. same_contents t ∙ book.contents (tells t) ∙ ap (λ c. contents_of (owner_in origin) c.reports) (sym clock);
         past = λ t. subst (λ (c : ClockHistory). KeepsPast origin c new) (sym clock) (past-same origin n.clock r book.are (report-of r next) old new book.opened next (book.past (tells t)) (own r call t));
+        first = λ t. book.first (tells t);
       }
 
   -- where the record of one report more would end

@@ -1,5 +1,5 @@
 -- A clock book as its callers see it.
-use Rattle.std.specs.Prelude.{◌≡◌, ℕ, ◌+◌, ◌*◌, ◌≤◌, min, List, [], ◌∷◌, length, Option, Some, None, IfSome}
+use Rattle.std.specs.Prelude.{◌≡◌, ℕ, ◌+◌, ◌*◌, ◌≤◌, min, List, [], ◌∷◌, length, Option, Some, None, IfSome, IsTrue}
 use Rattle.std.specs.List.{concat}
 use Rattle.std.specs.Option.{option_map}
 use Rattle.lot_base.specs.Goods.{box_size}
@@ -29,7 +29,8 @@ pub record BookOf (D : Type 0) : Type 0 where
   pub origin : Origin
 
 -- What a book keeps, as its callers see it. Its history is legal. The disk's file stands for its reports, or for these and the
--- pending one, at each image that a crash may leave now; and it stood for a front of them since the opening was answered.
+-- pending one, at each image that a crash may leave now; and it stood for a front of them since the opening was answered. A disk that
+-- tells told then.
 pub record IsKept {D : Type 0} (told : Type 0) (ms : Moments) (faults : ℕ) (b : BookOf D) : Type 0 where
   pub legal : IsLegal b.state.clock
   pub terms : b.state.clock.terms ≡ b.origin.terms
@@ -40,6 +41,7 @@ pub record IsKept {D : Type 0} (told : Type 0) (ms : Moments) (faults : ℕ) (b 
   pub after : IfSome b.state.pending (λ r. EndsInMark b.state.history)
   pub stands : told → Leaves (IsEither (owner_in b.origin) b.state.clock.reports b.state.pending) ms.now
   pub past : told → KeepsPast b.origin b.state.clock ms
+  pub first : told → IsTrue b.origin.told
 
 -- the quantities of these reports
 abbrev pub quantities_in : List Report → ℕ
@@ -81,3 +83,4 @@ pub record IsBook {D : Type 0} (j : JournalOf D) (told : Type 0) (ms : Moments) 
   pub room : HasRoom n (j.spare + kept_for pending)
   pub contents : told → j.contents ≡ contents_of (owner_in origin) n.clock.reports
   pub past : told → KeepsPast origin n.clock ms
+  pub first : told → IsTrue origin.told

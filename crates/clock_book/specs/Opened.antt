@@ -101,6 +101,7 @@ pub record Begins {D : Type 0} (tells : D → Bool) (moments : D → Moments) (f
   pub state : b.state ≡ record { clock = c; history = map Offered c.reports; pending = None }
   pub origin : IsOf owner (length c.reports) b.origin
   pub told : IsTrue (tells b.disk) → IsTrue (tells old)
+  pub told_is : b.origin.told ≡ tells b.disk
   pub steady : faults b.disk ≡ faults old
   pub leaves : IsTrue (tells b.disk) → OpenLeaves owner (moments old) (moments b.disk) b.origin
 
@@ -112,6 +113,7 @@ pub record Opens {D : Type 0} (tells : D → Bool) (moments : D → Moments) (fa
   pub read : IsTrue (tells b.disk) → IsOpening owner (moments old).now.read (Ok b.state.clock)
   pub origin : IsOf owner (length b.state.clock.reports) b.origin
   pub told : IsTrue (tells b.disk) → IsTrue (tells old)
+  pub told_is : b.origin.told ≡ tells b.disk
   pub steady : faults b.disk ≡ faults old
   pub leaves : IsTrue (tells b.disk) → OpenLeaves owner (synced_at (moments old)) (moments b.disk) b.origin
 

@@ -23,6 +23,8 @@ pub struct Origin {
     pub reports: u64,
     /// The moment at which the opening was answered, by the number of moments before it.
     pub answered: u64,
+    /// The disk told its moments then.
+    pub told: bool,
 }
 
 /// The origin of a book, with what the proofs know of its disk then.
@@ -49,6 +51,7 @@ impl<D: Disk> Model for Start<D> {
       read = (D.moments s.synced.value).now.read;
       reports = s.reports;
       answered = length (D.moments s.answered.value.disk).past;
+      told = D.tells s.answered.value.disk;
     } };
 }
 

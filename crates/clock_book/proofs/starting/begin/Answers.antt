@@ -33,6 +33,7 @@ invariant_of-result g c =
       read = (g.D.Disk.moments c.of-synced.result.value).now.read;
       reports = c.count-reports.result;
       answered = length (g.D.Disk.moments c.of.result.value.disk).past;
+      told = g.D.Disk.tells c.of.result.value.disk;
     } in
     let room : HasRoom n (k.spare + 0) = record {
       reports = subst (λ (t : Terms). most_reports t n.clock.number ≤ length n.clock.reports + n.spare_reports) (sym terms) (subst (λ (x : ℕ). most_reports owner.terms x ≤ length n.clock.reports + n.spare_reports) (sym number) noted.reports);
@@ -43,6 +44,7 @@ invariant_of-result g c =
     (c.count-reports.ensures.value ∙ ap (λ h. length h.reports) c.clock.ensures.value) laid.end laid.pending (ap marks_in noted.offered ∙ marks-opened n.clock.reports) room laid.contents
     (λ t. (c.count-kept.ensures.kept t).stands) (λ t. ap (λ j. length (g.D.Disk.moments j.disk).past) c.of.ensures) (λ t. ap (λ d. length (g.D.Disk.moments d).past) seen)
     (λ t. subst R (sym (ap (λ d. (g.D.Disk.moments d).now.read) seen)) (laid.leaves t))
+    (λ t. subst IsTrue (sym (ap (λ j. g.D.Disk.tells j.disk) c.of.ensures)) t)
 
 pub returns-in-Ok-roomy_journal-clause-ok : goal.returns-in-Ok-roomy_journal-clause-ok
 returns-in-Ok-roomy_journal-clause-ok g c =
@@ -57,6 +59,7 @@ returns-in-Ok-roomy_journal-clause-ok g c =
       state = λ i. record { clock = n.clock; history = noted.offered i; pending = None };
       origin = record { terms_are = refl; clock_is = refl; digest_is = refl; reports_are = c.count-reports.ensures.value ∙ ap (λ h. length h.reports) c.clock.ensures.value };
       told = laid.told;
+      told_is = ap (λ j. g.D.Disk.tells j.disk) c.of.ensures;
       steady = laid.steady;
       leaves = λ t. record {
         each = subst R (sym (ap (λ d. (g.D.Disk.moments d).now.read) seen)) (laid.leaves t);

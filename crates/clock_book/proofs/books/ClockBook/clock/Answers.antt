@@ -16,4 +16,5 @@ returns-clause-kept g c =
       after = kept.after;
       stands = λ t. stands-either (owner_in b.start) b.noted.clock.reports b.pending b.journal.contents b.journal.pending (g.D.Disk.moments b.journal.disk) kept.are (reports-of b.start.terms b.noted b.pending kept.terms kept.waits) (kept.contents t) kept.in_doubt (c.count-kept.ensures.kept t).stands;
       past = kept.past;
+      first = kept.first;
     })
