@@ -1,4 +1,10 @@
 pub mod Offering
 pub mod Turning
 pub mod Passing
+pub mod Unused
 pub mod Places
+pub mod Rows
+pub mod Closed
+pub mod Sending
+pub mod Deals
+pub mod Openings

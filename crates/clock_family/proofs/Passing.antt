@@ -1,6 +1,7 @@
 -- A pass for each desk, after one of them had its turn.
-use Rattle.std.proofs.Common.{◌≡◌, inl, inr, ◌<◌, ℕ, zero, suc, List, [], ◌∷◌, length, get_or, None, refl, sym, ◌∙◌, ap, subst, arith}
+use Rattle.std.proofs.Common.{◌≡◌, inl, inr, ◌<◌, ℕ, zero, suc, List, [], ◌∷◌, length, map, get_or, None, refl, sym, ◌∙◌, ap, subst, arith}
 use Rattle.std.specs.Prelude.{slice_set}
+use Rattle.std.proofs.Math.Seq.{map-set_same}
 use Rattle.std.proofs.lemmas.List.{get_or-set_same, get_or-set_other, length-set}
 use Rattle.std.proofs.lemmas.Bool.{cases_eq}
 use Rattle.lot_base.specs.declared.auction_terms.Terms.{Terms}
@@ -10,8 +11,20 @@ use Rattle.clock.specs.declared.judging.Offered.{Offered}
 use Rattle.recovery.specs.Journaled.{owner_of}
 use Rattle.clock_book.specs.declared.entries.Entry.{Entry}
 use Rattle.clock_book.specs.declared.origins.Origin.{Origin}
-use Rattle.turn_desk.specs.Passes.{Opened, Known}
+use Rattle.turn_desk.specs.Passes.{Opened, Known, at_turn, after_giving}
+use Rattle.clock_family.specs.Houses.{HousePassOf, still, all_still}
 use Rattle.clock_family.specs.Turns.{IsOf, AreOf, OthersStay, PassLooks, PassOffers, LooksAt, OffersAt}
+
+-- a turn leaves the rest of a pass
+pub still-given : (old new : Known Entry Origin) (before after : List Entry) → old.turn ≡ None → new ≡ after_giving (at_turn old before) after → still new ≡ still old
+still-given old new before after rests gives = ap still gives ∙ (λ i. record (still old) { turn = sym rests i })
+
+-- a pass of the list had its turn, and nothing else of it changed
+pub still-set : (passes : List (Known Entry Origin)) (i : ℕ) (old new : Known Entry Origin) (before : HousePassOf) (room : ℕ) → old ≡ get_or passes i old → still new ≡ still old → record { passes = passes; room = room } ≡ before
+    → all_still (record { passes = slice_set passes i new; room = room }) ≡ all_still before
+still-set passes i old new before room is same view =
+    let each : map still (slice_set passes i new) ≡ map still passes = map-set_same still passes i new old (same ∙ ap still is) in
+    (λ j. record { passes = each j; room = room }) ∙ ap all_still view
 
 -- within a list the default is not met
 any-default : {A : Type 0} (xs : List A) (i : ℕ) (d e : A) → i < length xs → get_or xs i d ≡ get_or xs i e

@@ -1,17 +1,17 @@
 -- Places in lists of disks and desks.
-use Rattle.std.proofs.Common.{◌≡◌, ◌⊎◌, inl, inr, ⊎_elim, ◌<◌, ◌≤◌, ℕ, zero, suc, ◌+◌, ◌-◌, Bool, List, [], ◌∷◌, ◌++◌, length, drop, get_or, reverse, refl, sym, ◌∙◌, ap, subst, arith, length-append, length-drop}
+use Rattle.std.proofs.Common.{◌≡◌, inl, inr, ◌<◌, ℕ, zero, suc, ◌+◌, Bool, List, [], ◌∷◌, ◌++◌, length, drop, get_or, reverse, refl, sym, ◌∙◌, ap, subst, arith, length-append, length-drop}
 use Rattle.std.proofs.lemmas.List.{get_or_at, reverse-append, drop_more}
 use Rattle.std.proofs.lemmas.Bool.{cases_lt}
 use Rattle.lot_base.specs.declared.auction_terms.Terms.{Terms}
 use Rattle.house_io.specs.Moments.{Moments}
 use Rattle.recovery.specs.Journaled.{owner_of}
-use Rattle.clock_book.specs.Books.{BookOf}
-use Rattle.clock_book.specs.Opened.{Opens, IsUnopened}
+use Rattle.clock_book.specs.Opened.{IsUnopened}
 use Rattle.clock_book.specs.declared.faults.OpenFault.{OpenFault}
-use Rattle.clock_family.specs.Opening.{LaidOf, IsLaidFor, AreLaid, IsNotOpen}
+use Rattle.clock_family.specs.Opening.{LaidOf, IsLaidFor, AreLaid, AreGivenBack, WasOpened, IsNotOpen}
+use Rattle.clock_family.proofs.Unused.{given-count, given-at, was-opened}
 
 module _ {A : Type 0} where
-  get-front : (xs ys : List A) (k : ℕ) (d : A) → k < length xs → get_or (xs ++ ys) k d ≡ get_or xs k d
+  pub get-front : (xs ys : List A) (k : ℕ) (d : A) → k < length xs → get_or (xs ++ ys) k d ≡ get_or xs k d
   get-front [] ys k d below = absurd (omega (arith, below))
   get-front (x ∷ xs) ys zero d below = refl
   get-front (x ∷ xs) ys (suc k) d below = get-front xs ys k d (omega (arith, below))
@@ -24,7 +24,7 @@ module _ {A : Type 0} where
   get-past (z ∷ front) y [] (suc k) d past = get-past front y [] k d (omega (arith, past))
   get-past (z ∷ front) y (x ∷ ds) (suc k) d past = get-past front y ds k d (omega (arith, past))
 
-  some-of : (xs : List A) (k : ℕ) → k < length xs → A
+  pub some-of : (xs : List A) (k : ℕ) → k < length xs → A
   some-of [] k below = absurd (omega (arith, below))
   some-of (x ∷ xs) k below = x
 
@@ -75,8 +75,9 @@ module _ {D : Type 0} (tells : D → Bool) (moments : D → Moments) (faults : D
 
   -- the disks are given back where one was not opened
   pub not-open : (disks left front new : List D) (laid : List (LaidOf D)) (n : ℕ) (disk back : D) (fault : OpenFault) → AreLaid tells moments faults terms digest count disks laid → length laid ≡ n → IsTaken disks left n disk
-      → IsUnopened tells moments faults (owner_of terms n digest) disk back fault → length front ≡ length laid → new ≡ front ++ reverse (left ++ back ∷ []) → IsNotOpen tells moments faults terms digest disks new n fault
-  not-open disks left front new laid n disk back fault are size next unopened long is =
+      → IsUnopened tells moments faults (owner_of terms n digest) disk back fault → AreGivenBack tells moments laid front → new ≡ front ++ reverse (left ++ back ∷ []) → IsNotOpen tells moments faults terms digest disks new n fault
+  not-open disks left front new laid n disk back fault are size next unopened given is =
+      let long : length front ≡ length laid = given-count tells moments laid front given in
       let suc-n : suc (length front) ≡ n + 1 = omega (arith, long, size) in
       let all : new ≡ front ++ back ∷ drop (suc (length front)) disks =
       is ∙ ap (λ l. front ++ l) (reverse-append left (back ∷ [])) ∙ ap (λ l. front ++ back ∷ l) (next.rest ∙ ap (λ (k : ℕ). drop k disks) (sym suc-n)) in
@@ -86,7 +87,9 @@ module _ {D : Type 0} (tells : D → Bool) (moments : D → Moments) (faults : D
         before = λ k x less.
             let below : k < length laid = omega (arith, less, size) in
             let l = some-of laid k below in
-            ((get_or laid k l).desk.book.book, (are.each k x l below).opens);
+            let here : get_or new k x ≡ get_or front k x = ap (λ z. get_or z k x) all ∙ get-front front (back ∷ drop (suc (length front)) disks) k x (omega (arith, below, long)) in
+            subst (λ z. WasOpened tells moments faults (owner_of terms k digest) (get_or disks k x) z) (sym here)
+            (was-opened tells moments faults (owner_of terms k digest) (get_or disks k x) (get_or laid k l).desk.book.book (get_or front k x) (are.each k x l below).opens (given-at tells moments laid front k l x given below));
         refused = λ x.
             let here : get_or new n x ≡ back = ap (λ l. get_or l n x) all ∙ get_or_at front back (drop (suc (length front)) disks) x n (long ∙ size) in
             subst (λ z. IsUnopened tells moments faults (owner_of terms n digest) z (get_or new n x) fault) (next.here x) (subst (λ z. IsUnopened tells moments faults (owner_of terms n digest) disk z fault) (sym here) unopened);

@@ -1,3 +1,6 @@
 pub mod Turns
 pub mod Seats
 pub mod Opening
+pub mod Houses
+pub mod Closing
+pub mod Rows

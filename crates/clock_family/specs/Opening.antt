@@ -1,15 +1,20 @@
 -- How a house is opened.
-use Rattle.std.specs.Prelude.{◌≡◌, ◌≤◌, ◌<◌, ℕ, Bool, List, length, slice_index_or}
+use Rattle.std.specs.Prelude.{◌≡◌, ◌≤◌, ◌<◌, ℕ, Bool, IsTrue, List, [], ◌∷◌, length, slice_index_or, Option}
+use Rattle.std.specs.List.{AllByRecursion}
 use Rattle.lot_base.specs.declared.auction_terms.Terms.{Terms}
-use Rattle.house_io.specs.Moments.{Moments}
-use Rattle.recovery.specs.Journaled.{owner_of}
+use Rattle.demand_set.specs.declared.reports.Report.{Report}
+use Rattle.house_io.specs.Moments.{Moments, Leaves}
+use Rattle.recovery.specs.Journaled.{Owner, owner_of}
 use Rattle.clock_book.specs.Books.{BookOf}
+use Rattle.clock_book.specs.DeskHistories.{reports_in}
 use Rattle.clock_book.specs.Opened.{Opens, IsUnopened}
 use Rattle.clock_book.specs.declared.faults.OpenFault.{OpenFault}
+use Rattle.clock_book.specs.Past.{owner_in, IsEither, KeepsPast}
 use Rattle.clock_book.specs.declared.entries.Entry.{Entry}
 use Rattle.clock_book.specs.declared.origins.Origin.{Origin}
 use Rattle.turn_desk.specs.Passes.{Opened, Known, AreNew, AreAll}
 use Rattle.clock_family.specs.declared.house_books.HouseBook.{HouseBook}
+use Rattle.clock_family.specs.Turns.{clock_in}
 
 -- a desk, with all its passes
 pub record LaidOf (D : Type 0) : Type 0 where
@@ -27,11 +32,38 @@ pub record AreLaid {D : Type 0} (tells : D → Bool) (moments : D → Moments) (
   pub within : length laid ≤ length disks
   pub each : (k : ℕ) (x : D) (l : LaidOf D) → k < length laid → IsLaidFor tells moments faults terms digest count k (slice_index_or disks k x) (slice_index_or laid k l).desk (slice_index_or laid k l).passes
 
--- Why no house was opened: the clock of this number is the first whose book is not opened. The disks come back in order, and those of
--- greater clocks were not touched.
+-- no pass of the desk has made anything
+pub record IsUnused {D : Type 0} (l : LaidOf D) : Type 0 where
+  pub made_nothing : AllByRecursion (λ (p : Known Entry Origin). p.own ≡ []) l.passes
+
+-- the disk of a book of this history, given back: it stands as the book says
+pub record IsGivenBack {D : Type 0} (tells : D → Bool) (moments : D → Moments) (origin : Origin) (history : List Entry) (disk : D) : Type 0 where
+  pub pending : Option Report
+  pub told : IsTrue (tells disk) → IsTrue origin.told
+  pub stands : IsTrue (tells disk) → Leaves (IsEither (owner_in origin) (reports_in history) pending) (moments disk).now
+  pub past : IsTrue (tells disk) → KeepsPast origin (clock_in (owner_in origin) history) (moments disk)
+
+-- the disks of the books on these desks, in order
+abbrev pub AreGivenBack : {D : Type 0} → (D → Bool) → (D → Moments) → List (LaidOf D) → List D → Type 0
+AreGivenBack tells moments [] [] = Unit {0}
+AreGivenBack tells moments (l ∷ ls) (x ∷ xs) = IsGivenBack tells moments l.desk.book.book.origin l.desk.book.book.state.history x × AreGivenBack tells moments ls xs
+AreGivenBack tells moments [] (x ∷ xs) = ⊥
+AreGivenBack tells moments (l ∷ ls) [] = ⊥
+
+-- A disk whose book was opened and given back: it stands as the book says.
+pub record WasOpened {D : Type 0} (tells : D → Bool) (moments : D → Moments) (faults : D → ℕ) (owner : Owner) (old new : D) : Type 0 where
+  pub first : BookOf D
+  pub pending : Option Report
+  pub opens : Opens tells moments faults owner old first
+  pub told : IsTrue (tells new) → IsTrue (tells first.disk)
+  pub stands : IsTrue (tells new) → Leaves (IsEither (owner_in first.origin) first.state.clock.reports pending) (moments new).now
+  pub past : IsTrue (tells new) → KeepsPast first.origin first.state.clock (moments new)
+
+-- Why no house was opened: the clock of this number is the first whose book is not opened. The disks come back in order: those of
+-- smaller clocks as their books left them, and those of greater clocks were not touched.
 pub record IsNotOpen {D : Type 0} (tells : D → Bool) (moments : D → Moments) (faults : D → ℕ) (terms : Terms) (digest : List ℕ) (old new : List D) (clock : ℕ) (fault : OpenFault) : Type 0 where
   pub within : clock < length old
   pub count : length new ≡ length old
-  pub before : (k : ℕ) (x : D) → k < clock → (b : BookOf D) × Opens tells moments faults (owner_of terms k digest) (slice_index_or old k x) b
+  pub before : (k : ℕ) (x : D) → k < clock → WasOpened tells moments faults (owner_of terms k digest) (slice_index_or old k x) (slice_index_or new k x)
   pub refused : (x : D) → IsUnopened tells moments faults (owner_of terms clock digest) (slice_index_or old clock x) (slice_index_or new clock x) fault
   pub after : (k : ℕ) (x : D) → clock < k → slice_index_or new k x ≡ slice_index_or old k x

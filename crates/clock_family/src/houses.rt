@@ -1,41 +1,158 @@
 //! A house: a desk for each clock.
-ghost use Rattle.std.specs.Prelude.{◌≡◌, ◌≤◌, ◌<◌, ℕ, length};
+ghost use Rattle.std.specs.Prelude.{◌≡◌, ◌≤◌, ◌<◌, ◌++◌, ◌∷◌, [], ◌+◌, ℕ, length, IfOk, IfErr};
 ghost use Rattle.lot_base.specs.Demands.{IsDemand};
 ghost use Rattle.lot_base.specs.Goods.{IsRange};
 ghost use Rattle.session.specs.Asking.{IsOffered};
 ghost use Rattle.lot_base.specs.declared.phases.Phase.TheVariants.{Halted};
+ghost use Rattle.clock_family.specs.Opening.{IsNotOpen};
 ghost use Rattle.clock_family.specs.Turns.{LooksAt, OffersAt, AreOf};
+ghost use Rattle.clock_family.specs.Houses.{IsOpened, AreAllOf, AreClosed, all_still};
 
+use crate::closing::Closing;
+use crate::columns::close_all;
+use crate::dealing::{Tray, deal, gather, reserve};
 use crate::house_books::HouseBook;
+use crate::opening::{NotOpen, lay_all};
 use crate::turns::{look_on, offer_on};
+use auction_file::Auction;
 use clock::{Look, Offered};
+use clock_book::{ClockBook, OpenFault};
 use demand_set::Demand;
 use house_io::Disk;
 use lot_base::Terms;
 use std::alloc::Global;
+use std::marker::Model;
 use std::sync::Wait;
 use turn_desk::{Desk, Pass};
 
 /// A desk for each clock of an auction, shared by threads.
 pub struct House<D: Disk> {
-    pub terms: Terms,
+    pub(crate) terms: Terms,
     /// The digest of the auction's file.
-    pub digest: [u8; 32],
-    pub desks: Vec<Desk<HouseBook<D>>>,
+    pub(crate) digest: [u8; 32],
+    pub(crate) desks: Vec<Desk<HouseBook<D>>>,
 }
 
-/// A pass for each desk of a house.
+impl<D: Disk> Model for House<D> {
+    ghost use Rattle.std.specs.Prelude.{◌≡◌, ◌+◌, length};
+    ghost use Rattle.clock_family.specs.Houses.{HouseOf};
+
+    ghost Value = { HouseOf D };
+
+    ghost view = { λ h. record { terms = h.terms; digest = h.digest; desks = h.desks.items } };
+
+    ghost invariant = { λ h. length h.desks.items ≡ h.terms.bidders + 1 };
+}
+
+/// A pass for each desk of a house, in the order of the clocks.
 pub struct HousePass<D: Disk> {
-    pub passes: Vec<Pass<HouseBook<D>>>,
+    pub(crate) passes: Vec<Pass<HouseBook<D>>>,
+    /// What closing the house takes, in its first pass alone: a house is shared by threads, and a list of passes is not.
+    pub(crate) closing: Option<Closing<D>>,
+}
+
+impl<D: Disk> Model for HousePass<D> {
+    ghost use Rattle.std.specs.Prelude.{◌≤◌, length, IfSome};
+    ghost use Rattle.clock_family.specs.Houses.{HousePassOf, room_of};
+
+    ghost Value = { HousePassOf };
+
+    ghost view = { λ p. record { passes = p.passes.items; room = room_of p.closing } };
+
+    ghost invariant = { λ p. IfSome p.closing (λ c. length p.passes.items ≤ c.clocks) };
+}
+
+impl<D: Disk> Drop for HousePass<D> {
+    fn drop(self) {
+        let HousePass {
+            passes: _,
+            closing: _,
+        } = self;
+    }
+}
+
+impl<D: Disk> HousePass<D> {
+    /// Takes the last pass.
+    pub(crate) fn take_last(&mut self) -> Pass<HouseBook<D>>
+        requires some { 0 < length self.old.passes }
+        ensures passes { self.old.passes ≡ self.new.passes ++ result ∷ [] }
+    {
+        self.passes.pop().unwrap()
+    }
+
+    /// Keeps what closing the house takes.
+    pub(crate) fn give_closing(&mut self, closing: Closing<D>)
+        requires clocks { length self.old.passes ≤ closing.clocks }
+        ensures passes { self.new.passes ≡ self.old.passes }
+        ensures room { self.new.room ≡ closing.room }
+    {
+        self.closing = Some(closing);
+    }
+
+    /// Takes what closing the house takes.
+    pub(crate) fn take_closing(&mut self) -> Closing<D>
+        requires room { 0 < self.old.room }
+        ensures passes { self.new.passes ≡ self.old.passes }
+        ensures room { result.room ≡ self.old.room }
+        ensures clocks { length self.old.passes ≤ result.clocks }
+    {
+        let closing = self.closing.take();
+        closing.unwrap()
+    }
 }
 
 impl<D: Disk> House<D> {
+    /// Opens a house: the book of each clock on its disk, on a desk of its own, and so many passes, 1 to 64. The smallest clock whose
+    /// book is not opened refuses, and the disks come back in order.
+    pub fn open(
+        alloc: Global,
+        auction: &Auction,
+        disks: Vec<D>,
+        passes: u32,
+    ) -> Result<(House<D>, Vec<HousePass<D>>), NotOpen<D>>
+        requires disks { length disks.items ≡ auction.now.terms.bidders + 1 }
+        requires passes { (1 ≤ passes) × (passes ≤ 64) }
+        ensures opened { IfOk result (λ o. IsOpened D.tells D.moments D.faults auction.now.terms auction.now.digest passes disks.items o.0 o.1.items) }
+        ensures refused { IfErr result (λ e. IsNotOpen D.tells D.moments D.faults auction.now.terms auction.now.digest disks.items e.disks.items e.clock e.fault) }
+    {
+        let Ok(tray) = reserve(alloc, disks.len(), passes as usize) else {
+            return Err(NotOpen {
+                disks,
+                clock: 0,
+                fault: OpenFault::NoMemory,
+            });
+        };
+        let Tray {
+            mut rows,
+            desks,
+            passes: list,
+            closing,
+        } = tray;
+        match lay_all(alloc, disks, &auction.terms, &auction.digest, passes) {
+            Err(not_open) => {
+                desks.destroy_empty();
+                Err(not_open)
+            }
+            Ok(laid) => {
+                let desks = deal(laid, &mut rows, desks);
+                let passes = gather(rows, list, closing);
+                let house = House {
+                    terms: auction.terms,
+                    digest: auction.digest,
+                    desks,
+                };
+                Ok((house, passes))
+            }
+        }
+    }
+
     /// Waits for the turn at a clock's desk, and looks at the clock. Takes no memory.
     pub fn look<T: Wait>(&self, rt: &T, pass: &mut HousePass<D>, clock: u8) -> Look
         requires clock { clock ≤ self.now.terms.bidders }
-        requires of_house { AreOf self.now.terms self.now.digest self.now.desks.items pass.old.passes.items }
-        ensures looks { LooksAt clock result pass.old.passes.items pass.new.passes.items }
-        ensures of_house { AreOf self.now.terms self.now.digest self.now.desks.items pass.new.passes.items }
+        requires of_house { AreOf self.now.terms self.now.digest self.now.desks pass.old.passes }
+        ensures looks { LooksAt clock result pass.old.passes pass.new.passes }
+        ensures of_house { AreOf self.now.terms self.now.digest self.now.desks pass.new.passes }
+        ensures still { all_still pass.new ≡ all_still pass.old }
         ensures goods { length result.prices ≡ length self.now.terms.goods }
         ensures halted { (good : ℕ) → result.phase ≡ Halted good → good < length self.now.terms.goods }
     {
@@ -61,11 +178,12 @@ impl<D: Disk> House<D> {
         demand: Demand,
     ) -> Offered
         requires clock { clock ≤ self.now.terms.bidders }
-        requires of_house { AreOf self.now.terms self.now.digest self.now.desks.items pass.old.passes.items }
+        requires of_house { AreOf self.now.terms self.now.digest self.now.desks pass.old.passes }
         requires bidder { IsRange 1 self.now.terms.bidders bidder }
         requires fits { IsDemand self.now.terms.goods demand }
-        ensures offers { OffersAt clock (record { bidder = bidder; round = round; demand = demand }) result pass.old.passes.items pass.new.passes.items }
-        ensures of_house { AreOf self.now.terms self.now.digest self.now.desks.items pass.new.passes.items }
+        ensures offers { OffersAt clock (record { bidder = bidder; round = round; demand = demand }) result pass.old.passes pass.new.passes }
+        ensures of_house { AreOf self.now.terms self.now.digest self.now.desks pass.new.passes }
+        ensures still { all_still pass.new ≡ all_still pass.old }
         ensures refusal { IsOffered (bidder ≡ clock) result }
     {
         offer_on(
@@ -80,5 +198,21 @@ impl<D: Disk> House<D> {
             round,
             demand,
         )
+    }
+
+    /// Takes the books from a house that no thread shares any more, in the order of the clocks. Takes no memory.
+    pub fn close(self, passes: Vec<HousePass<D>>) -> Vec<ClockBook<D>>
+        requires all { AreAllOf self.desks passes.items }
+        ensures closed { AreClosed self.desks passes.items result.items }
+    {
+        let House {
+            terms: _,
+            digest: _,
+            desks,
+        } = self;
+        let mut rows = passes;
+        let closing = rows[0].take_closing();
+        let (lists, books) = closing.into_lists();
+        close_all(desks, &mut rows, lists, books)
     }
 }

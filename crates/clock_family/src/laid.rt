@@ -1,4 +1,7 @@
 //! A desk that was laid for a clock.
+ghost use Rattle.std.specs.Prelude.{◌≡◌};
+ghost use Rattle.clock_family.specs.Opening.{IsUnused, IsGivenBack};
+
 use crate::house_books::HouseBook;
 use house_io::Disk;
 use std::marker::Model;
@@ -22,11 +25,24 @@ impl<D: Disk> Model for Laid<D> {
 }
 
 impl<D: Disk> Laid<D> {
-    /// The disk of the clock's book.
-    pub(crate) fn into_disk(self) -> D {
+    /// The disk of the clock's book, to whose history nothing came.
+    pub(crate) fn into_disk(self) -> D
+        requires unused { IsUnused self }
+        ensures given_back { IsGivenBack D.tells D.moments self.desk.book.book.origin self.desk.book.book.state.history result }
+    {
         let Laid { desk, passes } = self;
         let HouseBook { book } = desk.close(passes);
+        let _kept = book.clock();
         let (_clock, disk) = book.into_parts();
         disk
+    }
+
+    /// The desk, and its passes.
+    pub(crate) fn into_parts(self) -> (Desk<HouseBook<D>>, Vec<Pass<HouseBook<D>>>)
+        ensures desk { result.0 ≡ self.desk }
+        ensures passes { result.1.items ≡ self.passes }
+    {
+        let Laid { desk, passes } = self;
+        (desk, passes)
     }
 }

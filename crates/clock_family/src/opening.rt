@@ -2,7 +2,8 @@
 ghost use Rattle.std.specs.Prelude.{◌≡◌, ◌≤◌, ◌+◌, ◌++◌, List, length, reverse, vec_len, vec_capacity, IfOk, IfErr};
 ghost use Rattle.recovery.specs.Journaled.{owner_of};
 ghost use Rattle.clock_book.specs.Opened.{IsUnopened};
-ghost use Rattle.clock_family.specs.Opening.{IsLaidFor, AreLaid, IsNotOpen};
+ghost use Rattle.std.specs.List.{AllByRecursion};
+ghost use Rattle.clock_family.specs.Opening.{IsLaidFor, AreLaid, IsUnused, AreGivenBack, IsNotOpen};
 
 use crate::house_books::HouseBook;
 use crate::laid::Laid;
@@ -95,7 +96,8 @@ pub(crate) fn lay_all<D: Disk>(
 /// The disks in order: those of the desks, and then these, of which the last comes first.
 fn given_back<D: Disk>(rest: Vec<D>, laid: Vec<Laid<D>>) -> Vec<D>
     requires room { length rest.items + length laid.items ≤ vec_capacity rest }
-    ensures { (front : List D) × (length front ≡ length laid.items) × (result.items ≡ front ++ reverse rest.items) }
+    requires unused { AllByRecursion IsUnused laid.items }
+    ensures { (front : List D) × AreGivenBack D.tells D.moments laid.items front × (result.items ≡ front ++ reverse rest.items) }
 {
     let mut disks = rest;
     let mut laid = laid;

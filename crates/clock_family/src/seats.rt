@@ -19,6 +19,7 @@ impl<'a, D: Disk> Hall for HouseSeat<'a, D> {
     ghost use Rattle.std.specs.Prelude.{◌≡◌};
     ghost use Rattle.std.proofs.Common.{refl, ◌∙◌, ap};
     ghost use Rattle.clock_family.specs.Turns.{AreOf};
+    ghost use Rattle.clock_family.specs.Houses.{all_still};
     ghost use Rattle.clock_family.specs.Seats.{SeatAllows};
 
     type Meaning = HousePass<D>;
@@ -29,11 +30,11 @@ impl<'a, D: Disk> Hall for HouseSeat<'a, D> {
 
     ghost bidders = { λ s. s.house.now.terms.bidders };
 
-    ghost in_order = { λ s. AreOf s.house.now.terms s.house.now.digest s.house.now.desks.items s.pass.now.passes.items };
+    ghost in_order = { λ s. AreOf s.house.now.terms s.house.now.digest s.house.now.desks s.pass.now.passes };
 
-    ghost stays = { λ s t. (t.house.now ≡ s.house.now) × (t.pass.ghost_name ≡ s.pass.ghost_name) };
+    ghost stays = { λ s t. (t.house.now ≡ s.house.now) × (t.pass.ghost_name ≡ s.pass.ghost_name) × (all_still t.pass.now ≡ all_still s.pass.now) };
 
-    ghost allows = { λ before asked after. SeatAllows before.passes.items asked after.passes.items };
+    ghost allows = { λ before asked after. SeatAllows before.passes asked after.passes };
 
     fn look<T: Wait>(&mut self, rt: &T, clock: u8) -> Look {
         self.house.look(rt, self.pass, clock)
@@ -52,9 +53,9 @@ impl<'a, D: Disk> Hall for HouseSeat<'a, D> {
             .offer(rt, alloc, self.pass, clock, bidder, round, demand)
     }
 
-    ghost stays_still = { λ s. (refl, refl) };
+    ghost stays_still = { λ s. (refl, refl, refl) };
 
-    ghost stays_along = { λ x y z p q. (q.0 ∙ p.0, q.1 ∙ p.1) };
+    ghost stays_along = { λ x y z p q. (q.0 ∙ p.0, q.1 ∙ p.1, q.2 ∙ p.2) };
 
     ghost same_supply = { λ x y p. ap (λ h. h.terms.goods) p.0 };
 

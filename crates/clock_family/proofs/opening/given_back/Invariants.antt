@@ -1,9 +1,13 @@
-use Rattle.std.proofs.Common.{◌≡◌, ◌≤◌, ◌+◌, ◌++◌, List, length, vec_len, vec_capacity}
+use Rattle.std.proofs.Common.{◌≤◌, ◌+◌, length, vec_capacity}
+use Rattle.std.specs.List.{AllByRecursion}
+use Rattle.clock_family.specs.Opening.{IsUnused}
+use Rattle.clock_family.proofs.Unused.{AreTaken}
 use Rattle.clock_family.proofs.opening.given_back.Given as goal
 
 abbrev pub invariant-loop-stand : goal.invariant-loop-stand
 invariant-loop-stand g l = record {
-  gone : (more : List g.row.D.Denot) × (l.disks.items ≡ l.initial.disks.items ++ more) × (length more + length l.laid.items ≡ length l.initial.laid.items);
+  taken : AreTaken g.D.Disk.tells g.D.Disk.moments l.initial.laid.items l.initial.disks.items l.laid.items l.disks.items;
+  unused : AllByRecursion IsUnused l.laid.items;
   room : length l.disks.items + length l.laid.items ≤ vec_capacity l.disks;
 }
 

@@ -1,6 +1,7 @@
-use Rattle.std.proofs.Common.{◌≡◌, ◌∙◌, ◌+◌, ◌≤◌, ◌++◌, [], ◌∷◌, List, length, reverse, vec_len, vec_capacity, ap, sym, subst, arith, rules, length-append}
+use Rattle.std.proofs.Common.{◌≡◌, ◌∙◌, ◌++◌, ◌<◌, [], ◌∷◌, length, reverse, ap, sym, subst, arith, rules, length-append}
 use Rattle.clock_family.specs.Opening.{AreLaid}
 use Rattle.clock_family.proofs.Places.{taken-next, laid-more, not-open}
+use Rattle.clock_family.proofs.Openings.{laid-unused}
 use Rattle.clock_family.proofs.opening.lay_all.Goals as goal
 
 pub returns-in-Err-clause-err : goal.returns-in-Err-clause-err
@@ -26,3 +27,9 @@ loop-clock-preserved g c =
       room = omega (arith, i.room, c.pop.ensures.capacity);
       space = omega (arith, i.space, c.push_reserved.ensures.capacity);
     }
+
+pub given_back-disks-requires-clause-unused : goal.given_back-disks-requires-clause-unused
+given_back-disks-requires-clause-unused g c =
+    let i = c.loop-clock.invariant in
+    let some : 0 < length c.args.disks.items = search rules in
+    laid-unused g.D.Disk.tells g.D.Disk.moments g.D.Disk.faults c.args.terms.now c.args.digest.now c.args.passes c.args.disks.items c.loop-clock.laid.items i.are some

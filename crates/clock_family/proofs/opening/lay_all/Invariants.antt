@@ -1,4 +1,4 @@
-use Rattle.std.proofs.Common.{◌≡◌, ◌≤◌, ◌+◌, List, length, drop, reverse, vec_len, vec_capacity}
+use Rattle.std.proofs.Common.{◌≡◌, ◌≤◌, length, drop, reverse, vec_capacity}
 use Rattle.clock_family.specs.Opening.{AreLaid}
 use Rattle.clock_family.proofs.opening.lay_all.Given as goal
 

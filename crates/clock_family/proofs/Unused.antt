@@ -1,0 +1,137 @@
+-- Desks at which nothing was made: the disks of their books stand as these say.
+use Rattle.std.proofs.Common.{◌≡◌, inl, inr, ◌<◌, ◌≤◌, ℕ, zero, suc, ◌+◌, Bool, ◌&&◌, List, [], ◌∷◌, ◌++◌, length, map, get_or, reverse, refl, sym, ◌∙◌, ap, subst, arith, length-append, append-nil, append_assoc}
+use Rattle.std.specs.Prelude.{IsTrue}
+use Rattle.std.specs.List.{AllByRecursion}
+use Rattle.std.proofs.lemmas.Bool.{cases_lt, le-leb, lt-ltb}
+use Rattle.std.proofs.lemmas.List.{reverse-append, reverse-reverse}
+use Rattle.demand_set.specs.declared.reports.Report.{Report}
+use Rattle.clock.specs.Reports.{ClockHistory}
+use Rattle.house_io.specs.Moments.{Moments, Leaves}
+use Rattle.recovery.specs.Journaled.{Owner, owner_of}
+use Rattle.clock_book.specs.Opening.{history_of}
+use Rattle.clock_book.specs.Opened.{Opens}
+use Rattle.clock_book.specs.DeskHistories.{reports_in}
+use Rattle.clock_book.specs.Past.{owner_in, IsEither, KeepsPast}
+use Rattle.clock_book.specs.Books.{BookOf, BookState, IsKept}
+use Rattle.clock_book.specs.declared.entries.Entry.{Entry}
+use Rattle.clock_book.specs.declared.entries.Entry.TheVariants.{Offered}
+use Rattle.clock_book.specs.declared.origins.Origin.{Origin}
+use Rattle.turn_desk.specs.Histories.{one_if, between, total, times_at}
+use Rattle.turn_desk.specs.Passes.{Known, Closes}
+use Rattle.clock_family.specs.Opening.{LaidOf, IsGivenBack, AreGivenBack, WasOpened}
+use Rattle.clock_family.specs.Turns.{clock_in}
+
+no-place : (a b : ℕ) → between a b a ≡ 0 → b ≤ a
+no-place a b none = elim (cases_lt a b) [
+  | inl less ↦
+      let here : between a b a ≡ 1 = (λ i. one_if (le-leb a a (omega arith) i && lt-ltb a b less i)) in
+      absurd (omega (arith, here, none))
+  | inr le ↦ le
+]
+
+empty-tail : {A : Type 0} (xs more : List A) → length (xs ++ more) ≤ length xs → more ≡ []
+empty-tail xs [] le = refl
+empty-tail xs (x ∷ more) le = absurd (omega (arith, length-append xs (x ∷ more), le))
+
+module _ {E O : Type 0} where
+  nothing-made : (k : ℕ) (ps : List (Known E O)) → AllByRecursion (λ (p : Known E O). p.own ≡ []) ps → total (λ (p : Known E O). times_at k p.own) ps ≡ 0
+  nothing-made k [] all = refl
+  nothing-made k (p ∷ ps) all = (λ i. times_at k (all.0 i) + nothing-made k ps all.1 i)
+
+  -- no place came to the history where no pass has made anything
+  pub same-history : {B : Type 0} (history : B → List E) (origin : B → O) (first : B) (ps : List (Known E O)) (book : B) → AllByRecursion (λ (p : Known E O). p.own ≡ []) ps → Closes history origin first ps book → history book ≡ history first
+  same-history history origin first ps book all closes =
+      let at : ℕ = length (history first) in
+      let is = closes.goes_on.1 in
+      let le : length (history book) ≤ at = no-place at (length (history book)) (sym (closes.places at) ∙ nothing-made at ps all) in
+      is ∙ ap (λ z. history first ++ z) (empty-tail (history first) closes.goes_on.0 (omega (arith, ap length is, le))) ∙ append-nil (history first)
+
+module _ {D : Type 0} (tells : D → Bool) (moments : D → Moments) where
+  pub given-back : (b : BookOf D) (faults : ℕ) (origin : Origin) (history : List Entry) (disk : D) → IsKept (IsTrue (tells b.disk)) (moments b.disk) faults b → b.origin ≡ origin → b.state.history ≡ history → disk ≡ b.disk
+      → IsGivenBack tells moments origin history disk
+  given-back b faults origin history disk kept same alike is =
+      let clock : b.state.clock ≡ clock_in (owner_in b.origin) b.state.history = (λ i. record { terms = kept.terms i; number = kept.number i; reports = sym kept.reports i }) in
+      let Stands : List Report → Type 0 = λ rs. Leaves (IsEither (owner_in b.origin) rs b.state.pending) (moments b.disk).now in
+      let Past : ClockHistory → Type 0 = λ c. KeepsPast b.origin c (moments b.disk) in
+      let here : IsGivenBack tells moments b.origin b.state.history b.disk = record {
+        pending = b.state.pending;
+        told = kept.first;
+        stands = λ t. subst Stands (sym kept.reports) (kept.stands t);
+        past = λ t. subst Past clock (kept.past t);
+      } in
+      subst (IsGivenBack tells moments origin history) (sym is) (subst (λ (o : Origin). IsGivenBack tells moments o history b.disk) same (subst (λ (h : List Entry). IsGivenBack tells moments b.origin h b.disk) alike here))
+
+  pub given-count : (laid : List (LaidOf D)) (front : List D) → AreGivenBack tells moments laid front → length front ≡ length laid
+  given-count [] [] are = refl
+  given-count [] (x ∷ xs) are = absurd are
+  given-count (l ∷ ls) [] are = absurd are
+  given-count (l ∷ ls) (x ∷ xs) are = ap suc (given-count ls xs are.1)
+
+  pub given-at : (laid : List (LaidOf D)) (front : List D) (k : ℕ) (l : LaidOf D) (x : D) → AreGivenBack tells moments laid front → k < length laid
+      → IsGivenBack tells moments (get_or laid k l).desk.book.book.origin (get_or laid k l).desk.book.book.state.history (get_or front k x)
+  given-at [] front k l x are below = absurd (omega (arith, below))
+  given-at (m ∷ ms) [] k l x are below = absurd are
+  given-at (m ∷ ms) (y ∷ ys) zero l x are below = are.0
+  given-at (m ∷ ms) (y ∷ ys) (suc k) l x are below = given-at ms ys k l x are.1 (omega (arith, below))
+
+empty-front : {A : Type 0} (xs ys : List A) → length xs ≡ 0 → xs ++ ys ≡ ys
+empty-front [] ys none = refl
+empty-front (x ∷ xs) ys none = absurd (omega (arith, none))
+
+module _ {D : Type 0} (tells : D → Bool) (moments : D → Moments) (all : List (LaidOf D)) (rest : List D) where
+  -- the disks of the desks that are no longer left, the last first, behind the rest
+  pub record AreTaken (left : List (LaidOf D)) (disks : List D) : Type 0 where
+    pub gone : List (LaidOf D)
+    pub front : List D
+    pub split : all ≡ left ++ gone
+    pub back : AreGivenBack tells moments gone front
+    pub behind : disks ≡ rest ++ reverse front
+
+  pub none-taken : (left : List (LaidOf D)) (disks : List D) → left ≡ all → disks ≡ rest → AreTaken left disks
+  none-taken left disks whole same = record {
+    gone = [];
+    front = [];
+    split = sym whole ∙ sym (append-nil left);
+    back = tt;
+    behind = same ∙ sym (append-nil rest);
+  }
+
+  pub taken-more : (before left : List (LaidOf D)) (l : LaidOf D) (disks new : List D) (x : D) → AreTaken before disks → before ≡ left ++ l ∷ [] → IsGivenBack tells moments l.desk.book.book.origin l.desk.book.book.state.history x
+      → new ≡ disks ++ x ∷ [] → AreTaken left new
+  taken-more before left l disks new x taken is back e = record {
+    gone = l ∷ taken.gone;
+    front = x ∷ taken.front;
+    split = taken.split ∙ ap (λ z. z ++ taken.gone) is ∙ append_assoc left (l ∷ []) taken.gone;
+    back = (back, taken.back);
+    behind = e ∙ ap (λ z. z ++ x ∷ []) taken.behind ∙ append_assoc rest (reverse taken.front) (x ∷ []) ∙ ap (λ z. rest ++ z) (sym (reverse-append (x ∷ []) taken.front));
+  }
+
+  pub all-taken : (left : List (LaidOf D)) (disks new : List D) → AreTaken left disks → length left ≡ 0 → new ≡ reverse disks → (front : List D) × AreGivenBack tells moments all front × (new ≡ front ++ reverse rest)
+  all-taken left disks new taken none e =
+      let Back : List (LaidOf D) → Type 0 = λ ls. AreGivenBack tells moments ls taken.front in (
+        taken.front,
+        subst Back (sym (taken.split ∙ empty-front left taken.gone none)) taken.back,
+        e ∙ ap reverse taken.behind ∙ reverse-append rest (reverse taken.front) ∙ ap (λ z. z ++ reverse rest) (reverse-reverse taken.front),
+      )
+
+reports-offered : (rs : List Report) → reports_in (map Offered rs) ≡ rs
+reports-offered [] = refl
+reports-offered (r ∷ rs) = ap (λ l. r ∷ l) (reports-offered rs)
+
+module _ {D : Type 0} (tells : D → Bool) (moments : D → Moments) (faults : D → ℕ) where
+  pub was-opened : (owner : Owner) (old : D) (b : BookOf D) (new : D) → Opens tells moments faults owner old b → IsGivenBack tells moments b.origin b.state.history new → WasOpened tells moments faults owner old new
+  was-opened owner old b new opens back =
+      let of = opens.origin in
+      let reports : reports_in b.state.history ≡ b.state.clock.reports = ap (λ (s : BookState). reports_in s.history) opens.state ∙ reports-offered b.state.clock.reports in
+      let same : owner_in b.origin ≡ owner = (λ j. owner_of (of.terms_are j) (of.clock_is j) (of.digest_is j)) in
+      let clock : clock_in (owner_in b.origin) b.state.history ≡ b.state.clock = (λ j. history_of (same j) (reports j)) ∙ sym opens.history.is in
+      let Stands : List Report → Type 0 = λ rs. Leaves (IsEither (owner_in b.origin) rs back.pending) (moments new).now in
+      let Past : ClockHistory → Type 0 = λ c. KeepsPast b.origin c (moments new) in
+      record {
+        first = b;
+        pending = back.pending;
+        opens = opens;
+        told = λ t. subst IsTrue opens.told_is (back.told t);
+        stands = λ t. subst Stands reports (back.stands t);
+        past = λ t. subst Past clock (back.past t);
+      }

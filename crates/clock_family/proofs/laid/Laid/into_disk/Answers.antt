@@ -1,0 +1,23 @@
+use Rattle.std.proofs.Common.{◌≡◌, [], sym, subst}
+use Rattle.std.specs.List.{AllByRecursion}
+use Rattle.clock_book.specs.declared.entries.Entry.{Entry}
+use Rattle.clock_book.specs.declared.origins.Origin.{Origin}
+use Rattle.turn_desk.specs.Passes.{Known, Closes}
+use Rattle.clock_book.specs.Books.{BookOf}
+use Rattle.clock_family.specs.Opening.{LaidOf, IsGivenBack}
+use Rattle.clock_family.proofs.Unused.{same-history, given-back}
+use Rattle.clock_family.proofs.laid.Laid.into_disk.Goals as goal
+
+pub returns : goal.returns
+returns g c =
+    let first = c.self.inside.desk.book.book in
+    let ps = c.self.inside.passes.items in
+    let b = c.close-book.result.book in
+    let k = c.close-book.ensures in
+    let Nothing : LaidOf g.row.D.Denot → Type 0 = λ l. AllByRecursion (λ (p : Known Entry Origin). p.own ≡ []) l.passes in
+    let nothing = subst Nothing (sym c.self.view_is) c.requires.unused.made_nothing in
+    let closes : Closes (λ (x : BookOf g.row.D.Denot). x.state.history) (λ (x : BookOf g.row.D.Denot). x.origin) first ps b = record { origin_is = k.origin_is; goes_on = k.goes_on; seen = k.seen; own = k.own; places = k.places } in
+    let same = same-history (λ (x : BookOf g.row.D.Denot). x.state.history) (λ (x : BookOf g.row.D.Denot). x.origin) first ps b nothing closes in
+    let back = given-back g.D.Disk.tells g.D.Disk.moments b (g.D.Disk.faults b.disk) first.origin first.state.history c.into_parts-clock.result.1 c.clock-kept.ensures.kept k.origin_is same c.into_parts-clock.ensures.disk in
+    let Back : LaidOf g.row.D.Denot → Type 0 = λ l. IsGivenBack g.D.Disk.tells g.D.Disk.moments l.desk.book.book.origin l.desk.book.book.state.history c.into_parts-clock.result.1 in
+    record { given_back = subst Back c.self.view_is back }

@@ -1,0 +1,9 @@
+use denote.Param.{param}
+use denote.Param.Send.{sendable}
+use Rattle.clock_family.proofs.Sending.{house_pass-send}
+use Rattle.clock_family.proofs.shared.pass_may_move.Goals as goal
+
+pub may_move-requires-send-T : goal.may_move-requires-send-T
+may_move-requires-send-T g c κs within =
+    let d = house_pass-send (param 0 g.row.D) g.D.Disk (search sendable) in
+    search sendable depth 20
