@@ -4,3 +4,10 @@ mod Taking
 mod Pulling
 mod Whole
 mod Visits
+mod Leading
+mod Bridging
+mod Joining
+mod Closing
+mod Still
+mod Running
+mod Seating

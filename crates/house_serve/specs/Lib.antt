@@ -2,3 +2,5 @@ pub mod Ends
 pub mod Pieces
 pub mod Serving
 pub mod Doors
+pub mod Houses
+pub mod Counters

@@ -1,14 +1,17 @@
-//! Serving: a session over a link, from the bytes that come to the bytes that go, and doors at which one session follows another.
+//! Serving: a session over a link, from the bytes that come to the bytes that go, doors at which one session follows another, and a
+//! house that is served at its doors and closed.
 #![tactic(auto)]
 
 mod answering;
-pub mod counters;
+mod counters;
 pub mod doors;
 pub mod ends;
+pub mod houses;
 mod pieces;
+mod rooms;
 pub mod serving;
 
-pub use counters::{Counter, serve_counters};
 pub use doors::serve_door;
 pub use ends::SessionEnd;
+pub use houses::{DoorLog, NotServed, Served, serve};
 pub use serving::serve_link;

@@ -1,14 +1,12 @@
-//! Sessions at a door, and at two doors on threads of their own.
+//! Sessions at a door.
 use crate::tests::{BYE, HELLO, QUIT, REPORT, TAKEN, WELCOME, auction, joined, sure_link};
 use auction_file::Auction;
 use house_io::{ListDoor, ListLink, SureDoor};
-use house_serve::{Counter, SessionEnd, serve_counters, serve_door};
+use house_serve::{SessionEnd, serve_door};
 use session::ListHall;
 use std::alloc::Global;
-use std::process::Abort;
 use std::sync::Wait;
 use std::test::Fail;
-use std::thread::Threads;
 
 /// A door with a session to its end, and one that stops behind its first frame.
 fn sure_door(alloc: Global) -> Result<SureDoor, Fail> {
@@ -59,43 +57,5 @@ fn a_door_serves_one_link_after_another(rt: HostRuntime) -> Result<(), Fail> {
     let auction = auction(&rt, rt.alloc())?;
     assert!(rt; serves_two(&rt, rt.alloc(), &auction)?);
     assert!(rt; fails_behind_one(&rt, rt.alloc(), &auction)?);
-    Ok(())
-}
-
-/// Serves two sessions at each of two counters, and tells whether both went well.
-fn serve_both<T: Threads + Wait + Sync>(
-    rt: &T,
-    alloc: Global,
-    auction: &Auction,
-) -> Result<bool, Fail> {
-    let first = ListHall::open(alloc, &auction.terms)?;
-    let second = ListHall::open(alloc, &auction.terms)?;
-    let mut counters = [
-        Counter {
-            hall: first,
-            door: sure_door(alloc)?,
-            ends: Vec::with_capacity(alloc, 2)?,
-            failed: false,
-        },
-        Counter {
-            hall: second,
-            door: sure_door(alloc)?,
-            ends: Vec::with_capacity(alloc, 2)?,
-            failed: false,
-        },
-    ];
-    serve_counters(rt, alloc, auction, &mut counters, 2);
-    let mut served = true;
-    for counter in &counters {
-        let good = !counter.failed && counter.ends.as_slice() == ENDS;
-        served = has_both(alloc, &counter.door)? && good && served;
-    }
-    Ok(served)
-}
-
-#[test]
-fn two_doors_are_served_at_once(rt: HostRuntime) -> Result<(), Fail> {
-    let auction = auction(&rt, rt.alloc())?;
-    assert!(rt; serve_both(&rt, rt.alloc(), &auction)?);
     Ok(())
 }

@@ -4,4 +4,6 @@
 #[cfg(test)]
 mod doors;
 #[cfg(test)]
+mod houses;
+#[cfg(test)]
 mod tests;

@@ -1,0 +1,253 @@
+-- What all doors of a house come to at one clock.
+use Rattle.std.proofs.Common.{◌≡◌, ◌≢◌, ◌⊎◌, inl, inr, ⊎_elim, ℕ, zero, suc, ◌+◌, ◌-◌, ◌^◌, ◌<◌, ◌≤◌, Bool, true, false, nat_eq, cond, List, [], ◌∷◌, ◌++◌, length, map, take, drop, get_or, Option, Some, None, refl, sym, ◌∙◌, ap, subst, arith, append_assoc, append-nil}
+use Rattle.std.specs.Prelude.{slice_get}
+use Rattle.std.specs.List.{AllByRecursion, flat_map}
+use Rattle.std.proofs.lemmas.Bool.{cases_eq, ne_eqb, eq-eqb}
+use Rattle.std.proofs.lemmas.Bool.Decides.{nat_tests}
+use Rattle.std.proofs.lemmas.Option.{slice_get_within}
+use mathlib.Core.Option.{some, some-injective, some-ne-none}
+use lib.ListN.{get_elem?}
+use Rattle.demand_set.specs.declared.reports.Report.{Report}
+use Rattle.clock_book.specs.DeskHistories.{marks_in}
+use Rattle.clock_book.specs.declared.entries.Entry.{Entry}
+use Rattle.clock_book.specs.declared.entries.Entry.TheVariants as entry
+use Rattle.clock_book.specs.declared.origins.Origin.{Origin}
+use Rattle.turn_desk.specs.Histories.{StartsWith, StandIn, times_at, total, between, one_if}
+use Rattle.turn_desk.specs.Passes.{Known}
+use Rattle.turn_desk.proofs.Totals.{between_in}
+use Rattle.clock_family.specs.Houses.{HousePassOf, still, column}
+use Rattle.session.specs.Turns.{Turn}
+use Rattle.house_serve.specs.Houses.{DoorRun, turns_of, seen_of, mark_place, mark_places, taken_place, taken_places, times, AreDistinct, IsHeld, Joins}
+use Rattle.house_serve.proofs.Leading.{own_of, marks_own, offers_own, Leads, Led, led, starts_on, pass_of, seen_at, own_at}
+
+all-append : {A : Type 0} (P : A → Type 0) (xs ys : List A) → AllByRecursion P xs → AllByRecursion P ys → AllByRecursion P (xs ++ ys)
+all-append P [] ys px py = py
+all-append P (x ∷ xs) ys px py = (px.0, all-append P xs ys px.1 py)
+
+all-map : {A : Type 0} (P Q : A → Type 0) (xs : List A) → ((x : A) → P x → Q x) → AllByRecursion P xs → AllByRecursion Q xs
+all-map P Q [] f h = tt
+all-map P Q (x ∷ xs) f h = (f x h.0, all-map P Q xs f h.1)
+
+all-both : {A : Type 0} (P Q : A → Type 0) (xs : List A) → AllByRecursion P xs → AllByRecursion Q xs → AllByRecursion (λ x. P x × Q x) xs
+all-both P Q [] p q = tt
+all-both P Q (x ∷ xs) p q = ((p.0, q.0), all-both P Q xs p.1 q.1)
+
+-- the element at a place, as a list
+one_at : {A : Type 0} (xs : List A) (k : ℕ) (d : A) → k < length xs → take 1 (drop k xs) ≡ get_or xs k d ∷ []
+one_at [] k d below = absurd (omega (arith, below))
+one_at (x ∷ xs) zero d below = refl
+one_at (x ∷ xs) (suc k) d below = one_at xs k d (omega (arith, below))
+
+got : (xs : List Entry) (k : ℕ) (x : Entry) → get_elem? xs k ≡ some x → slice_get xs k ≡ Some x
+got [] k x e = absurd (some-ne-none x (sym e))
+got (y ∷ ys) zero x e = ap (λ (z : Entry). Some z) (some-injective y x e)
+got (y ∷ ys) (suc k) x e = got ys k x e
+
+times_hit : (k n : ℕ) (ns : List ℕ) → n ≡ k → times k (n ∷ ns) ≡ 1 + times k ns
+times_hit k n ns e = ap (λ (b : Bool). cond b 1 0 + times k ns) (eq-eqb n k e)
+
+times_miss : (k n : ℕ) (ns : List ℕ) → (n ≡ k → ⊥) → times k (n ∷ ns) ≡ times k ns
+times_miss k n ns e = let h = ap (λ (b : Bool). cond b 1 0 + times k ns) (ne_eqb n k e) in omega (arith, h)
+
+one_hit : (k n : ℕ) → n ≡ k → one_if (nat_eq k n) ≡ 1
+one_hit k n e = ap one_if (eq-eqb k n (sym e))
+
+one_miss : (k n : ℕ) → (n ≡ k → ⊥) → one_if (nat_eq k n) ≡ 0
+one_miss k n e = ap one_if (ne_eqb k n (λ f. e (sym f)))
+
+times_on : (k : ℕ) (xs ys : List ℕ) → times k (xs ++ ys) ≡ times k xs + times k ys
+times_on k [] ys = omega arith
+times_on k (x ∷ xs) ys =
+    let h = times_on k xs ys in
+    ⊎_elim
+    (λ e. let a = times_hit k x (xs ++ ys) e in let b = times_hit k x xs e in omega (arith, h, a, b))
+    (λ e. let a = times_miss k x (xs ++ ys) e in let b = times_miss k x xs e in omega (arith, h, a, b))
+    (cases_eq x k)
+
+-- each element stands in the list
+each_in : (done xs : List ℕ) → AllByRecursion (λ k. 1 ≤ times k (done ++ xs)) xs
+each_in done [] = tt
+each_in done (x ∷ xs) = (
+  (let a = times_on x done (x ∷ xs) in let b = times_hit x x xs refl in omega (arith, a, b)),
+  subst (λ (l : List ℕ). AllByRecursion (λ k. 1 ≤ times k l) xs) (append_assoc done (x ∷ []) xs) (each_in (done ++ x ∷ []) xs),
+)
+
+none_of : (x : ℕ) (xs : List ℕ) → times x xs ≡ 0 → AllByRecursion (λ m. m ≢ x) xs
+none_of x [] h = tt
+none_of x (y ∷ ys) h = (
+  (λ e. let a = times_hit x y ys e in omega (arith, a, h)),
+  none_of x ys (⊎_elim (λ e. let a = times_hit x y ys e in omega (arith, a, h)) (λ e. sym (times_miss x y ys e) ∙ h) (cases_eq y x)),
+)
+
+distinct : (xs : List ℕ) → ((k : ℕ) → times k xs ≤ 1) → AreDistinct xs
+distinct [] h = tt
+distinct (x ∷ xs) h = (
+  none_of x xs (let a = times_hit x x xs refl in let b = h x in omega (arith, a, b)),
+  distinct xs (λ k. ⊎_elim (λ e. let a = times_hit k x xs e in let b = h k in omega (arith, a, b)) (λ e. let a = times_miss k x xs e in let b = h k in omega (arith, a, b)) (cases_eq x k)),
+)
+
+-- marks are among the places
+fewer_marks : (k : ℕ) (own : List (ℕ × Entry)) → times k (marks_own own) ≤ times_at k own
+fewer_marks k [] = omega arith
+fewer_marks k ((j, entry.Offered r) ∷ own) = let h = fewer_marks k own in omega (arith, h)
+fewer_marks k ((j, entry.Counted r) ∷ own) = let h = fewer_marks k own in omega (arith, h)
+fewer_marks k ((j, entry.Mark) ∷ own) =
+    let h = fewer_marks k own in
+    ⊎_elim
+    (λ e. let a = times_hit k j (marks_own own) e in let b = one_hit k j e in omega (arith, h, a, b))
+    (λ e. let a = times_miss k j (marks_own own) e in let b = one_miss k j e in omega (arith, h, a, b))
+    (cases_eq j k)
+
+marks_stand : (closed : List Entry) (own : List (ℕ × Entry)) → StandIn closed own → AllByRecursion (λ k. slice_get closed k ≡ Some entry.Mark) (marks_own own)
+marks_stand closed [] h = tt
+marks_stand closed ((j, entry.Offered r) ∷ own) h = marks_stand closed own h.1
+marks_stand closed ((j, entry.Counted r) ∷ own) h = marks_stand closed own h.1
+marks_stand closed ((j, entry.Mark) ∷ own) h = (got closed j entry.Mark h.0, marks_stand closed own h.1)
+
+-- where a report that is noted as offered stands, no other entry does
+elsewhere : (closed : List Entry) (j k : ℕ) (e : Entry) (r : Report) → get_elem? closed j ≡ some e → slice_get closed k ≡ Some (entry.Offered r) → (e ≡ entry.Offered r → ⊥) → j ≡ k → ⊥
+elsewhere closed j k e r here there apart same = apart (let f : Some e ≡ Some (entry.Offered r) = sym (got closed j e here) ∙ ap (slice_get closed) same ∙ there in cc)
+
+offers_count : (closed : List Entry) (k : ℕ) (r : Report) (own : List (ℕ × Entry)) → slice_get closed k ≡ Some (entry.Offered r) → StandIn closed own → times k (offers_own own) ≡ times_at k own
+offers_count closed k r [] at h = refl
+offers_count closed k r ((j, entry.Offered q) ∷ own) at h =
+    let g = offers_count closed k r own at h.1 in
+    ⊎_elim
+    (λ e. let a = times_hit k j (offers_own own) e in let b = one_hit k j e in omega (arith, g, a, b))
+    (λ e. let a = times_miss k j (offers_own own) e in let b = one_miss k j e in omega (arith, g, a, b))
+    (cases_eq j k)
+offers_count closed k r ((j, entry.Counted q) ∷ own) at h =
+    let g = offers_count closed k r own at h.1 in
+    let b = one_miss k j (elsewhere closed j k (entry.Counted q) r h.0 at (λ e. cc)) in
+    omega (arith, g, b)
+offers_count closed k r ((j, entry.Mark) ∷ own) at h =
+    let g = offers_count closed k r own at h.1 in
+    let b = one_miss k j (elsewhere closed j k entry.Mark r h.0 at (λ e. cc)) in
+    omega (arith, g, b)
+
+few_between : (a b k : ℕ) → between a b k ≤ 1
+few_between a b k = grind (arith, nat_tests, one_if)
+
+one_between : (a b k : ℕ) → a ≤ k → k < b → between a b k ≡ 1
+one_between a b k low high = grind (arith, nat_tests, one_if)
+
+-- a door's turns led its pass on from the opening, with no entries of its own
+pub record RunsAt {R L : Type 0} (clock : ℕ) (opening : List Entry) (d : DoorRun R L) : Type 0 where
+  pub leads : Leads d.before (turns_of d) d.after
+  pub opened : seen_of d.before clock ≡ opening
+  pub none : own_of d.before clock ≡ []
+  pub within : clock < length d.after.passes
+
+-- What closing says of a clock: the history of the closed book begins with that at the opening and with what each pass has seen, it
+-- has each pass's own entries at their places, and each place beyond the opening is the own place of just one pass.
+pub record ClosesOver (opening closed : List Entry) (passes : List (Known Entry Origin)) : Type 0 where
+  pub goes_on : StartsWith closed opening
+  pub seen : AllByRecursion (λ (p : Known Entry Origin). StartsWith closed p.seen) passes
+  pub own : AllByRecursion (λ (p : Known Entry Origin). StandIn closed p.own) passes
+  pub places : (k : ℕ) → total (λ (p : Known Entry Origin). times_at k p.own) passes ≡ between (length opening) (length closed) k
+
+-- the turns of all doors
+abbrev pub all_turns : {R L : Type 0} → List (DoorRun R L) → List (Turn HousePassOf)
+all_turns ds = flat_map turns_of ds
+
+marks_over : (clock : ℕ) (ts us : List (Turn HousePassOf)) → mark_places clock (ts ++ us) ≡ mark_places clock ts ++ mark_places clock us
+marks_over clock [] us = refl
+marks_over clock (t ∷ ts) us = ap (λ (l : List ℕ). mark_place clock t.now t.asked ++ l) (marks_over clock ts us) ∙ sym (append_assoc (mark_place clock t.now t.asked) (mark_places clock ts) (mark_places clock us))
+
+takens_over : (clock : ℕ) (ts us : List (Turn HousePassOf)) → taken_places clock (ts ++ us) ≡ taken_places clock ts ++ taken_places clock us
+takens_over clock [] us = refl
+takens_over clock (t ∷ ts) us = ap (λ (l : List ℕ). taken_place clock t.now t.asked ++ l) (takens_over clock ts us) ∙ sym (append_assoc (taken_place clock t.now t.asked) (taken_places clock ts) (taken_places clock us))
+
+module _ {R L : Type 0} (blank : Known Entry Origin) (clock : ℕ) (opening closed : List Entry) where
+  -- the pass of a door at this clock, at last
+  abbrev last_of : DoorRun R L → Known Entry Origin
+  last_of d = get_or d.after.passes clock (still blank)
+
+  pub column_is : (ds : List (DoorRun R L)) → AllByRecursion (RunsAt clock opening) ds → column clock (map (λ (d : DoorRun R L). d.after) ds) ≡ map last_of ds
+  column_is [] runs = refl
+  column_is (d ∷ ds) runs = (λ i. one_at d.after.passes clock (still blank) runs.0.within i ++ column_is ds runs.1 i)
+
+  module _ (d : DoorRun R L) (run : RunsAt clock opening d) where
+    door : Led blank clock closed (turns_of d) d.before d.after
+    door = led blank clock closed (turns_of d) d.before d.after run.leads
+
+    own_is : (last_of d).own ≡ door.new
+    own_is = sym (own_at blank clock closed d.after) ∙ door.own ∙ ap (λ (l : List (ℕ × Entry)). l ++ door.new) run.none
+
+    goes_to : StartsWith closed (last_of d).seen → StartsWith closed (seen_of d.after clock)
+    goes_to goes = subst (λ (l : List Entry). StartsWith closed l) (sym (seen_at blank clock closed d.after)) goes
+
+    door_marks : marks_in closed < 2 ^ 64 - 1 → StartsWith closed (last_of d).seen → mark_places clock (turns_of d) ≡ marks_own (last_of d).own
+    door_marks few goes = sym (door.marks few (goes_to goes)) ∙ ap marks_own (sym own_is)
+
+    door_takens : taken_places clock (turns_of d) ≡ offers_own (last_of d).own
+    door_takens = sym door.takens ∙ ap offers_own (sym own_is)
+
+    door_points : StartsWith closed (last_of d).seen → AllByRecursion (λ (t : Turn HousePassOf). StartsWith (seen_of t.now clock) opening × StartsWith closed (seen_of t.now clock)) (turns_of d)
+    door_points goes =
+        subst (λ (l : List Entry). AllByRecursion (λ (t : Turn HousePassOf). StartsWith (seen_of t.now clock) l × StartsWith closed (seen_of t.now clock)) (turns_of d)) run.opened (door.points (goes_to goes))
+
+    door_held : StartsWith closed (last_of d).seen → AllByRecursion (λ (t : Turn HousePassOf). IsHeld clock closed t.asked) (turns_of d)
+    door_held goes = door.held (goes_to goes)
+
+  abbrev Seen : List (DoorRun R L) → Type 0
+  Seen ds = AllByRecursion (λ (p : Known Entry Origin). StartsWith closed p.seen) (map last_of ds)
+
+  abbrev Own : List (DoorRun R L) → Type 0
+  Own ds = AllByRecursion (λ (p : Known Entry Origin). StandIn closed p.own) (map last_of ds)
+
+  abbrev Count : ℕ → List (DoorRun R L) → ℕ
+  Count k ds = total (λ (p : Known Entry Origin). times_at k p.own) (map last_of ds)
+
+  points_all : (ds : List (DoorRun R L)) → AllByRecursion (RunsAt clock opening) ds → Seen ds → AllByRecursion (λ (t : Turn HousePassOf). StartsWith (seen_of t.now clock) opening × StartsWith closed (seen_of t.now clock)) (all_turns ds)
+  points_all [] runs seen = tt
+  points_all (d ∷ ds) runs seen =
+      all-append (λ (t : Turn HousePassOf). StartsWith (seen_of t.now clock) opening × StartsWith closed (seen_of t.now clock)) (turns_of d) (all_turns ds) (door_points d runs.0 seen.0) (points_all ds runs.1 seen.1)
+
+  held_all : (ds : List (DoorRun R L)) → AllByRecursion (RunsAt clock opening) ds → Seen ds → AllByRecursion (λ (t : Turn HousePassOf). IsHeld clock closed t.asked) (all_turns ds)
+  held_all [] runs seen = tt
+  held_all (d ∷ ds) runs seen = all-append (λ (t : Turn HousePassOf). IsHeld clock closed t.asked) (turns_of d) (all_turns ds) (door_held d runs.0 seen.0) (held_all ds runs.1 seen.1)
+
+  marks_all : marks_in closed < 2 ^ 64 - 1 → (k : ℕ) (ds : List (DoorRun R L)) → AllByRecursion (RunsAt clock opening) ds → Seen ds → times k (mark_places clock (all_turns ds)) ≤ Count k ds
+  marks_all few k [] runs seen = omega arith
+  marks_all few k (d ∷ ds) runs seen =
+      let h = marks_all few k ds runs.1 seen.1 in
+      let a = ap (times k) (marks_over clock (turns_of d) (all_turns ds)) in
+      let b = times_on k (mark_places clock (turns_of d)) (mark_places clock (all_turns ds)) in
+      let e = ap (times k) (door_marks d runs.0 few seen.0) in
+      let f = fewer_marks k (last_of d).own in
+      omega (arith, h, a, b, e, f)
+
+  marked_all : marks_in closed < 2 ^ 64 - 1 → (ds : List (DoorRun R L)) → AllByRecursion (RunsAt clock opening) ds → Seen ds → Own ds → AllByRecursion (λ k. slice_get closed k ≡ Some entry.Mark) (mark_places clock (all_turns ds))
+  marked_all few [] runs seen own = tt
+  marked_all few (d ∷ ds) runs seen own =
+      subst (AllByRecursion (λ k. slice_get closed k ≡ Some entry.Mark)) (sym (marks_over clock (turns_of d) (all_turns ds)))
+      (all-append (λ k. slice_get closed k ≡ Some entry.Mark) (mark_places clock (turns_of d)) (mark_places clock (all_turns ds))
+      (subst (AllByRecursion (λ k. slice_get closed k ≡ Some entry.Mark)) (sym (door_marks d runs.0 few seen.0)) (marks_stand closed (last_of d).own own.0))
+      (marked_all few ds runs.1 seen.1 own.1))
+
+  takens_all : (k : ℕ) (r : Report) (ds : List (DoorRun R L)) → slice_get closed k ≡ Some (entry.Offered r) → AllByRecursion (RunsAt clock opening) ds → Own ds → times k (taken_places clock (all_turns ds)) ≡ Count k ds
+  takens_all k r [] at runs own = refl
+  takens_all k r (d ∷ ds) at runs own =
+      let h = takens_all k r ds at runs.1 own.1 in
+      let a = ap (times k) (takens_over clock (turns_of d) (all_turns ds)) in
+      let b = times_on k (taken_places clock (turns_of d)) (taken_places clock (all_turns ds)) in
+      let e = ap (times k) (door_takens d runs.0) in
+      let f = offers_count closed k r (last_of d).own at own.0 in
+      omega (arith, h, a, b, e, f)
+
+  pub joined : (ds : List (DoorRun R L)) → AllByRecursion (RunsAt clock opening) ds → ClosesOver opening closed (map last_of ds) → Joins opening closed (all_turns ds) clock
+  joined ds runs c =
+      let marks = mark_places clock (all_turns ds) in
+      record {
+        opened = c.goes_on;
+        points = points_all ds runs c.seen;
+        marks = λ few. distinct marks (λ k. let h = marks_all few k ds runs c.seen in let o = c.places k in let b = few_between (length opening) (length closed) k in omega (arith, h, o, b));
+        marked = λ few. all-both (λ k. length opening ≤ k) (λ k. slice_get closed k ≡ Some entry.Mark) marks
+            (all-map (λ k. 1 ≤ times k marks) (λ k. length opening ≤ k) marks
+            (λ k some. let h = marks_all few k ds runs c.seen in let o = c.places k in (between_in (length opening) (length closed) k (omega (arith, h, o, some))).0)
+            (each_in [] marks))
+            (marked_all few ds runs c.seen c.own);
+        taken = λ k r beyond at. takens_all k r ds at runs c.own ∙ c.places k ∙ one_between (length opening) (length closed) k beyond (slice_get_within closed k (entry.Offered r) at);
+        held = held_all ds runs c.seen;
+      }

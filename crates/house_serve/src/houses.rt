@@ -1,0 +1,84 @@
+//! Serving at the doors of a house, from the opened house to its closed books.
+ghost use Rattle.std.specs.Prelude.{◌≡◌, ◌≤◌, ℕ, length, IfOk, IfErr};
+ghost use Rattle.std.specs.List.{AllByRecursion};
+ghost use Rattle.clock_family.specs.Houses.{AreAllOf, IsNewPass};
+ghost use Rattle.house_serve.specs.Houses.{IsServed};
+
+use crate::counters::serve_counters;
+use crate::ends::SessionEnd;
+use crate::rooms::{Room, reserve, seat_all, unseat_all};
+use auction_file::Auction;
+use clock_book::ClockBook;
+use clock_family::{House, HousePass};
+use house_io::{Disk, Door};
+use lot_base::NoMemory;
+use std::alloc::Global;
+use std::sync::Wait;
+use std::thread::Threads;
+
+/// What became of a door.
+#[derive(Drop)]
+pub struct DoorLog<R> {
+    pub door: R,
+    /// How each session ended, in order.
+    pub ends: Vec<SessionEnd>,
+    /// The door failed before all sessions were served.
+    pub failed: bool,
+}
+
+/// The books of a house that was served and closed, in order of the clocks, and what became of its doors, in order.
+pub struct Served<D: Disk, R> {
+    pub books: Vec<ClockBook<D>>,
+    pub doors: Vec<DoorLog<R>>,
+}
+
+/// There was no memory to serve; nothing was accepted.
+pub struct NotServed<D: Disk, R> {
+    pub house: House<D>,
+    pub passes: Vec<HousePass<D>>,
+    pub doors: Vec<R>,
+}
+
+/// Serves so many sessions at each door, one after another, each door on a thread of its own, and closes the house. Where no thread
+/// can be made the doors are served one after another.
+pub fn serve<D: Disk + Send, R: Door + Send, T: Threads + Wait + Sync>(
+    rt: &T,
+    alloc: Global,
+    auction: &Auction,
+    house: House<D>,
+    passes: Vec<HousePass<D>>,
+    doors: Vec<R>,
+    sessions: u32,
+) -> Result<Served<D, R>, NotServed<D, R>>
+where
+    R::Link: Send,
+    requires auction { house.terms ≡ auction.now.terms }
+    requires passes { AreAllOf house.desks passes.items }
+    requires new { AllByRecursion (IsNewPass house) passes.items }
+    requires doors { length doors.items ≡ length passes.items }
+    requires sessions { (1 ≤ sessions) × (sessions ≤ 10000) }
+    ensures served { IfOk result (λ s. IsServed R.told R.faults R.Link.told R.Link.faults auction.now sessions house passes.items doors.items s.books.items s.doors.items) }
+    ensures refused { IfErr result (λ n. (n.house ≡ house) × (n.passes ≡ passes) × (n.doors ≡ doors)) }
+{
+    let room = match reserve(alloc, doors.len(), sessions) {
+        Err(NoMemory) => {
+            return Err(NotServed {
+                house,
+                passes,
+                doors,
+            });
+        }
+        Ok(room) => room,
+    };
+    let Room {
+        notes,
+        counters,
+        rows,
+        logs,
+    } = room;
+    let mut counters = seat_all(passes, doors, notes, counters);
+    serve_counters(rt, alloc, auction, &house, &mut counters, sessions);
+    let (passes, doors) = unseat_all(counters, rows, logs);
+    let books = house.close(passes);
+    Ok(Served { books, doors })
+}

@@ -1,0 +1,137 @@
+//! The lists by which passes and doors are brought to their counters and back. They are reserved first, so that serving takes none.
+ghost use Rattle.std.specs.Prelude.{◌≡◌, ◌≤◌, [], All, map, length, vec_len, vec_capacity, IfOk};
+ghost use Rattle.house_serve.specs.Counters.{log_of};
+
+use crate::counters::Counter;
+use crate::ends::SessionEnd;
+use crate::houses::DoorLog;
+use lot_base::NoMemory;
+use std::alloc::Global;
+
+/// Lists that are empty, with room for an element of each door.
+pub(crate) struct Room<P, R> {
+    /// For each door an empty list, with room for the ends of its sessions.
+    pub(crate) notes: Vec<Vec<SessionEnd>>,
+    pub(crate) counters: Vec<Counter<P, R>>,
+    pub(crate) rows: Vec<P>,
+    pub(crate) logs: Vec<DoorLog<R>>,
+}
+
+/// Reserves the lists for so many doors.
+pub(crate) fn reserve<P, R>(
+    alloc: Global,
+    doors: usize,
+    sessions: u32,
+) -> Result<Room<P, R>, NoMemory>
+    ensures notes { IfOk result (λ r. (length r.notes.items ≡ doors) × All (λ e. (length e.items ≡ 0) × (vec_len e ≡ 0) × (sessions ≤ vec_capacity e)) r.notes.items) }
+    ensures empty { IfOk result (λ r. (r.counters.items ≡ []) × (r.rows.items ≡ []) × (r.logs.items ≡ [])) }
+    ensures room { IfOk result (λ r. (vec_capacity r.counters ≡ doors) × (vec_capacity r.rows ≡ doors) × (vec_capacity r.logs ≡ doors)) }
+{
+    let Ok(notes) = reserve_notes(alloc, doors, sessions) else {
+        return Err(NoMemory);
+    };
+    let Ok(counters) = Vec::with_capacity(alloc, doors) else {
+        return Err(NoMemory);
+    };
+    let Ok(rows) = Vec::with_capacity(alloc, doors) else {
+        counters.destroy_empty();
+        return Err(NoMemory);
+    };
+    let Ok(logs) = Vec::with_capacity(alloc, doors) else {
+        rows.destroy_empty();
+        counters.destroy_empty();
+        return Err(NoMemory);
+    };
+    Ok(Room {
+        notes,
+        counters,
+        rows,
+        logs,
+    })
+}
+
+/// For each door an empty list, with room for the ends of so many sessions.
+fn reserve_notes(
+    alloc: Global,
+    doors: usize,
+    sessions: u32,
+) -> Result<Vec<Vec<SessionEnd>>, NoMemory>
+    ensures count { IfOk result (λ notes. length notes.items ≡ doors) }
+    ensures each { IfOk result (λ notes. All (λ e. (length e.items ≡ 0) × (vec_len e ≡ 0) × (sessions ≤ vec_capacity e)) notes.items) }
+{
+    let Ok(mut notes) = Vec::with_capacity(alloc, doors) else {
+        return Err(NoMemory);
+    };
+    for _door in 0..doors {
+        let Ok(ends) = Vec::with_capacity(alloc, sessions as usize) else {
+            return Err(NoMemory);
+        };
+        notes.push_reserved(ends);
+    }
+    Ok(notes)
+}
+
+/// Brings each pass and its door to a counter, in order.
+pub(crate) fn seat_all<P, R>(
+    passes: Vec<P>,
+    doors: Vec<R>,
+    notes: Vec<Vec<SessionEnd>>,
+    counters: Vec<Counter<P, R>>,
+) -> Vec<Counter<P, R>>
+    requires counts { (length doors.items ≡ length passes.items) × (length notes.items ≡ length passes.items) }
+    requires empty { counters.items ≡ [] }
+    requires room { length passes.items ≤ vec_capacity counters }
+    ensures passes { map (λ c. c.pass) result.items ≡ passes.items }
+    ensures doors { map (λ c. c.door) result.items ≡ doors.items }
+    ensures notes { map (λ c. c.ends) result.items ≡ notes.items }
+{
+    let mut passes = passes;
+    let mut doors = doors;
+    let mut notes = notes;
+    let mut counters = counters;
+    passes.reverse();
+    doors.reverse();
+    notes.reverse();
+    while let Some(pass) = passes.pop() {
+        let door = doors.pop().unwrap();
+        let ends = notes.pop().unwrap();
+        counters.push_reserved(Counter {
+            pass,
+            door,
+            ends,
+            failed: false,
+        });
+    }
+    passes.destroy_empty();
+    doors.destroy_empty();
+    counters
+}
+
+/// Brings the passes back from their counters, and what became of the doors, in order.
+pub(crate) fn unseat_all<P, R>(
+    counters: Vec<Counter<P, R>>,
+    rows: Vec<P>,
+    logs: Vec<DoorLog<R>>,
+) -> (Vec<P>, Vec<DoorLog<R>>)
+    requires empty { (rows.items ≡ []) × (logs.items ≡ []) }
+    requires room { (length counters.items ≤ vec_capacity rows) × (length counters.items ≤ vec_capacity logs) }
+    ensures passes { result.0.items ≡ map (λ c. c.pass) counters.items }
+    ensures logs { result.1.items ≡ map log_of counters.items }
+{
+    let mut counters = counters;
+    let mut rows = rows;
+    let mut logs = logs;
+    counters.reverse();
+    while let Some(counter) = counters.pop() {
+        let Counter {
+            pass,
+            door,
+            ends,
+            failed,
+        } = counter;
+        rows.push_reserved(pass);
+        logs.push_reserved(DoorLog { door, ends, failed });
+    }
+    counters.destroy_empty();
+    (rows, logs)
+}
