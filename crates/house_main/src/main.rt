@@ -1,8 +1,8 @@
-//! The program: the words of the command line, the files of the working directory and standard output, given to the top
-//! call. It ends with the top call's status.
+//! The program: the words of the command line, the files of the working directory, standard output and the net over TCP, given to the
+//! top call. It ends with the top call's status.
 #![tactic(auto)]
 
-use house_io::{FolderShelf, StdoutSink};
+use house_io::{FolderShelf, StdoutSink, TcpNet};
 use house_run::{Ended, answer_usage, run};
 use std::process::ExitCode;
 use std::{env, io};
@@ -12,7 +12,8 @@ fn main(rt: HostRuntime) -> ExitCode {
     let ended = match words(&rt) {
         Ok(words) => {
             let mut shelf = FolderShelf::new(rt.alloc(), &rt);
-            run(&rt, rt.alloc(), &words, &mut shelf, &mut out)
+            let mut net = TcpNet::new(&rt);
+            run(&rt, rt.alloc(), &words, &mut shelf, &mut out, &mut net)
         }
         Err(error) if error.kind() == io::ErrorKind::OutOfMemory => Ended::NoMemory,
         // Words that are not UTF-8 are no command.

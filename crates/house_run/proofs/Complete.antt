@@ -11,9 +11,11 @@ use Rattle.settlement.specs.declared.outcome.Settlement.{Settlement}
 use Rattle.settlement.specs.declared.outcome.Settlement.TheVariants as settlement
 use Rattle.house_run.specs.Journals.{IsBadJournal}
 use Rattle.house_run.specs.Outcomes.{Settles, SettlesAs}
-use Rattle.house_run.specs.Ends.{AreGood, AreGoodJournals, AreGoodValues, IsJournalIn, MayOpen, CommandEnds, IsDoneOrNoMemory, IsGoodAuction, IsGoodLog, NothingFailed, RunEnds, Wrote, WroteLine}
+use Rattle.house_run.specs.Ends.{AreGood, AreGoodJournals, AreGoodValues, IsJournalIn, MayOpen, CommandEnds, IsDoneOrNoMemory, IsGoodAuction, IsGoodLog, NothingFailed, RunEnds, Wrote, WroteLine, as_seen}
 use Rattle.house_run.specs.Logs.{IsFaultyAt}
 use Rattle.house_run.specs.Needs.{Has, Log, Needs, journal_name}
+use Rattle.house_run.specs.NetEnds.{Ends, EndsOnNet}
+use Rattle.house_run.specs.Nets.{NetSeen}
 use Rattle.house_run.specs.Seen.{Outside, ShelfSeen, SinkSeen, IsTooLong, auction_limit, content, log_limit, values_limit}
 use Rattle.house_run.specs.declared.ends.Ended.{Ended}
 use Rattle.house_run.specs.declared.ends.Ended.TheVariants as how
@@ -49,8 +51,8 @@ both-of-two None u P Q p q = absurd p
 both-of-two (Some a) None P Q p q = absurd p
 both-of-two (Some a) (Some b) P Q p q = record { one = a; other = b; first = p; second = q }
 
-no-failure : (needs : Needs) (files : List NamedFile) (seen : Outside) (sink : SinkSeen) (name : List ℕ) → NothingFailed needs files seen sink → MayOpen needs files name → Rose (seen.shelf.faults_before name) (seen.shelf.faults name) → ⊥
-no-failure needs files seen sink name quiet may rose = still (seen.shelf.faults_before name) (seen.shelf.faults name) (quiet.shelf_same name may) (quiet.shelf_room name may) rose
+no-failure : (needs : Needs) (files : List NamedFile) (seen : Outside) (net : NetSeen) (sink : SinkSeen) (name : List ℕ) → NothingFailed needs files seen net sink → MayOpen needs files name → Rose (seen.shelf.faults_before name) (seen.shelf.faults name) → ⊥
+no-failure needs files seen net sink name quiet may rose = still (seen.shelf.faults_before name) (seen.shelf.faults name) (quiet.shelf_same name may) (quiet.shelf_room name may) rose
 
 not-long : (shelf : ShelfSeen) (files : List NamedFile) (name : List ℕ) (limit : ℕ) → shelf.files ≡ Some files → IsTooLong shelf name limit → length (content files name) ≤ limit → ⊥
 not-long shelf files name limit told long short =
@@ -88,42 +90,75 @@ not-other s needs shelf files other told may good =
     no-other s needs.settles shelf files both.one both.other other may.0 told both.first both.second
 
 -- the two ends that are left
-ended-well : (needs : Needs) (seen : Outside) (sink : SinkSeen) (files : List NamedFile) (end : Ended) → MayEnd needs seen end → seen.shelf.files ≡ Some files → AreGood needs files
-    → NothingFailed needs files seen sink → IsDoneOrNoMemory end
-ended-well needs seen sink files how.Done may told good quiet = absurd may
-ended-well needs seen sink files how.NoMemory may told good quiet = inr refl
-ended-well needs seen sink files how.Usage may told good quiet = absurd may
-ended-well needs seen sink files how.WriteFault may told good quiet = absurd may
-ended-well needs seen sink files how.ReadFault may told good quiet = absurd (no-failure needs files seen sink may.name quiet (inl may.source) may.failed)
-ended-well needs seen sink files (how.DiskFault clock) may told good quiet = absurd (
+ended-well : (needs : Needs) (seen : Outside) (net : NetSeen) (sink : SinkSeen) (files : List NamedFile) (end : Ended) → MayEnd needs seen end → seen.shelf.files ≡ Some files → AreGood needs files
+    → NothingFailed needs files seen net sink → IsDoneOrNoMemory end
+ended-well needs seen net sink files how.Done may told good quiet = absurd may
+ended-well needs seen net sink files how.NoMemory may told good quiet = inr refl
+ended-well needs seen net sink files how.Usage may told good quiet = absurd may
+ended-well needs seen net sink files how.WriteFault may told good quiet = absurd may
+ended-well needs seen net sink files how.ReadFault may told good quiet = absurd (no-failure needs files seen net sink may.name quiet (inl may.source) may.failed)
+ended-well needs seen net sink files (how.DiskFault clock) may told good quiet = absurd (
     let disk = journal-failed needs.auction needs.journals clock files seen.shelf told may in
-    no-failure needs files seen sink disk.name quiet (inr disk.journal) disk.failed)
-ended-well needs seen sink files (how.BadJournal clock fault) may told good quiet = absurd (
+    no-failure needs files seen net sink disk.name quiet (inr disk.journal) disk.failed)
+ended-well needs seen net sink files (how.BadJournal clock fault) may told good quiet = absurd (
     let both = both-of-two needs.auction needs.journals (λ a j. IsBadJournal a j clock fault seen.shelf) (λ a j. AreGoodJournals needs.settles files a j) may good.journals in
     not-bad needs.settles seen.shelf files both.one both.other clock fault told both.first both.second)
-ended-well needs seen sink files (how.Open clock round missing) may told good quiet = absurd (not-other (settlement.Open clock round missing) needs seen.shelf files (other-open clock round missing) told may good)
-ended-well needs seen sink files (how.NoAward clock) may told good quiet = absurd (not-other (settlement.NoAward clock) needs seen.shelf files (other-no-award clock) told may good)
-ended-well needs seen sink files (how.Halted clock units) may told good quiet = absurd (not-other (settlement.Halted clock units) needs seen.shelf files (other-halted clock units) told may good)
-ended-well needs seen sink files (how.BadAuction fault) may told good quiet = absurd (
+ended-well needs seen net sink files (how.Open clock round missing) may told good quiet = absurd (not-other (settlement.Open clock round missing) needs seen.shelf files (other-open clock round missing) told may good)
+ended-well needs seen net sink files (how.NoAward clock) may told good quiet = absurd (not-other (settlement.NoAward clock) needs seen.shelf files (other-no-award clock) told may good)
+ended-well needs seen net sink files (how.Halted clock units) may told good quiet = absurd (not-other (settlement.Halted clock units) needs seen.shelf files (other-halted clock units) told may good)
+ended-well needs seen net sink files (how.BadAuction fault) may told good quiet = absurd (
     let both = both-of needs.auction _ _ may good.auction in
     good-auction both.value fault seen.shelf files told both.first both.second)
-ended-well needs seen sink files (how.TooLong which.Auction) may told good quiet = absurd (
+ended-well needs seen net sink files (how.TooLong which.Auction) may told good quiet = absurd (
     let both = both-of needs.auction _ _ may good.auction in
     not-long seen.shelf files both.value auction_limit told both.first both.second.short)
-ended-well needs seen sink files (how.TooLong which.Log) may told good quiet = absurd (
+ended-well needs seen net sink files (how.TooLong which.Log) may told good quiet = absurd (
     let both = both-of needs.log _ _ may good.log in
     not-long seen.shelf files both.value.name log_limit told both.first both.second.short)
-ended-well needs seen sink files (how.TooLong which.Values) may told good quiet = absurd (
-    let both = both-of-two needs.auction needs.values (λ a v. IsTooLong seen.shelf v values_limit) (λ a v. AreGoodValues files a v) may good.values in
+ended-well needs seen net sink files (how.TooLong which.Values) may told good quiet = absurd (
+    let both = both-of-two needs.auction needs.values (λ a v. IsTooLong seen.shelf v values_limit) (λ a v. AreGoodValues (needs.bid ≡ None) files a v) may good.values in
     not-long seen.shelf files both.other values_limit told both.first both.second.short)
-ended-well needs seen sink files (how.BadValues fault) may told good quiet = absurd (
-    let both = both-of-two needs.auction needs.values (λ a v. IsBadValues seen.shelf a v fault) (λ a v. AreGoodValues files a v) may good.values in
-    good-values seen.shelf files both.one both.other fault told both.first both.second)
-ended-well needs seen sink files (how.NotSubstitutes bidder x y units) may told good quiet = absurd (
-    not-without needs seen.shelf files bidder x y units told may good)
-ended-well needs seen sink files (how.BadLog place) may told good quiet = absurd (
+ended-well needs seen net sink files (how.BadValues fault) may told good quiet = absurd (
+    let both = both-of-two needs.auction needs.values (λ a v. IsBadValues seen.shelf a v fault) (λ a v. AreGoodValues (needs.bid ≡ None) files a v) may good.values in
+    good-values (needs.bid ≡ None) seen.shelf files both.one both.other fault told both.first both.second)
+ended-well needs seen net sink files (how.NotSubstitutes bidder x y units) may told good quiet = absurd (
+    not-without needs seen.shelf files bidder x y units told may.0 may.1 good)
+ended-well needs seen net sink files (how.BadLog place) may told good quiet = absurd (
     let both = both-of needs.log _ _ may good.log in
     good-log both.value place seen.shelf files told both.first both.second)
+ended-well needs seen net sink files how.NetFault may told good quiet = absurd may
+ended-well needs seen net sink files (how.Refused code detail value) may told good quiet = absurd may
+ended-well needs seen net sink files (how.LooksSpent clock) may told good quiet = absurd may
+ended-well needs seen net sink files how.BadReply may told good quiet = absurd may
+ended-well needs seen net sink files (how.NoBidder bidder) may told good quiet = absurd may
+
+-- nor does the net end it
+net-well : (needs : Needs) (seen : Outside) (net : NetSeen) (sink : SinkSeen) (files : List NamedFile) (end : Ended) → EndsOnNet needs seen.shelf net end → NothingFailed needs files seen net sink → ⊥
+net-well needs seen net sink files how.NetFault ends quiet = still net.faults_before net.faults quiet.net_same quiet.net_room ends.1
+net-well needs seen net sink files (how.Refused code detail value) ends quiet = quiet.net_well (how.Refused code detail value) (λ e. (let no : ⊥ = cc in no)) ends
+net-well needs seen net sink files (how.LooksSpent clock) ends quiet = quiet.net_well (how.LooksSpent clock) (λ e. (let no : ⊥ = cc in no)) ends
+net-well needs seen net sink files how.BadReply ends quiet = quiet.net_well how.BadReply (λ e. (let no : ⊥ = cc in no)) ends
+net-well needs seen net sink files (how.NoBidder bidder) ends quiet = quiet.net_well (how.NoBidder bidder) (λ e. (let no : ⊥ = cc in no)) ends
+net-well needs seen net sink files how.Done ends quiet = absurd ends
+net-well needs seen net sink files how.NoMemory ends quiet = absurd ends
+net-well needs seen net sink files how.Usage ends quiet = absurd ends
+net-well needs seen net sink files how.ReadFault ends quiet = absurd ends
+net-well needs seen net sink files how.WriteFault ends quiet = absurd ends
+net-well needs seen net sink files (how.DiskFault clock) ends quiet = absurd ends
+net-well needs seen net sink files (how.BadJournal clock fault) ends quiet = absurd ends
+net-well needs seen net sink files (how.Open clock round missing) ends quiet = absurd ends
+net-well needs seen net sink files (how.NoAward clock) ends quiet = absurd ends
+net-well needs seen net sink files (how.Halted clock good) ends quiet = absurd ends
+net-well needs seen net sink files (how.BadAuction fault) ends quiet = absurd ends
+net-well needs seen net sink files (how.TooLong file) ends quiet = absurd ends
+net-well needs seen net sink files (how.BadValues fault) ends quiet = absurd ends
+net-well needs seen net sink files (how.NotSubstitutes bidder x y good) ends quiet = absurd ends
+net-well needs seen net sink files (how.BadLog place) ends quiet = absurd ends
+
+any-end : (needs : Needs) (seen : Outside) (net : NetSeen) (sink : SinkSeen) (files : List NamedFile) (end : Ended) → Ends needs seen net end → seen.shelf.files ≡ Some files → AreGood needs files
+    → NothingFailed needs files seen net sink → IsDoneOrNoMemory end
+any-end needs seen net sink files end (inl may) told good quiet = ended-well needs seen net sink files end may told good quiet
+any-end needs seen net sink files end (inr ends) told good quiet = absurd (net-well needs seen net sink files end ends quiet)
 
 -- what was written whole answers as it should, and nothing else was written where the sink did not fail
 delivered : (sink : SinkSeen) (end answer : Ended) (text : List ℕ) → Wrote sink end text answer → IsDoneOrNoMemory end → sink.faults ≡ sink.faults_before → sink.faults_before < 2 ^ 64 - 1 → IsDoneOrNoMemory answer
@@ -134,16 +169,16 @@ line-delivered : (sink : SinkSeen) (end answer : Ended) → WroteLine sink end a
 line-delivered sink end answer (inl wrote) good same room = delivered sink end answer _ wrote good same room
 line-delivered sink end answer (inr none) good same room = delivered sink how.NoMemory answer [] none.1 (inr refl) same room
 
-command-done : (command : Command) (seen : Outside) (sink : SinkSeen) (files : List NamedFile) (answer : Ended) → CommandEnds command seen sink answer → seen.shelf.files ≡ Some files
-    → AreGood (needs_of command) files → NothingFailed (needs_of command) files seen sink → IsDoneOrNoMemory answer
-command-done command seen sink files answer (inl done) told good quiet = delivered sink how.Done answer done.text done.wrote (inl refl) quiet.sink_same quiet.sink_room
-command-done command seen sink files answer (inr other) told good quiet =
-    line-delivered sink other.end answer other.wrote (ended-well (needs_of command) seen sink files other.end other.cause told good quiet) quiet.sink_same quiet.sink_room
+command-done : (command : Command) (seen : Outside) (net : NetSeen) (sink : SinkSeen) (files : List NamedFile) (answer : Ended) → CommandEnds command seen net sink answer → (as_seen command seen).shelf.files ≡ Some files
+    → AreGood (needs_of command) files → NothingFailed (needs_of command) files (as_seen command seen) net sink → IsDoneOrNoMemory answer
+command-done command seen net sink files answer (inl done) told good quiet = delivered sink how.Done answer done.text done.wrote (inl refl) quiet.sink_same quiet.sink_room
+command-done command seen net sink files answer (inr other) told good quiet =
+    line-delivered sink other.end answer other.wrote (any-end (needs_of command) (as_seen command seen) net sink files other.end other.cause told good quiet) quiet.sink_same quiet.sink_room
 
-pub completes : (words : List (List ℕ)) (seen : Outside) (sink : SinkSeen) (answer : Ended) → RunEnds words seen sink answer → (command : Command) (files : List NamedFile) → Spells command words → seen.shelf.files ≡ Some files
-    → AreGood (needs_of command) files → NothingFailed (needs_of command) files seen sink → IsDoneOrNoMemory answer
-completes words seen sink answer (inl usage) command files is told good quiet = absurd (usage.none command is)
-completes words seen sink answer (inr (inl some)) command files is told good quiet =
-    let P : Command → Type 0 = λ c. CommandEnds c seen sink answer in
-    command-done command seen sink files answer (subst P (spelled-once some.command command words some.spelled is) some.ends) told good quiet
-completes words seen sink answer (inr (inr none)) command files is told good quiet = delivered sink how.NoMemory answer [] none.wrote (inr refl) quiet.sink_same quiet.sink_room
+pub completes : (words : List (List ℕ)) (seen : Outside) (net : NetSeen) (sink : SinkSeen) (answer : Ended) → RunEnds words seen net sink answer → (command : Command) (files : List NamedFile) → Spells command words
+    → (as_seen command seen).shelf.files ≡ Some files → AreGood (needs_of command) files → NothingFailed (needs_of command) files (as_seen command seen) net sink → IsDoneOrNoMemory answer
+completes words seen net sink answer (inl usage) command files is told good quiet = absurd (usage.none command is)
+completes words seen net sink answer (inr (inl some)) command files is told good quiet =
+    let P : Command → Type 0 = λ c. CommandEnds c seen net sink answer in
+    command-done command seen net sink files answer (subst P (spelled-once some.command command words some.spelled is) some.ends) told good quiet
+completes words seen net sink answer (inr (inr none)) command files is told good quiet = delivered sink how.NoMemory answer [] none.wrote (inr refl) quiet.sink_same quiet.sink_room

@@ -1,5 +1,5 @@
 -- Where the files of a market are good, none of them is refused and each bidder has strong substitutes.
-use Rattle.std.proofs.Common.{◌≡◌, ◌∙◌, ◌⊎◌, inl, inr, ◌<◌, ◌≤◌, ◌+◌, ℕ, zero, suc, List, [], length, Option, Some, None, Ok, Err, refl, sym, ap, subst, arith}
+use Rattle.std.proofs.Common.{◌≡◌, ◌∙◌, ◌⊎◌, inl, inr, ◌<◌, ◌≤◌, ◌+◌, ℕ, zero, suc, List, length, Option, Some, None, Ok, Err, sym, ap, subst, arith}
 use Rattle.std.specs.Prelude.{ℤ, IfSome}
 use Rattle.std.specs.List.{AllByRecursion, range_with_len}
 use Rattle.std.proofs.Math.Nat.{eq-or-lt_of_le}
@@ -11,12 +11,11 @@ use Rattle.auction_file.specs.AuctionFile.{Listing, auction_of}
 use Rattle.valuation.specs.ValuesFile.{values_of}
 use Rattle.valuation.specs.declared.faults.ValuesFault.{ValuesFault}
 use Rattle.trial.specs.Bidding.{bidders_of}
-use Rattle.trial.specs.Making.{made_supply, made_values}
+use Rattle.trial.specs.Making.{made_values}
 use Rattle.trial.specs.Refusals.{IsFirstWithout}
-use Rattle.house_run.specs.Causes.{MayEnd}
 use Rattle.house_run.specs.Ends.{AreGood, AreGoodValues, IsGoodNumber}
 use Rattle.house_run.specs.Journals.{IsTermsOf}
-use Rattle.house_run.specs.Markets.{HasTerms, IsBadValues, IsMarketAt, IsNotSubstitutesAt, IsNotSubstitutesOf, market_bidders}
+use Rattle.house_run.specs.Markets.{HasTerms, IsBadValues, IsNotSubstitutesAt, IsNotSubstitutesOf, market_bidders}
 use Rattle.house_run.specs.Needs.{Has, Needs}
 use Rattle.house_run.specs.Seen.{ShelfSeen, content, values_limit}
 use Rattle.house_run.proofs.GoodJournals.{read-told, says-told}
@@ -52,14 +51,14 @@ alike shelf files auction t s listing told has says are =
       ceiling = has.terms_are.ceiling_is ∙ ap (λ (x : Listing). x.ceiling) l ∙ sym are.ceiling_is;
     }
 
-pub good-values : (shelf : ShelfSeen) (files : List NamedFile) (auction values : List ℕ) (fault : ValuesFault) → shelf.files ≡ Some files → IsBadValues shelf auction values fault → AreGoodValues files auction values → ⊥
-good-values shelf files auction values fault told bad good =
+pub good-values : (tried : Type 0) (shelf : ShelfSeen) (files : List NamedFile) (auction values : List ℕ) (fault : ValuesFault) → shelf.files ≡ Some files → IsBadValues shelf auction values fault → AreGoodValues tried files auction values → ⊥
+good-values tried shelf files auction values fault told bad good =
     let same = alike shelf files auction bad.terms good.terms good.listing told bad.terms_are good.says good.terms_are in
     let read = read-told shelf files values values_limit bad.read bad.is_read told in
     let e : Ok good.valuations ≡ Err fault = sym good.read ∙ sym (λ i. values_of (same.goods i) (same.bidders i) (same.ceiling i) (read i)) ∙ bad.says in cc
 
-good-substitutes : (shelf : ShelfSeen) (files : List NamedFile) (auction values : List ℕ) (bidder : ℕ) (x y : List ℕ) (units : ℕ) → shelf.files ≡ Some files → IsNotSubstitutesAt shelf auction values bidder x y units → AreGoodValues files auction values → ⊥
-good-substitutes shelf files auction values bidder x y units told bad good =
+good-substitutes : (tried : Type 0) (shelf : ShelfSeen) (files : List NamedFile) (auction values : List ℕ) (bidder : ℕ) (x y : List ℕ) (units : ℕ) → shelf.files ≡ Some files → IsNotSubstitutesAt shelf auction values bidder x y units → AreGoodValues tried files auction values → tried → ⊥
+good-substitutes tried shelf files auction values bidder x y units told bad good asked =
     let t = bad.terms in
     let same = alike shelf files auction t good.terms good.listing told bad.market.terms_are good.says good.terms_are in
     let has = bad.market.values_are in
@@ -67,7 +66,7 @@ good-substitutes shelf files auction values bidder x y units told bad good =
     let e : Ok good.valuations ≡ Ok bad.valuations = sym good.read ∙ sym (λ i. values_of (same.goods i) (same.bidders i) (same.ceiling i) (read i)) ∙ has.says in
     let v : good.valuations ≡ bad.valuations = cc in
     let P : List ℕ → ℕ → List (List ℕ) → Type 0 = λ goods bidders vs. AllStrongSubstitutes goods (bidders_of goods vs) (all_bidders bidders) in
-    let a = subst (λ goods. P goods good.terms.bidders good.valuations) (sym same.goods) good.substitutes in
+    let a = subst (λ goods. P goods good.terms.bidders good.valuations) (sym same.goods) (good.substitutes asked) in
     let b = subst (λ n. P t.goods n good.valuations) (sym same.bidders) a in
     none-without t (market_bidders t bad.valuations) bidder x y units bad.first (subst (P t.goods t.bidders) v b)
 
@@ -79,15 +78,15 @@ good-number number bidder x y units bad good =
     let b = subst (λ n. P t.goods n (made_values number 12)) (sym bad.made.bidders) a in
     none-without t (market_bidders t bad.valuations) bidder x y units bad.first (subst (P t.goods t.bidders) (sym bad.made.values) b)
 
-pub not-without : (needs : Needs) (shelf : ShelfSeen) (files : List NamedFile) (bidder : ℕ) (x y : List ℕ) (units : ℕ) → shelf.files ≡ Some files
+pub not-without : (needs : Needs) (shelf : ShelfSeen) (files : List NamedFile) (bidder : ℕ) (x y : List ℕ) (units : ℕ) → shelf.files ≡ Some files → needs.bid ≡ None
     → Has needs.auction (λ a. Has needs.values (λ v. IsNotSubstitutesAt shelf a v bidder x y units)) ⊎ Has needs.number (λ n. IsNotSubstitutesOf n bidder x y units) → AreGood needs files → ⊥
-not-without needs shelf files bidder x y units told (inl may) good = by needs.auction needs.values may good.values
+not-without needs shelf files bidder x y units told asked (inl may) good = by needs.auction needs.values may good.values
   where
-    by : (a v : Option (List ℕ)) → Has a (λ a. Has v (λ v. IsNotSubstitutesAt shelf a v bidder x y units)) → IfSome a (λ a. IfSome v (λ v. AreGoodValues files a v)) → ⊥
+    by : (a v : Option (List ℕ)) → Has a (λ a. Has v (λ v. IsNotSubstitutesAt shelf a v bidder x y units)) → IfSome a (λ a. IfSome v (λ v. AreGoodValues (needs.bid ≡ None) files a v)) → ⊥
     by None v may good = may
     by (Some a) None may good = may
-    by (Some a) (Some v) may good = good-substitutes shelf files a v bidder x y units told may good
-not-without needs shelf files bidder x y units told (inr may) good = by needs.number may good.number
+    by (Some a) (Some v) may good = good-substitutes (needs.bid ≡ None) shelf files a v bidder x y units told may good asked
+not-without needs shelf files bidder x y units told asked (inr may) good = by needs.number may good.number
   where
     by : (n : Option ℕ) → Has n (λ n. IsNotSubstitutesOf n bidder x y units) → IfSome n IsGoodNumber → ⊥
     by None may good = may

@@ -1,5 +1,5 @@
 -- An auction is read, and then its journals: how a command that needs both ends, and what it leaves.
-use Rattle.std.proofs.Common.{◌≡◌, ◌∙◌, ◌≤◌, ◌+◌, ◌++◌, ℕ, Bool, List, [], ◌∷◌, length, Option, Some, None, arith, inr, refl, sym, ap, subst, option_map}
+use Rattle.std.proofs.Common.{◌≡◌, ◌∙◌, ◌≤◌, ◌+◌, ◌++◌, ℕ, Bool, List, [], ◌∷◌, length, Option, Some, arith, inr, refl, sym, ap, subst}
 use Rattle.std.proofs.Common.{Vec, Global, Ok, Err}
 use Rattle.std.specs.Prelude.{Result, IfOk, IfErr, ℤ}
 use Rattle.std.specs.List.{AllByRecursion}
@@ -18,12 +18,11 @@ use Rattle.recovery.specs.Journaled.{owner_of}
 use Rattle.clock_book.specs.declared.faults.OpenFault.{OpenFault}
 use Rattle.clock_book.specs.declared.faults.OpenFault.TheVariants as why
 use Rattle.house_run.specs.Causes.{JournalFailed, MayEnd, Tells}
-use Rattle.house_run.specs.Commands.{Settle}
-use Rattle.house_run.specs.Ends.{JobAnswer}
+use Rattle.house_run.specs.Ends.{ShelfAnswer}
 use Rattle.house_run.specs.Outcomes.{IsSettlement}
 use Rattle.house_run.specs.Frame.{Frame, KeepsAll, KeepsFiles, OpensJournals, RisesAmong}
 use Rattle.house_run.specs.Journals.{AreFromJournals, AreHistories, IsAuctionOn, IsFromJournal, IsTermsOf}
-use Rattle.house_run.specs.Needs.{Log, Needs, IsJournal, first_journals, journal_name, list_of, sources, with_names}
+use Rattle.house_run.specs.Needs.{Needs, IsJournal, first_journals, journal_name, sources, with_names}
 use Rattle.house_run.specs.Seen.{Outside, ShelfSeen, IsAuctionAt}
 use Rattle.house_run.specs.SettleCommand.{SettleDone, settle_needs}
 use Rattle.house_run.specs.Status.{end_at}
@@ -168,6 +167,11 @@ settled-end (how.TooLong file) auction journals seen terms cs are is = absurd is
 settled-end (how.BadValues fault) auction journals seen terms cs are is = absurd is
 settled-end (how.NotSubstitutes bidder x y good) auction journals seen terms cs are is = absurd is
 settled-end (how.BadLog place) auction journals seen terms cs are is = absurd is
+settled-end how.NetFault auction journals seen terms cs are is = absurd is
+settled-end (how.Refused code detail value) auction journals seen terms cs are is = absurd is
+settled-end (how.LooksSpent clock) auction journals seen terms cs are is = absurd is
+settled-end how.BadReply auction journals seen terms cs are is = absurd is
+settled-end (how.NoBidder bidder) auction journals seen terms cs are is = absurd is
 
 -- the settlement of clocks that a call was lent
 pub settled-by : (terms : Terms) (cs ds : List ClockOf) (s t : Settlement) → ds ≡ cs → s ≡ t → IsOutcomeOf (histories ds) s
@@ -178,7 +182,7 @@ settled-by terms cs ds s t same is outcome efficient =
     subst Q is (subst P same (record { outcome = outcome; efficient = efficient }))
 
 pub settled-answer : (result : Result (Vec ℕ Global) Ended) (auction journals : List ℕ) (json : Bool) (seen : Outside) (terms : Terms) (cs : List ClockHistory) → AreHistories seen.shelf auction journals terms cs
-    → IfOk result (λ text. IsSettledText terms cs json text.items) → IfErr result (IsSettledEnd terms cs) → JobAnswer (Settle auction journals json) seen result
+    → IfOk result (λ text. IsSettledText terms cs json text.items) → IfErr result (IsSettledEnd terms cs) → ShelfAnswer (SettleDone auction journals json) (settle_needs auction journals) seen result
 settled-answer (Ok text) auction journals json seen terms cs are done ends = settled-done auction journals json seen.shelf terms cs text.items are done
 settled-answer (Err end) auction journals json seen terms cs are done ends = settled-end end auction journals seen terms cs are ends
 

@@ -88,11 +88,11 @@ numbers-more : (clock number : ℕ) (ns : List ℕ) → ns ≡ range_with_len 0 
 numbers-more clock number ns are is =
     (λ i. are i ++ is i ∷ []) ∙ ap (λ k. range_with_len 0 clock ++ k ∷ []) (let e : clock ≡ 0 + clock = omega arith in e) ∙ sym (range-more 0 clock) ∙ ap (range_with_len 0) (let e : suc clock ≡ clock + 1 = omega arith in e)
 
-all-more : {A : Type 0} (P : A → Type 0) (xs : List A) (x : A) → AllByRecursion P xs → P x → AllByRecursion P (xs ++ x ∷ [])
+pub all-more : {A : Type 0} (P : A → Type 0) (xs : List A) (x : A) → AllByRecursion P xs → P x → AllByRecursion P (xs ++ x ∷ [])
 all-more P [] x all p = (p, tt)
 all-more P (y ∷ xs) x all p = (all.0, all-more P xs x all.1 p)
 
-more-from : (files : Option (List NamedFile)) (terms : Terms) (digest journals : List ℕ) (clock : ℕ) (cs : List ClockHistory) (c : ClockHistory) → AreFromJournals files terms digest journals clock cs
+pub more-from : (files : Option (List NamedFile)) (terms : Terms) (digest journals : List ℕ) (clock : ℕ) (cs : List ClockHistory) (c : ClockHistory) → AreFromJournals files terms digest journals clock cs
     → IsReadAt files terms digest (journal_name journals clock) clock c → AreFromJournals files terms digest journals (clock + 1) (cs ++ c ∷ [])
 more-from files terms digest journals clock cs c are is = record {
   numbers = map-append (λ (k : ClockHistory). k.number) cs (c ∷ []) ∙ numbers-more clock c.number (map (λ (k : ClockHistory). k.number) cs) are.numbers (number-is (owner_of terms clock digest) c is.history);
@@ -101,7 +101,7 @@ more-from files terms digest journals clock cs c are is = record {
 
 -- names and files, clock by clock
 
-one-more : (journals : List ℕ) (clocks : ℕ) (before between after : List (List ℕ)) → between ≡ with_names (first_journals journals clocks) before → after ≡ with_name (journal_name journals clocks) between
+pub one-more : (journals : List ℕ) (clocks : ℕ) (before between after : List (List ℕ)) → between ≡ with_names (first_journals journals clocks) before → after ≡ with_name (journal_name journals clocks) between
     → after ≡ with_names (first_journals journals (suc clocks)) before
 one-more journals clocks before between after first opened =
     opened ∙ ap (with_name (journal_name journals clocks)) first ∙ sym (names-then (first_journals journals clocks) (journal_name journals clocks ∷ []) before)

@@ -1,5 +1,5 @@
 -- An auction is read, and then the valuations of its bidders: how a command that needs both ends, and what it leaves.
-use Rattle.std.proofs.Common.{◌≡◌, ◌∙◌, ◌≤◌, ℕ, List, [], ◌∷◌, Option, Some, None, Ok, Err, inl, inr, arith, refl, sym, ap, subst, take}
+use Rattle.std.proofs.Common.{◌≡◌, ◌∙◌, ◌<◌, ℕ, List, [], ◌∷◌, Option, Some, None, Ok, Err, inl, inr, arith, refl, sym, ap, subst, take}
 use Rattle.std.specs.Prelude.{Result, IfOk, IfErr, Vec}
 use Rattle.std.specs.declared.alloc.Global.{Global}
 use Rattle.house_io.specs.Faults.{Rose}
@@ -18,20 +18,20 @@ use Rattle.trial.specs.Refusals.{IsRefusal}
 use Rattle.trial.specs.declared.faults.TrialFault.{TrialFault}
 use Rattle.trial.specs.declared.faults.TrialFault.TheVariants as fault
 use Rattle.house_run.specs.Causes.{MayEnd, Tells}
-use Rattle.house_run.specs.Commands.{Make, Trial}
-use Rattle.house_run.specs.Ends.{JobAnswer, end_of}
+use Rattle.house_run.specs.Ends.{ShelfAnswer}
 use Rattle.house_run.specs.Frame.{Frame, KeepsFiles, OpensSources, RisesAmong}
-use Rattle.house_run.specs.Markets.{HasTerms, HasValues, IsMarketAt, TriesAs, market_bidders}
-use Rattle.house_run.specs.MakeCommand.{MakeDone, make_line, make_needs}
-use Rattle.house_run.specs.Needs.{Needs, IsJournal, sources, with_names}
-use Rattle.house_run.specs.Seen.{Outside, ShelfSeen, IsAuctionAt}
-use Rattle.house_run.specs.Steps.{EndsAtValues, EndsSo, IsSteady, IsTrialEnd, LeavesSo, OnlyReads, OpensOnly, end_by}
+use Rattle.house_run.specs.Markets.{HasTerms, HasValues, IsBadValues, IsMarketAt, TriesAs, market_bidders}
+use Rattle.house_run.specs.MakeCommand.{make_needs}
+use Rattle.house_run.specs.Needs.{Bidding, Has, IsJournal, IsSource, Needs, sources, with_names}
+use Rattle.house_run.specs.Seen.{Outside, ShelfSeen, IsAuctionAt, IsTooLong, values_limit}
+use Rattle.house_run.specs.Steps.{EndsAtValues, EndsSo, IsSteady, IsTrialEnd, LeavesSo, OnlyReads, OpensOnly, StopsBidding, end_by}
+use Rattle.house_run.specs.BidCommand.{bid_needs}
 use Rattle.house_run.specs.TrialCommand.{TrialDone, trial_needs}
 use Rattle.house_run.specs.declared.ends.Ended.{Ended}
 use Rattle.house_run.specs.declared.ends.Ended.TheVariants as how
 use Rattle.house_run.specs.declared.ends.File.TheVariants as which
 use Rattle.house_run.proofs.Closing.{none-changed}
-use Rattle.house_run.proofs.Framing.{auction-then, none-kept, one-counts, steady-counts, counts-then}
+use Rattle.house_run.proofs.Framing.{auction-then, has, none-kept, one-counts, steady-counts, counts-then}
 use Rattle.house_run.proofs.JournalSteps.{later}
 
 -- what is known where the auction was read and no count rose so far
@@ -41,27 +41,55 @@ pub record AuctionRead (auction : List ℕ) (seen : Outside) (terms : Terms) (fi
   pub first : names ≡ with_name auction seen.shelf.opened_before
   pub steady : (name : List ℕ) → faults name ≡ seen.shelf.faults_before name
 
--- the auction was refused
-pub auction-ends : (auction values : List ℕ) (seen : Outside) (end : Ended) → OnlyReads auction seen.shelf → EndsSo (trial_needs auction values) seen end → LeavesSo (trial_needs auction values) seen end
-auction-ends auction values seen end reads so = record {
-  cause = so.cause;
-  frame = record { names = inl (opens reads.names); counts = so.counts; files = reads.unchanged };
+-- a command that reads an auction and then valuations, and no journal
+pub record ReadsTwo (needs : Needs) (auction values : List ℕ) : Type 0 where
+  pub auction_is : needs.auction ≡ Some auction
+  pub values_are : needs.values ≡ Some values
+  pub sources_are : sources needs ≡ auction ∷ values ∷ []
+  pub no_journals : needs.journals ≡ None
+
+pub trial-two : (auction values : List ℕ) → ReadsTwo (trial_needs auction values) auction values
+trial-two auction values = record { auction_is = refl; values_are = refl; sources_are = refl; no_journals = refl }
+
+pub bid-two : (auction values : List ℕ) (b : Bidding) → ReadsTwo (bid_needs auction values b) auction values
+bid-two auction values b = record { auction_is = refl; values_are = refl; sources_are = refl; no_journals = refl }
+
+unjournaled : (needs : Needs) (auction values : List ℕ) (before now : Option (List NamedFile)) → ReadsTwo needs auction values → ChangesNone before now → KeepsFiles needs.journals before now
+unjournaled needs auction values before now two same = let P : Option (List ℕ) → Type 0 = λ o. KeepsFiles o before now in subst P (sym two.no_journals) same
+
+-- only the auction was opened, at most
+pub auction-opened : (needs : Needs) (auction values : List ℕ) (shelf : ShelfSeen) → ReadsTwo needs auction values → OpensOnly auction shelf.opened_before shelf.opened → OpensSources needs shelf
+auction-opened needs auction values shelf two (inl e) = record { count = 0; names = e }
+auction-opened needs auction values shelf two (inr e) =
+    let P : List (List ℕ) → Type 0 = λ names. shelf.opened ≡ with_names (take 1 names) shelf.opened_before in
+    record { count = 1; names = subst P (sym two.sources_are) e }
+
+-- the auction was read or refused, and nothing else
+pub auction-frame : (needs : Needs) (auction values : List ℕ) (seen : Outside) (end : Ended) → ReadsTwo needs auction values → OnlyReads auction seen.shelf → RisesAmong (Tells needs end) seen.shelf.faults_before seen.shelf.faults → Frame needs end seen
+auction-frame needs auction values seen end two reads counts = record {
+  names = inl (auction-opened needs auction values seen.shelf two reads.names);
+  counts = counts;
+  files = unjournaled needs auction values seen.shelf.files_before seen.shelf.files two reads.unchanged;
 }
-  where
-    opens : OpensOnly auction seen.shelf.opened_before seen.shelf.opened → OpensSources (trial_needs auction values) seen.shelf
-    opens (inl e) = record { count = 0; names = e }
-    opens (inr e) = record { count = 1; names = e }
 
-both-opened : (auction values : List ℕ) (seen : Outside) (names : List (List ℕ)) → names ≡ with_name auction seen.shelf.opened_before → OpensOnly values names seen.shelf.opened → OpensSources (trial_needs auction values) seen.shelf
-both-opened auction values seen names first (inl e) = record { count = 1; names = e ∙ first }
-both-opened auction values seen names first (inr e) = record { count = 2; names = e ∙ ap (with_name values) first }
+-- the auction was refused
+pub auction-ends : (needs : Needs) (auction values : List ℕ) (seen : Outside) (end : Ended) → ReadsTwo needs auction values → OnlyReads auction seen.shelf → EndsSo needs seen end → LeavesSo needs seen end
+auction-ends needs auction values seen end two reads so = record { cause = so.cause; frame = auction-frame needs auction values seen end two reads so.counts }
 
-pub market-frame : (auction values : List ℕ) (seen : Outside) (terms : Terms) (files : Option (List NamedFile)) (faults : List ℕ → ℕ) (names : List (List ℕ)) (end : Ended) → AuctionRead auction seen terms files faults names
-    → OnlyReads values (later seen.shelf files faults names) → RisesAmong (Tells (trial_needs auction values) end) faults seen.shelf.faults → Frame (trial_needs auction values) end seen
-market-frame auction values seen terms files faults names end known reads counts = record {
-  names = inl (both-opened auction values seen names known.first reads.names);
-  counts = counts-then (Tells (trial_needs auction values) end) seen.shelf faults known.steady counts;
-  files = none-changed seen.shelf.files_before files seen.shelf.files known.read reads.unchanged;
+both-opened : (needs : Needs) (auction values : List ℕ) (seen : Outside) (names : List (List ℕ)) → ReadsTwo needs auction values → names ≡ with_name auction seen.shelf.opened_before → OpensOnly values names seen.shelf.opened → OpensSources needs seen.shelf
+both-opened needs auction values seen names two first (inl e) =
+    let P : List (List ℕ) → Type 0 = λ all. seen.shelf.opened ≡ with_names (take 1 all) seen.shelf.opened_before in
+    record { count = 1; names = subst P (sym two.sources_are) (e ∙ first) }
+both-opened needs auction values seen names two first (inr e) =
+    let P : List (List ℕ) → Type 0 = λ all. seen.shelf.opened ≡ with_names (take 2 all) seen.shelf.opened_before in
+    record { count = 2; names = subst P (sym two.sources_are) (e ∙ ap (with_name values) first) }
+
+pub market-frame : (needs : Needs) (auction values : List ℕ) (seen : Outside) (terms : Terms) (files : Option (List NamedFile)) (faults : List ℕ → ℕ) (names : List (List ℕ)) (end : Ended) → ReadsTwo needs auction values → AuctionRead auction seen terms files faults names
+    → OnlyReads values (later seen.shelf files faults names) → RisesAmong (Tells needs end) faults seen.shelf.faults → Frame needs end seen
+market-frame needs auction values seen terms files faults names end two known reads counts = record {
+  names = inl (both-opened needs auction values seen names two known.first reads.names);
+  counts = counts-then (Tells needs end) seen.shelf faults known.steady counts;
+  files = unjournaled needs auction values seen.shelf.files_before seen.shelf.files two (none-changed seen.shelf.files_before files seen.shelf.files known.read reads.unchanged);
 }
 
 pub known-by : (auction : List ℕ) (seen : Outside) (terms : Terms) (listing : Listing) (files : Option (List NamedFile)) (faults : List ℕ → ℕ) (names : List (List ℕ)) → IsAuctionAt (record seen.shelf { files = files; faults = faults; opened = names }) auction listing → IsTermsOf listing terms
@@ -85,46 +113,68 @@ market-read auction values seen terms valuations files faults names known reads 
 }
 
 -- the valuations were refused
-pub values-ends : (end : Ended) (auction values : List ℕ) (seen : Outside) (terms : Terms) (files : Option (List NamedFile)) (faults : List ℕ → ℕ) (names : List (List ℕ)) → AuctionRead auction seen terms files faults names
-    → HasTerms seen.shelf auction terms → OnlyReads values (later seen.shelf files faults names) → EndsAtValues terms values (later seen.shelf files faults names) end → LeavesSo (trial_needs auction values) seen end
-values-ends how.ReadFault auction values seen terms files faults names known has reads ends =
+pub values-ends : (end : Ended) (needs : Needs) (auction values : List ℕ) (seen : Outside) (terms : Terms) (files : Option (List NamedFile)) (faults : List ℕ → ℕ) (names : List (List ℕ)) → ReadsTwo needs auction values → AuctionRead auction seen terms files faults names
+    → HasTerms seen.shelf auction terms → OnlyReads values (later seen.shelf files faults names) → EndsAtValues terms values (later seen.shelf files faults names) end → LeavesSo needs seen end
+values-ends how.ReadFault needs auction values seen terms files faults names two known has_terms reads ends =
     let P : ℕ → Type 0 = λ before. Rose before (seen.shelf.faults values) in
+    let source : IsSource needs values = inr (inr (has needs.values values (λ v. values ≡ v) two.values_are refl)) in
     record {
-      cause = record { name = values; source = inr (inr refl); failed = subst P (known.steady values) ends };
-      frame = market-frame auction values seen terms files faults names how.ReadFault known reads (one-counts (Tells (trial_needs auction values) how.ReadFault) values (later seen.shelf files faults names) reads.counts (inr (inr refl)));
+      cause = record { name = values; source = source; failed = subst P (known.steady values) ends };
+      frame = market-frame needs auction values seen terms files faults names how.ReadFault two known reads (one-counts (Tells needs how.ReadFault) values (later seen.shelf files faults names) reads.counts source);
     }
-values-ends how.NoMemory auction values seen terms files faults names known has reads ends = record {
+values-ends how.NoMemory needs auction values seen terms files faults names two known has_terms reads ends = record {
   cause = tt;
-  frame = market-frame auction values seen terms files faults names how.NoMemory known reads (steady-counts (Tells (trial_needs auction values) how.NoMemory) (later seen.shelf files faults names) ends);
+  frame = market-frame needs auction values seen terms files faults names how.NoMemory two known reads (steady-counts (Tells needs how.NoMemory) (later seen.shelf files faults names) ends);
 }
-values-ends (how.TooLong which.Values) auction values seen terms files faults names known has reads ends = record {
-  cause = ends.1;
-  frame = market-frame auction values seen terms files faults names (how.TooLong which.Values) known reads (steady-counts (Tells (trial_needs auction values) (how.TooLong which.Values)) (later seen.shelf files faults names) ends.0);
+values-ends (how.TooLong which.Values) needs auction values seen terms files faults names two known has_terms reads ends = record {
+  cause = has needs.auction auction _ two.auction_is (has needs.values values (λ v. IsTooLong seen.shelf v values_limit) two.values_are ends.1);
+  frame = market-frame needs auction values seen terms files faults names (how.TooLong which.Values) two known reads (steady-counts (Tells needs (how.TooLong which.Values)) (later seen.shelf files faults names) ends.0);
 }
-values-ends (how.BadValues refusal) auction values seen terms files faults names known has reads ends =
+values-ends (how.BadValues refusal) needs auction values seen terms files faults names two known has_terms reads ends =
     let refused = ends.1 in
+    let bad : IsBadValues seen.shelf auction values refusal = record {
+      terms = terms;
+      terms_are = has_terms;
+      read = refused.read;
+      is_read = record { whole = refused.is_read.whole; short = refused.is_read.short; bytes = refused.is_read.bytes };
+      says = refused.says;
+      other = refused.other;
+    } in
     record {
-      cause = record { terms = terms; terms_are = has; read = refused.read; is_read = record { whole = refused.is_read.whole; short = refused.is_read.short; bytes = refused.is_read.bytes }; says = refused.says; other = refused.other };
-      frame = market-frame auction values seen terms files faults names (how.BadValues refusal) known reads (steady-counts (Tells (trial_needs auction values) (how.BadValues refusal)) (later seen.shelf files faults names) ends.0);
+      cause = has needs.auction auction (λ a. Has needs.values (λ v. IsBadValues seen.shelf a v refusal)) two.auction_is (has needs.values values (λ v. IsBadValues seen.shelf auction v refusal) two.values_are bad);
+      frame = market-frame needs auction values seen terms files faults names (how.BadValues refusal) two known reads (steady-counts (Tells needs (how.BadValues refusal)) (later seen.shelf files faults names) ends.0);
     }
-values-ends how.Done auction values seen terms files faults names known has reads ends = absurd ends
-values-ends how.Usage auction values seen terms files faults names known has reads ends = absurd ends
-values-ends how.WriteFault auction values seen terms files faults names known has reads ends = absurd ends
-values-ends (how.DiskFault clock) auction values seen terms files faults names known has reads ends = absurd ends
-values-ends (how.BadJournal clock refusal) auction values seen terms files faults names known has reads ends = absurd ends
-values-ends (how.BadAuction refusal) auction values seen terms files faults names known has reads ends = absurd ends
-values-ends (how.Open clock round missing) auction values seen terms files faults names known has reads ends = absurd ends
-values-ends (how.NoAward clock) auction values seen terms files faults names known has reads ends = absurd ends
-values-ends (how.Halted clock good) auction values seen terms files faults names known has reads ends = absurd ends
-values-ends (how.NotSubstitutes bidder x y good) auction values seen terms files faults names known has reads ends = absurd ends
-values-ends (how.TooLong which.Auction) auction values seen terms files faults names known has reads ends = absurd ends
-values-ends (how.TooLong which.Log) auction values seen terms files faults names known has reads ends = absurd ends
-values-ends (how.BadLog place) auction values seen terms files faults names known has reads ends = absurd ends
+values-ends how.Done needs auction values seen terms files faults names two known has_terms reads ends = absurd ends
+values-ends how.Usage needs auction values seen terms files faults names two known has_terms reads ends = absurd ends
+values-ends how.WriteFault needs auction values seen terms files faults names two known has_terms reads ends = absurd ends
+values-ends (how.DiskFault clock) needs auction values seen terms files faults names two known has_terms reads ends = absurd ends
+values-ends (how.BadJournal clock refusal) needs auction values seen terms files faults names two known has_terms reads ends = absurd ends
+values-ends (how.BadAuction refusal) needs auction values seen terms files faults names two known has_terms reads ends = absurd ends
+values-ends (how.Open clock round missing) needs auction values seen terms files faults names two known has_terms reads ends = absurd ends
+values-ends (how.NoAward clock) needs auction values seen terms files faults names two known has_terms reads ends = absurd ends
+values-ends (how.Halted clock good) needs auction values seen terms files faults names two known has_terms reads ends = absurd ends
+values-ends (how.NotSubstitutes bidder x y good) needs auction values seen terms files faults names two known has_terms reads ends = absurd ends
+values-ends (how.TooLong which.Auction) needs auction values seen terms files faults names two known has_terms reads ends = absurd ends
+values-ends (how.TooLong which.Log) needs auction values seen terms files faults names two known has_terms reads ends = absurd ends
+values-ends (how.BadLog place) needs auction values seen terms files faults names two known has_terms reads ends = absurd ends
+values-ends how.NetFault needs auction values seen terms files faults names two known has_terms reads ends = absurd ends
+values-ends (how.Refused code detail value) needs auction values seen terms files faults names two known has_terms reads ends = absurd ends
+values-ends (how.LooksSpent clock) needs auction values seen terms files faults names two known has_terms reads ends = absurd ends
+values-ends how.BadReply needs auction values seen terms files faults names two known has_terms reads ends = absurd ends
+values-ends (how.NoBidder bidder) needs auction values seen terms files faults names two known has_terms reads ends = absurd ends
+
+-- the auction that was read has too few bidders
+pub no-bidder : (auction values : List ℕ) (b : Bidding) (seen : Outside) (bidder : ℕ) (terms : Terms) (listing : Listing) → b.bidder ≡ bidder → OnlyReads auction seen.shelf → IsSteady seen.shelf → IsAuctionAt seen.shelf auction listing → IsTermsOf listing terms
+    → terms.bidders < bidder → StopsBidding auction values b seen (how.NoBidder bidder)
+no-bidder auction values b seen bidder terms listing same reads steady is are few = record {
+  cause = λ net. inr (record { listing = listing; auction_is = is; bidder_is = sym same; above = (let e = are.bidders_are in omega arith) });
+  frame = auction-frame (bid_needs auction values b) auction values seen (how.NoBidder bidder) (bid-two auction values b) reads (steady-counts (Tells (bid_needs auction values b) (how.NoBidder bidder)) seen.shelf steady);
+}
 
 -- the trial of the market has no outcome
 pub trial-ends : (end : Ended) (auction values : List ℕ) (seen : Outside) (terms : Terms) (valuations : List (List ℕ)) → IsMarketAt seen.shelf auction values terms valuations → IsTrialEnd terms valuations end → MayEnd (trial_needs auction values) seen end
 trial-ends how.NoMemory auction values seen terms valuations market ends = tt
-trial-ends (how.NotSubstitutes bidder x y good) auction values seen terms valuations market ends = inl (record { terms = terms; valuations = valuations; market = market; first = ends })
+trial-ends (how.NotSubstitutes bidder x y good) auction values seen terms valuations market ends = (refl, inl (record { terms = terms; valuations = valuations; market = market; first = ends }))
 trial-ends how.Done auction values seen terms valuations market ends = absurd ends
 trial-ends how.Usage auction values seen terms valuations market ends = absurd ends
 trial-ends how.WriteFault auction values seen terms valuations market ends = absurd ends
@@ -138,10 +188,15 @@ trial-ends (how.NoAward clock) auction values seen terms valuations market ends 
 trial-ends (how.Halted clock good) auction values seen terms valuations market ends = absurd ends
 trial-ends (how.TooLong file) auction values seen terms valuations market ends = absurd ends
 trial-ends (how.BadLog place) auction values seen terms valuations market ends = absurd ends
+trial-ends how.NetFault auction values seen terms valuations market ends = absurd ends
+trial-ends (how.Refused code detail value) auction values seen terms valuations market ends = absurd ends
+trial-ends (how.LooksSpent clock) auction values seen terms valuations market ends = absurd ends
+trial-ends how.BadReply auction values seen terms valuations market ends = absurd ends
+trial-ends (how.NoBidder bidder) auction values seen terms valuations market ends = absurd ends
 
 pub make-ends : (end : Ended) (number : ℕ) (seen : Outside) (terms : Terms) (valuations : List (List ℕ)) → IsMade number terms valuations → IsTrialEnd terms valuations end → MayEnd (make_needs number) seen end
 make-ends how.NoMemory number seen terms valuations made ends = tt
-make-ends (how.NotSubstitutes bidder x y good) number seen terms valuations made ends = inr (record { terms = terms; valuations = valuations; made = made; first = ends })
+make-ends (how.NotSubstitutes bidder x y good) number seen terms valuations made ends = (refl, inr (record { terms = terms; valuations = valuations; made = made; first = ends }))
 make-ends how.Done number seen terms valuations made ends = absurd ends
 make-ends how.Usage number seen terms valuations made ends = absurd ends
 make-ends how.WriteFault number seen terms valuations made ends = absurd ends
@@ -155,6 +210,11 @@ make-ends (how.NoAward clock) number seen terms valuations made ends = absurd en
 make-ends (how.Halted clock good) number seen terms valuations made ends = absurd ends
 make-ends (how.TooLong file) number seen terms valuations made ends = absurd ends
 make-ends (how.BadLog place) number seen terms valuations made ends = absurd ends
+make-ends how.NetFault number seen terms valuations made ends = absurd ends
+make-ends (how.Refused code detail value) number seen terms valuations made ends = absurd ends
+make-ends (how.LooksSpent clock) number seen terms valuations made ends = absurd ends
+make-ends how.BadReply number seen terms valuations made ends = absurd ends
+make-ends (how.NoBidder bidder) number seen terms valuations made ends = absurd ends
 
 -- a command that opens no file leaves all as it was
 pub nothing-opened : (needs : Needs) (seen : Outside) (end : Ended) → seen.shelf.files ≡ seen.shelf.files_before → seen.shelf.faults ≡ seen.shelf.faults_before → seen.shelf.opened ≡ seen.shelf.opened_before → Frame needs end seen
@@ -187,6 +247,6 @@ never-other terms valuations clocks settlement other tried is bad = bad (subst (
 
 -- the answer of a command
 pub trial-answer : (result : Result (Vec ℕ Global) Ended) (auction values : List ℕ) (seen : Outside) (terms : Terms) (valuations : List (List ℕ)) (outcome : Outcome) → IsMarketAt seen.shelf auction values terms valuations → TriesAs terms valuations outcome
-    → IfOk result (λ text. text.items ≡ plain_text outcome) → IfErr result (λ end. end ≡ how.NoMemory) → JobAnswer (Trial auction values) seen result
+    → IfOk result (λ text. text.items ≡ plain_text outcome) → IfErr result (λ end. end ≡ how.NoMemory) → ShelfAnswer (TrialDone auction values) (trial_needs auction values) seen result
 trial-answer (Ok text) auction values seen terms valuations outcome market tries is none = record { terms = terms; valuations = valuations; market = market; outcome = outcome; tries = tries; text_is = is }
 trial-answer (Err end) auction values seen terms valuations outcome market tries is none = subst (MayEnd (trial_needs auction values) seen) (sym none) tt

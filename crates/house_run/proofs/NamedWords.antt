@@ -1,5 +1,5 @@
 -- Words by the ids of one argument or four, and the commands that they spell.
-use Rattle.std.proofs.Common.{◌≡◌, ◌≤◌, ◌^◌, ◌-◌, arith, ℕ, Bool, List, [], ◌∷◌, length, refl, sym, ap, ◌∙◌, subst}
+use Rattle.std.proofs.Common.{◌≡◌, ◌≤◌, ◌<◌, ◌^◌, ◌-◌, arith, ℕ, Bool, List, [], ◌∷◌, length, refl, sym, ap, ◌∙◌, subst}
 use Rattle.std.specs.Prelude.{codes, decimal, Some, IsSome, Option}
 use Rattle.std.specs.List.{AllByRecursion}
 use Rattle.clap.specs.Matches.{first_value}
@@ -8,8 +8,14 @@ use Rattle.lot_base.specs.declared.auction_terms.Terms.{Terms}
 use Rattle.house_run.specs.Positionals.{AreNamed}
 use Rattle.house_run.specs.CheckCommand.{IsCheck}
 use Rattle.house_run.specs.FoldCommand.{AreTermWords, IsFold}
-use Rattle.house_run.specs.Arguments.{AreArguments, plain_in}
-use Rattle.house_run.specs.Commands.{Check, Command, Fold, IsNoCommand, Make, Settle, Spells, Standing, Trial}
+use Rattle.lot_base.specs.Goods.{IsRange}
+use Rattle.house_run.specs.Arguments.{AreArguments, HasFlag, IsNumberOption}
+use Rattle.house_run.specs.Givens.{IsBidOf, bid_ids}
+use Rattle.house_run.specs.Needs.{Bidding, Serving}
+use Rattle.house_run.specs.NetWords.{IsBidWords, IsServeWords}
+use Rattle.house_run.proofs.CommandKinds.{bid, make, of-name, serve, settle, trial}
+use Rattle.house_run.proofs.Parting.{same-arguments}
+use Rattle.house_run.specs.Commands.{Command, IsNoCommand, IsParted, Spells}
 use Rattle.house_run.specs.SettleCommand.{IsSettle}
 use Rattle.house_run.specs.StandingCommand.{IsStanding}
 use Rattle.house_run.specs.TrialCommand.{IsTrialWords}
@@ -105,45 +111,159 @@ spells-standing f a b auction journals words named auction_is journals_are plain
     let all = subst P same plain in
     record { words_are = ap (λ ws. codes "standing" ∷ ws) same; auction_is = all.0; journals_are = all.1.0 }
 
-pub spells-settle : (f : Found) (a b auction journals : List ℕ) (json : Bool) (words behind : List (List ℕ)) → AreNamed f (a ∷ b ∷ []) words → first_value f a ≡ Some auction → first_value f b ≡ Some journals
-    → AreArguments (Some (codes "--json")) behind words json → IsSettle auction journals json (codes "settle" ∷ behind)
-spells-settle f a b auction journals json words behind named auction_is journals_are are =
-    let two = two-words f a b words named in
-    let x = same-word (first_value f a) two.first auction two.first_is auction_is in
-    let y = same-word (first_value f b) two.second journals two.second_is journals_are in
-    let same : words ≡ auction ∷ journals ∷ [] = two.words_are ∙ (λ i. x i ∷ y i ∷ []) in
-    record { behind = behind; words_are = refl; arguments = record { plain_are = sym same ∙ are.plain_are; option_is = are.option_is } }
+-- words by the ids, of which each has one
+pub named-same : (f : Found) (ids words others : List (List ℕ)) → AreNamed f ids words → AreNamed f ids others → words ≡ others
+named-same f [] [] [] is it = refl
+named-same f [] [] (w ∷ others) is it = absurd it
+named-same f [] (v ∷ words) others is it = absurd is
+named-same f (id ∷ ids) [] others is it = absurd is
+named-same f (id ∷ ids) (v ∷ words) [] is it = absurd it
+named-same f (id ∷ ids) (v ∷ words) (w ∷ others) is it =
+    let a = same-word (first_value f id) v w is.0 it.0 in
+    let b = named-same f ids words others is.1 it.1 in
+    λ i. a i ∷ b i
 
--- the plain words of `settle` are two
-pub two-plain : (behind words : List (List ℕ)) (json : Bool) → AreArguments (Some (codes "--json")) behind words json → (length words ≡ 2 → ⊥) → IsNoCommand (codes "settle" ∷ behind)
-two-plain behind words json are other = λ command is.
-    settled command (codes "settle" ∷ behind) is refl
-  where
-    settled : (command : Command) (all : List (List ℕ)) → Spells command all → all ≡ codes "settle" ∷ behind → ⊥
-    settled (Fold terms log) all is e = let bad = sym is.words_are ∙ e in cc
-    settled (Check auction) all is e = let bad = sym is.words_are ∙ e in cc
-    settled (Standing auction journals) all is e = let bad = sym is.words_are ∙ e in cc
-    settled (Trial auction values) all is e = let bad = sym is.words_are ∙ e in cc
-    settled (Make number) all is e = let bad = sym is.words_are ∙ e in cc
-    settled (Settle auction journals given) all is e =
-        let w : codes "settle" ∷ is.behind ≡ codes "settle" ∷ behind = sym is.words_are ∙ e in
-        let b : is.behind ≡ behind = cc in
-        let p : words ≡ auction ∷ journals ∷ [] = are.plain_are ∙ ap plain_in (sym b) ∙ sym is.arguments.plain_are in
-        other (ap length p)
+pub named-some : (f : Found) (ids words : List (List ℕ)) → AreNamed f ids words → AllByRecursion (λ id. IsSome (first_value f id)) ids
+named-some f [] words is = tt
+named-some f (id ∷ ids) [] is = absurd is
+named-some f (id ∷ ids) (word ∷ words) is = (there (first_value f id) word is.0, named-some f ids words is.1)
 
-pub spells-trial : (f : Found) (a b auction values : List ℕ) (words : List (List ℕ)) → AreNamed f (a ∷ b ∷ []) words → first_value f a ≡ Some auction → first_value f b ≡ Some values → AllByRecursion IsPlainWord words
-    → IsTrialWords auction values (codes "trial" ∷ words)
-spells-trial f a b auction values words named auction_is values_are plain =
-    let two = two-words f a b words named in
-    let x = same-word (first_value f a) two.first auction two.first_is auction_is in
-    let y = same-word (first_value f b) two.second values two.second_is values_are in
-    let same : words ≡ auction ∷ values ∷ [] = two.words_are ∙ (λ i. x i ∷ y i ∷ []) in
-    let P : List (List ℕ) → Type 0 = λ ws. AllByRecursion IsPlainWord ws in
-    let all = subst P same plain in
-    record { words_are = ap (λ ws. codes "trial" ∷ ws) same; auction_is = all.0; values_are = all.1.0 }
+-- the arguments behind a name, where the plain words are these
+other-plain : (name : List ℕ) (behind plain words options : List (List ℕ)) → plain ≡ words → AreArguments name behind plain options → AreArguments name behind words options
+other-plain name behind plain words options e are = let P : List (List ℕ) → Type 0 = λ ws. AreArguments name behind ws options in subst P e are
 
-pub spells-make : (f : Found) (a word : List ℕ) (number : ℕ) (words : List (List ℕ)) → AreNamed f (a ∷ []) words → first_value f a ≡ Some word → word ≡ decimal number → number ≤ 2 ^ 32 - 1 → IsMakeWords number (codes "make" ∷ words)
-spells-make f a word number words named is digits few =
-    let one = one-word f a words named in
-    let same : words ≡ decimal number ∷ [] = one.words_are ∙ ap (λ w. w ∷ []) (same-word (first_value f a) one.word word one.word_is is ∙ digits) in
-    record { words_are = ap (λ ws. codes "make" ∷ ws) same; few = omega arith }
+pub spells-settle : (f : Found) (auction journals : List ℕ) (json : Bool) (line words options : List (List ℕ)) → AreNamed f (codes "AUCTION" ∷ codes "JOURNALS" ∷ []) words → first_value f (codes "AUCTION") ≡ Some auction → first_value f (codes "JOURNALS") ≡ Some journals
+    → IsParted line (codes "settle") words options → HasFlag (codes "--json") options json → IsSettle auction journals json line
+spells-settle f auction journals json line words options named auction_is journals_are parted flag =
+    let same = named-same f (codes "AUCTION" ∷ codes "JOURNALS" ∷ []) words (auction ∷ journals ∷ []) named (auction_is, (journals_are, tt)) in
+    record {
+      behind = parted.behind;
+      options = options;
+      words_are = parted.words_are;
+      arguments = other-plain (codes "settle") parted.behind words (auction ∷ journals ∷ []) options same parted.arguments;
+      json_is = flag;
+    }
+
+pub spells-trial : (f : Found) (auction values : List ℕ) (workers : ℕ) (line words options : List (List ℕ)) → AreNamed f (codes "AUCTION" ∷ codes "VALUES" ∷ []) words → first_value f (codes "AUCTION") ≡ Some auction → first_value f (codes "VALUES") ≡ Some values
+    → IsParted line (codes "trial") words options → IsNumberOption (codes "--workers=") 1 64 1 workers options → IsTrialWords auction values workers line
+spells-trial f auction values workers line words options named auction_is values_are parted number =
+    let same = named-same f (codes "AUCTION" ∷ codes "VALUES" ∷ []) words (auction ∷ values ∷ []) named (auction_is, (values_are, tt)) in
+    record {
+      behind = parted.behind;
+      options = options;
+      words_are = parted.words_are;
+      arguments = other-plain (codes "trial") parted.behind words (auction ∷ values ∷ []) options same parted.arguments;
+      workers_are = number;
+    }
+
+pub spells-make : (f : Found) (word : List ℕ) (number workers : ℕ) (line words options : List (List ℕ)) → AreNamed f (codes "NUMBER" ∷ []) words → first_value f (codes "NUMBER") ≡ Some word → word ≡ decimal number → number ≤ 2 ^ 32 - 1
+    → IsParted line (codes "make") words options → IsNumberOption (codes "--workers=") 1 64 1 workers options → IsMakeWords number workers line
+spells-make f word number workers line words options named is digits few parted option =
+    let same = named-same f (codes "NUMBER" ∷ []) words (decimal number ∷ []) named (is ∙ ap Some digits, tt) in
+    record {
+      behind = parted.behind;
+      options = options;
+      words_are = parted.words_are;
+      arguments = other-plain (codes "make") parted.behind words (decimal number ∷ []) options same parted.arguments;
+      few = omega arith;
+      workers_are = option;
+    }
+
+pub spells-serve : (f : Found) (auction journals : List ℕ) (s : Serving) (line words options : List (List ℕ)) → AreNamed f (codes "AUCTION" ∷ codes "JOURNALS" ∷ codes "ADDRESS" ∷ []) words
+    → first_value f (codes "AUCTION") ≡ Some auction → first_value f (codes "JOURNALS") ≡ Some journals → first_value f (codes "ADDRESS") ≡ Some s.address
+    → IsParted line (codes "serve") words options → IsNumberOption (codes "--doors=") 1 64 4 s.doors options → IsNumberOption (codes "--sessions=") 1 10000 1 s.sessions options → IsServeWords auction journals s line
+spells-serve f auction journals s line words options named auction_is journals_are address_is parted doors sessions =
+    let same = named-same f (codes "AUCTION" ∷ codes "JOURNALS" ∷ codes "ADDRESS" ∷ []) words (auction ∷ journals ∷ s.address ∷ []) named (auction_is, (journals_are, (address_is, tt))) in
+    record {
+      behind = parted.behind;
+      options = options;
+      words_are = parted.words_are;
+      arguments = other-plain (codes "serve") parted.behind words (auction ∷ journals ∷ s.address ∷ []) options same parted.arguments;
+      doors_are = doors;
+      sessions_are = sessions;
+    }
+
+pub spells-bid : (f : Found) (looks : ℕ) (command : Command) (line words options : List (List ℕ)) → AreNamed f bid_ids words → IsBidOf f looks command → IsParted line (codes "bid") words options
+    → IsNumberOption (codes "--looks=") 1 1000000000 100000 looks options → Spells command line
+spells-bid f looks command line words options named is parted number =
+    let b = is.part in
+    let same = named-same f bid_ids words (is.auction ∷ is.values ∷ decimal b.bidder ∷ b.token ∷ b.address ∷ []) named (is.auction_is, (is.values_are, (is.bidder_is, (is.token_is, (is.address_is, tt))))) in
+    let P : Command → Type 0 = λ c. Spells c line in
+    let Q : ℕ → Type 0 = λ n. IsNumberOption (codes "--looks=") 1 1000000000 100000 n options in
+    subst P (sym is.command_is) (record {
+      behind = parted.behind;
+      options = options;
+      words_are = parted.words_are;
+      arguments = other-plain (codes "bid") parted.behind words (is.auction ∷ is.values ∷ decimal b.bidder ∷ b.token ∷ b.address ∷ []) options same parted.arguments;
+      bidder_is = is.bidder_range;
+      token_is = is.token_range;
+      looks_are = subst Q (sym is.looks_are) number;
+    })
+
+-- words of which the first is the name of a command, and the others are not what it takes
+
+pub no-settle : (line plain options : List (List ℕ)) → IsParted line (codes "settle") plain options → ((auction journals : List ℕ) (json : Bool) → plain ≡ auction ∷ journals ∷ [] → HasFlag (codes "--json") options json → ⊥) → IsNoCommand line
+no-settle line plain options parted none = λ command is.
+    let o = of-name command line (codes "settle") parted.behind settle is parted.words_are refl in
+    let P : Command → Type 0 = λ c. Spells c line in
+    let it : IsSettle o.0 o.1 o.2 line = subst P o.3 is in
+    let same = same-arguments (codes "settle") line parted.behind it.behind plain options (o.0 ∷ o.1 ∷ []) it.options parted.words_are it.words_are parted.arguments it.arguments in
+    let Q : List (List ℕ) → Type 0 = λ ws. HasFlag (codes "--json") ws o.2 in
+    none o.0 o.1 o.2 same.plain_same (subst Q (sym same.options_same) it.json_is)
+
+pub no-trial : (line plain options : List (List ℕ)) → IsParted line (codes "trial") plain options → ((auction values : List ℕ) (workers : ℕ) → plain ≡ auction ∷ values ∷ [] → IsNumberOption (codes "--workers=") 1 64 1 workers options → ⊥) → IsNoCommand line
+no-trial line plain options parted none = λ command is.
+    let o = of-name command line (codes "trial") parted.behind trial is parted.words_are refl in
+    let P : Command → Type 0 = λ c. Spells c line in
+    let it : IsTrialWords o.0 o.1 o.2 line = subst P o.3 is in
+    let same = same-arguments (codes "trial") line parted.behind it.behind plain options (o.0 ∷ o.1 ∷ []) it.options parted.words_are it.words_are parted.arguments it.arguments in
+    let Q : List (List ℕ) → Type 0 = λ ws. IsNumberOption (codes "--workers=") 1 64 1 o.2 ws in
+    none o.0 o.1 o.2 same.plain_same (subst Q (sym same.options_same) it.workers_are)
+
+pub no-make : (line plain options : List (List ℕ)) → IsParted line (codes "make") plain options
+    → ((number workers : ℕ) → number < 2 ^ 32 → plain ≡ decimal number ∷ [] → IsNumberOption (codes "--workers=") 1 64 1 workers options → ⊥) → IsNoCommand line
+no-make line plain options parted none = λ command is.
+    let o = of-name command line (codes "make") parted.behind make is parted.words_are refl in
+    let P : Command → Type 0 = λ c. Spells c line in
+    let it : IsMakeWords o.0 o.1 line = subst P o.2 is in
+    let same = same-arguments (codes "make") line parted.behind it.behind plain options (decimal o.0 ∷ []) it.options parted.words_are it.words_are parted.arguments it.arguments in
+    let Q : List (List ℕ) → Type 0 = λ ws. IsNumberOption (codes "--workers=") 1 64 1 o.1 ws in
+    none o.0 o.1 it.few same.plain_same (subst Q (sym same.options_same) it.workers_are)
+
+pub no-serve : (line plain options : List (List ℕ)) → IsParted line (codes "serve") plain options
+    → ((auction journals address : List ℕ) (doors sessions : ℕ) → plain ≡ auction ∷ journals ∷ address ∷ [] → IsNumberOption (codes "--doors=") 1 64 4 doors options → IsNumberOption (codes "--sessions=") 1 10000 1 sessions options → ⊥)
+    → IsNoCommand line
+no-serve line plain options parted none = λ command is.
+    let o = of-name command line (codes "serve") parted.behind serve is parted.words_are refl in
+    let P : Command → Type 0 = λ c. Spells c line in
+    let s : Serving = o.2 in
+    let it : IsServeWords o.0 o.1 s line = subst P o.3 is in
+    let same = same-arguments (codes "serve") line parted.behind it.behind plain options (o.0 ∷ o.1 ∷ s.address ∷ []) it.options parted.words_are it.words_are parted.arguments it.arguments in
+    let Q : List (List ℕ) → Type 0 = λ ws. IsNumberOption (codes "--doors=") 1 64 4 s.doors ws in
+    let R : List (List ℕ) → Type 0 = λ ws. IsNumberOption (codes "--sessions=") 1 10000 1 s.sessions ws in
+    none o.0 o.1 s.address s.doors s.sessions same.plain_same (subst Q (sym same.options_same) it.doors_are) (subst R (sym same.options_same) it.sessions_are)
+
+pub no-bid : (line plain options : List (List ℕ)) → IsParted line (codes "bid") plain options
+    → ((auction values token address : List ℕ) (bidder looks : ℕ) → IsRange 1 12 bidder → IsRange 1 64 (length token) → plain ≡ auction ∷ values ∷ decimal bidder ∷ token ∷ address ∷ [] → IsNumberOption (codes "--looks=") 1 1000000000 100000 looks options → ⊥)
+    → IsNoCommand line
+no-bid line plain options parted none = λ command is.
+    let o = of-name command line (codes "bid") parted.behind bid is parted.words_are refl in
+    let P : Command → Type 0 = λ c. Spells c line in
+    let b : Bidding = o.2 in
+    let it : IsBidWords o.0 o.1 b line = subst P o.3 is in
+    let same = same-arguments (codes "bid") line parted.behind it.behind plain options (o.0 ∷ o.1 ∷ decimal b.bidder ∷ b.token ∷ b.address ∷ []) it.options parted.words_are it.words_are parted.arguments it.arguments in
+    let Q : List (List ℕ) → Type 0 = λ ws. IsNumberOption (codes "--looks=") 1 1000000000 100000 b.looks ws in
+    none o.0 o.1 b.token b.address b.bidder b.looks it.bidder_is it.token_is same.plain_same (subst Q (sym same.options_same) it.looks_are)
+
+-- the words that five ids have are not those of a part in which the bidder or the token is none
+pub no-part : (f : Found) (words : List (List ℕ)) (auction values token address : List ℕ) (bidder : ℕ) → AreNamed f bid_ids words → words ≡ auction ∷ values ∷ decimal bidder ∷ token ∷ address ∷ []
+    → (first_value f (codes "BIDDER") ≡ Some (decimal bidder)) × (first_value f (codes "TOKEN") ≡ Some token)
+no-part f words auction values token address bidder named are =
+    let P : List (List ℕ) → Type 0 = λ ws. AreNamed f bid_ids ws in
+    let n = subst P are named in
+    (n.1.1.0, n.1.1.1.0)
+
+pub one-plain : (f : Found) (id word other : List ℕ) (words : List (List ℕ)) → AreNamed f (id ∷ []) words → first_value f id ≡ Some word → words ≡ other ∷ [] → word ≡ other
+one-plain f id word other words named is are =
+    let P : List (List ℕ) → Type 0 = λ ws. AreNamed f (id ∷ []) ws in
+    same-word (first_value f id) word other is (subst P are named).0

@@ -1,13 +1,18 @@
--- Words are one command at most. A row for each command, and none for two: the kind of a command is that of its first word.
-use Rattle.std.proofs.Common.{◌≡◌, ◌∙◌, ℕ, Bool, true, false, List, [], ◌∷◌, Option, Some, None, cond, refl, sym, ap, subst, arith, decimal}
+-- Words are one command at most. A row for each command, and none for two.
+use Rattle.std.proofs.Common.{◌≡◌, ◌∙◌, ℕ, Bool, List, [], ◌∷◌, refl, sym, ap, subst, arith, decimal}
 use Rattle.std.proofs.lemmas.Fmt.{decimal_injective}
 use Rattle.std.proofs.Props.{props}
 use Rattle.lot_base.specs.Goods.{IsOpening, IsRange, IsSupply, zeros}
-use Rattle.std.specs.Prelude.{codes, bytes_eq}
+use Rattle.std.specs.Prelude.{codes}
 use Rattle.lot_base.specs.declared.auction_terms.Terms.{Terms}
 use Rattle.house_run.specs.CheckCommand.{IsCheck}
-use Rattle.house_run.specs.Commands.{Check, Command, Fold, Make, Settle, Spells, Standing, Trial}
-use Rattle.house_run.specs.Arguments.{HasOption, others_in, plain_in}
+use Rattle.house_run.specs.Commands.{Bid, Check, Command, Fold, Make, Serve, Settle, Spells, Standing, Trial}
+use Rattle.house_run.specs.Arguments.{HasFlag}
+use Rattle.house_run.specs.Needs.{Bidding, Serving}
+use Rattle.house_run.specs.NetWords.{IsBidWords, IsServeWords}
+use Rattle.house_run.proofs.CommandKinds.{same-kind}
+use Rattle.house_run.proofs.Parting.{same-arguments}
+use Rattle.house_run.proofs.OptionWords.{flag-once, same-number}
 use Rattle.house_run.specs.SettleCommand.{IsSettle}
 use Rattle.house_run.specs.StandingCommand.{IsStanding}
 use Rattle.house_run.specs.TrialCommand.{IsTrialWords}
@@ -91,62 +96,6 @@ fold-once t u log name words is it =
       same_log = l;
     }
 
-data Kind : Type 0 where
-  fold : Kind
-  check : Kind
-  standing : Kind
-  settle : Kind
-  trial : Kind
-  make : Kind
-
-abbrev kind_of : Command → Kind
-kind_of (Fold terms log) = fold
-kind_of (Check auction) = check
-kind_of (Standing auction journals) = standing
-kind_of (Settle auction journals json) = settle
-kind_of (Trial auction values) = trial
-kind_of (Make number) = make
-
-abbrev kind_in : List (List ℕ) → Option Kind
-kind_in [] = None
-kind_in (name ∷ behind) =
-    cond (bytes_eq name (codes "fold")) (Some fold)
-    (cond (bytes_eq name (codes "check")) (Some check)
-    (cond (bytes_eq name (codes "standing")) (Some standing)
-    (cond (bytes_eq name (codes "settle")) (Some settle)
-    (cond (bytes_eq name (codes "trial")) (Some trial)
-    (cond (bytes_eq name (codes "make")) (Some make) None)))))
-
-kind-spelled : (command : Command) (words : List (List ℕ)) → Spells command words → kind_in words ≡ Some (kind_of command)
-kind-spelled (Fold terms log) words is = ap kind_in is.words_are
-kind-spelled (Check auction) words is = ap kind_in is.words_are
-kind-spelled (Standing auction journals) words is = ap kind_in is.words_are
-kind-spelled (Settle auction journals json) words is = ap kind_in is.words_are
-kind-spelled (Trial auction values) words is = ap kind_in is.words_are
-kind-spelled (Make number) words is = ap kind_in is.words_are
-
-abbrev IsOf : Kind → Command → Type 0
-IsOf fold command = (terms : Terms) × (log : List ℕ) × (command ≡ Fold terms log)
-IsOf check command = (auction : List ℕ) × (command ≡ Check auction)
-IsOf standing command = (auction : List ℕ) × (journals : List ℕ) × (command ≡ Standing auction journals)
-IsOf settle command = (auction : List ℕ) × (journals : List ℕ) × (json : Bool) × (command ≡ Settle auction journals json)
-IsOf trial command = (auction : List ℕ) × (values : List ℕ) × (command ≡ Trial auction values)
-IsOf make command = (number : ℕ) × (command ≡ Make number)
-
-is-of : (command : Command) → IsOf (kind_of command) command
-is-of (Fold terms log) = (terms, log, refl)
-is-of (Check auction) = (auction, refl)
-is-of (Standing auction journals) = (auction, journals, refl)
-is-of (Settle auction journals json) = (auction, journals, json, refl)
-is-of (Trial auction values) = (auction, values, refl)
-is-of (Make number) = (number, refl)
-
-same-kind : (one other : Command) (words : List (List ℕ)) → Spells one words → Spells other words → IsOf (kind_of one) other
-same-kind one other words is it =
-    let e : Some (kind_of other) ≡ Some (kind_of one) = sym (kind-spelled other words it) ∙ kind-spelled one words is in
-    let k : kind_of other ≡ kind_of one = cc in
-    subst (λ kind. IsOf kind other) k (is-of other)
-
 check-once : (one other : List ℕ) (words : List (List ℕ)) → IsCheck one words → IsCheck other words → one ≡ other
 check-once one other words is it = let e : codes "check" ∷ one ∷ [] ≡ codes "check" ∷ other ∷ [] = sym is.words_are ∙ it.words_are in cc
 
@@ -157,35 +106,58 @@ standing-once one prefix other journals words is it =
     let j : prefix ≡ journals = cc in
     λ i. Standing (a i) (j i)
 
-option-once : (option : List ℕ) (others : List (List ℕ)) (one other : Bool) → HasOption (Some option) others one → HasOption (Some option) others other → one ≡ other
-option-once option others false false is it = refl
-option-once option others false true is it = let bad : [] ≡ option ∷ [] = sym is ∙ it in cc
-option-once option others true false is it = let bad : [] ≡ option ∷ [] = sym it ∙ is in cc
-option-once option others true true is it = refl
-
 settle-once : (one prefix other journals : List ℕ) (given json : Bool) (words : List (List ℕ)) → IsSettle one prefix given words → IsSettle other journals json words → Settle one prefix given ≡ Settle other journals json
 settle-once one prefix other journals given json words is it =
-    let e : codes "settle" ∷ is.behind ≡ codes "settle" ∷ it.behind = sym is.words_are ∙ it.words_are in
-    let b : is.behind ≡ it.behind = cc in
-    let p : one ∷ prefix ∷ [] ≡ other ∷ journals ∷ [] = is.arguments.plain_are ∙ ap plain_in b ∙ sym it.arguments.plain_are in
+    let same = same-arguments (codes "settle") words is.behind it.behind (one ∷ prefix ∷ []) is.options (other ∷ journals ∷ []) it.options is.words_are it.words_are is.arguments it.arguments in
+    let p : one ∷ prefix ∷ [] ≡ other ∷ journals ∷ [] = same.plain_same in
     let a : one ≡ other = cc in
     let j : prefix ≡ journals = cc in
-    let P : List (List ℕ) → Type 0 = λ behind. HasOption (Some (codes "--json")) (others_in behind) given in
-    let g : given ≡ json = option-once (codes "--json") (others_in it.behind) given json (subst P b is.arguments.option_is) it.arguments.option_is in
+    let P : List (List ℕ) → Type 0 = λ options. HasFlag (codes "--json") options given in
+    let g : given ≡ json = flag-once (codes "--json") it.options given json (subst P same.options_same is.json_is) it.json_is in
     λ i. Settle (a i) (j i) (g i)
 
-trial-once : (one values other valuations : List ℕ) (words : List (List ℕ)) → IsTrialWords one values words → IsTrialWords other valuations words → Trial one values ≡ Trial other valuations
-trial-once one values other valuations words is it =
-    let e : codes "trial" ∷ one ∷ values ∷ [] ≡ codes "trial" ∷ other ∷ valuations ∷ [] = sym is.words_are ∙ it.words_are in
+trial-once : (one values other valuations : List ℕ) (n m : ℕ) (words : List (List ℕ)) → IsTrialWords one values n words → IsTrialWords other valuations m words → Trial one values n ≡ Trial other valuations m
+trial-once one values other valuations n m words is it =
+    let same = same-arguments (codes "trial") words is.behind it.behind (one ∷ values ∷ []) is.options (other ∷ valuations ∷ []) it.options is.words_are it.words_are is.arguments it.arguments in
+    let p : one ∷ values ∷ [] ≡ other ∷ valuations ∷ [] = same.plain_same in
     let a : one ≡ other = cc in
     let v : values ≡ valuations = cc in
-    λ i. Trial (a i) (v i)
+    let w : n ≡ m = same-number (codes "--workers=") 1 64 1 n m is.options it.options (omega arith) same.options_same is.workers_are it.workers_are in
+    λ i. Trial (a i) (v i) (w i)
 
-make-once : (one other : ℕ) (words : List (List ℕ)) → IsMakeWords one words → IsMakeWords other words → one ≡ other
-make-once one other words is it =
-    let e : codes "make" ∷ decimal one ∷ [] ≡ codes "make" ∷ decimal other ∷ [] = sym is.words_are ∙ it.words_are in
+make-once : (one other n m : ℕ) (words : List (List ℕ)) → IsMakeWords one n words → IsMakeWords other m words → Make one n ≡ Make other m
+make-once one other n m words is it =
+    let same = same-arguments (codes "make") words is.behind it.behind (decimal one ∷ []) is.options (decimal other ∷ []) it.options is.words_are it.words_are is.arguments it.arguments in
+    let p : decimal one ∷ [] ≡ decimal other ∷ [] = same.plain_same in
     let d : decimal one ≡ decimal other = cc in
-    decimal_injective one other (let f = is.few in omega arith) (let f = it.few in omega arith) d
+    let a : one ≡ other = decimal_injective one other (let f = is.few in omega arith) (let f = it.few in omega arith) d in
+    let w : n ≡ m = same-number (codes "--workers=") 1 64 1 n m is.options it.options (omega arith) same.options_same is.workers_are it.workers_are in
+    λ i. Make (a i) (w i)
+
+serve-once : (one prefix other journals : List ℕ) (s t : Serving) (words : List (List ℕ)) → IsServeWords one prefix s words → IsServeWords other journals t words → Serve one prefix s ≡ Serve other journals t
+serve-once one prefix other journals s t words is it =
+    let same = same-arguments (codes "serve") words is.behind it.behind (one ∷ prefix ∷ s.address ∷ []) is.options (other ∷ journals ∷ t.address ∷ []) it.options is.words_are it.words_are is.arguments it.arguments in
+    let p : one ∷ prefix ∷ s.address ∷ [] ≡ other ∷ journals ∷ t.address ∷ [] = same.plain_same in
+    let a : one ≡ other = cc in
+    let j : prefix ≡ journals = cc in
+    let x : s.address ≡ t.address = cc in
+    let d : s.doors ≡ t.doors = same-number (codes "--doors=") 1 64 4 s.doors t.doors is.options it.options (omega arith) same.options_same is.doors_are it.doors_are in
+    let n : s.sessions ≡ t.sessions = same-number (codes "--sessions=") 1 10000 1 s.sessions t.sessions is.options it.options (omega arith) same.options_same is.sessions_are it.sessions_are in
+    λ i. Serve (a i) (j i) (record { address = x i; doors = d i; sessions = n i })
+
+bid-once : (one values other valuations : List ℕ) (b d : Bidding) (words : List (List ℕ)) → IsBidWords one values b words → IsBidWords other valuations d words → Bid one values b ≡ Bid other valuations d
+bid-once one values other valuations b d words is it =
+    let same = same-arguments (codes "bid") words is.behind it.behind (one ∷ values ∷ decimal b.bidder ∷ b.token ∷ b.address ∷ []) is.options (other ∷ valuations ∷ decimal d.bidder ∷ d.token ∷ d.address ∷ []) it.options
+    is.words_are it.words_are is.arguments it.arguments in
+    let p : one ∷ values ∷ decimal b.bidder ∷ b.token ∷ b.address ∷ [] ≡ other ∷ valuations ∷ decimal d.bidder ∷ d.token ∷ d.address ∷ [] = same.plain_same in
+    let a : one ≡ other = cc in
+    let v : values ≡ valuations = cc in
+    let digits : decimal b.bidder ≡ decimal d.bidder = cc in
+    let t : b.token ≡ d.token = cc in
+    let x : b.address ≡ d.address = cc in
+    let n : b.bidder ≡ d.bidder = decimal_injective b.bidder d.bidder (let f = is.bidder_is.at_most in omega arith) (let f = it.bidder_is.at_most in omega arith) digits in
+    let l : b.looks ≡ d.looks = same-number (codes "--looks=") 1 1000000000 100000 b.looks d.looks is.options it.options (omega arith) same.options_same is.looks_are it.looks_are in
+    λ i. Bid (a i) (v i) (record { bidder = n i; token = t i; address = x i; looks = l i })
 
 -- the words of one command are those of no other
 pub spelled-once : (one other : Command) (words : List (List ℕ)) → Spells one words → Spells other words → one ≡ other
@@ -206,11 +178,19 @@ spelled-once (Settle auction journals json) other words is it =
     let o = same-kind (Settle auction journals json) other words is it in
     let P : Command → Type 0 = λ c. Spells c words in
     settle-once auction journals o.0 o.1 json o.2 words is (subst P o.3 it) ∙ sym o.3
-spelled-once (Trial auction values) other words is it =
-    let o = same-kind (Trial auction values) other words is it in
+spelled-once (Trial auction values workers) other words is it =
+    let o = same-kind (Trial auction values workers) other words is it in
     let P : Command → Type 0 = λ c. Spells c words in
-    trial-once auction values o.0 o.1 words is (subst P o.2 it) ∙ sym o.2
-spelled-once (Make number) other words is it =
-    let o = same-kind (Make number) other words is it in
+    trial-once auction values o.0 o.1 workers o.2 words is (subst P o.3 it) ∙ sym o.3
+spelled-once (Make number workers) other words is it =
+    let o = same-kind (Make number workers) other words is it in
     let P : Command → Type 0 = λ c. Spells c words in
-    ap Make (make-once number o.0 words is (subst P o.1 it)) ∙ sym o.1
+    make-once number o.0 workers o.1 words is (subst P o.2 it) ∙ sym o.2
+spelled-once (Serve auction journals s) other words is it =
+    let o = same-kind (Serve auction journals s) other words is it in
+    let P : Command → Type 0 = λ c. Spells c words in
+    serve-once auction journals o.0 o.1 s o.2 words is (subst P o.3 it) ∙ sym o.3
+spelled-once (Bid auction values b) other words is it =
+    let o = same-kind (Bid auction values b) other words is it in
+    let P : Command → Type 0 = λ c. Spells c words in
+    bid-once auction values o.0 o.1 b o.2 words is (subst P o.3 it) ∙ sym o.3

@@ -1,6 +1,6 @@
 -- Sums over the rows of an outcome, and the lines that have them.
 use Rattle.std.proofs.Common.{◌≡◌, ◌<◌, ◌+◌, ◌++◌, ℕ, zero, suc, List, [], ◌∷◌, length, get_or, drop, refl, sym, ap, ◌∙◌, arith, append_assoc, append-nil}
-use Rattle.std.specs.Prelude.{ℤ, pos, ◌+ℤ◌, codes, decimal}
+use Rattle.std.specs.Prelude.{ℤ, ◌+ℤ◌, codes, decimal}
 use Rattle.std.specs.Fmt.{signed_decimal}
 use Rattle.std.proofs.lemmas.Int.{ints}
 use Rattle.settlement.specs.declared.outcome.AwardRow.{AwardRow}

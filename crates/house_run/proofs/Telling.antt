@@ -1,12 +1,14 @@
 -- What a file that was read gives, and which texts were written.
-use Rattle.std.proofs.Common.{◌≡◌, ◌≢◌, inl, inr, ℕ, List, Ok, Err, sym, ap, subst, ◌∙◌}
+use Rattle.std.proofs.Common.{◌≡◌, ◌≢◌, inl, inr, ℕ, List, Ok, Err, Result, Vec, Global, arith, sym, ap, subst, ◌∙◌}
 use Rattle.auction_file.specs.AuctionFile.{Listing, auction_of}
 use Rattle.auction_file.specs.declared.faults.AuctionFault.{AuctionFault}
 use Rattle.auction_file.specs.declared.faults.AuctionFault.TheVariants as refused
-use Rattle.house_run.specs.Causes.{IsBadAuction, MayEnd}
-use Rattle.house_run.specs.Commands.{Command, IsDone, Spells, needs_of}
-use Rattle.house_run.specs.Ends.{CommandEnds, RunEnds, Wrote, WroteLine}
-use Rattle.house_run.specs.Frame.{Frame}
+use Rattle.house_run.specs.Causes.{IsBadAuction}
+use Rattle.house_run.specs.Commands.{Bid, Check, Command, Fold, IsDone, IsReady, Make, Serve, Settle, Spells, Standing, Trial, needs_of}
+use Rattle.house_run.specs.Ends.{CommandEnds, CommandFrame, JobAnswer, RunEnds, ShelfAnswer, Wrote, WroteLine, as_seen}
+use Rattle.house_run.specs.NetEnds.{Ends, NetFrame}
+use Rattle.house_run.specs.Needs.{Needs}
+use Rattle.house_run.specs.Nets.{NetSeen, IsNetUntouched}
 use Rattle.house_run.specs.Seen.{Outside, ShelfSeen, SinkSeen, IsAuctionAt, IsRead, auction_limit}
 use Rattle.house_run.specs.declared.ends.Ended.{Ended}
 use Rattle.house_run.specs.declared.ends.Ended.TheVariants as how
@@ -24,17 +26,32 @@ pub same-end : (sink : SinkSeen) (end made answer : Ended) → end ≡ made → 
 same-end sink end made answer e wrote = let P : Ended → Type 0 = λ x. WroteLine sink x answer in subst P (sym e) wrote
 
 -- the text of a job that was done is written
-pub job-done : (command : Command) (seen : Outside) (sink : SinkSeen) (text written : List ℕ) (answer : Ended) → IsDone command seen text → Frame (needs_of command) how.Done seen → written ≡ text
-    → Wrote sink how.Done written answer → CommandEnds command seen sink answer
-job-done command seen sink text written answer done frame same wrote =
+pub job-done : (command : Command) (seen : Outside) (net : NetSeen) (sink : SinkSeen) (text written : List ℕ) (answer : Ended) → IsDone command seen net text → CommandFrame command how.Done seen → NetFrame (needs_of command) how.Done net → written ≡ text
+    → Wrote sink how.Done written answer → CommandEnds command seen net sink answer
+job-done command seen net sink text written answer done frame net_frame same wrote =
     let P : List ℕ → Type 0 = λ t. Wrote sink how.Done t answer in
-    inl (record { text = text; done = done; frame = frame; wrote = subst P same wrote })
+    inl (record { text = text; done = done; frame = frame; net_frame = net_frame; wrote = subst P same wrote })
 
 -- the line of another end is written, or memory for it ran out
-pub job-ends : (command : Command) (seen : Outside) (sink : SinkSeen) (end answer : Ended) → MayEnd (needs_of command) seen end → Frame (needs_of command) end seen
-    → WroteLine sink end answer → CommandEnds command seen sink answer
-job-ends command seen sink end answer cause frame wrote = inr (record { end = end; cause = cause; frame = frame; wrote = wrote })
+pub job-ends : (command : Command) (seen : Outside) (net : NetSeen) (sink : SinkSeen) (end answer : Ended) → Ends (needs_of command) (as_seen command seen) net end → CommandFrame command end seen → NetFrame (needs_of command) end net
+    → WroteLine sink end answer → CommandEnds command seen net sink answer
+job-ends command seen net sink end answer cause frame net_frame wrote = inr (record { end = end; cause = cause; frame = frame; net_frame = net_frame; wrote = wrote })
 
 -- the words are this command, and it ends
-pub command-ends : (command : Command) (words : List (List ℕ)) (seen : Outside) (sink : SinkSeen) (answer : Ended) → Spells command words → CommandEnds command seen sink answer → RunEnds words seen sink answer
-command-ends command words seen sink answer spelled ends = inr (inl (record { command = command; spelled = spelled; ends = ends }))
+pub command-ends : (command : Command) (words : List (List ℕ)) (seen : Outside) (net : NetSeen) (sink : SinkSeen) (answer : Ended) → Spells command words → CommandEnds command seen net sink answer → RunEnds words seen net sink answer
+command-ends command words seen net sink answer spelled ends = inr (inl (record { command = command; spelled = spelled; ends = ends }))
+
+-- a job that goes to the shelf alone answers as its command does
+pub on-shelf : (command : Command) (Done : ShelfSeen → List ℕ → Type 0) (seen : Outside) (net : NetSeen) (result : Result (Vec ℕ Global) Ended) → as_seen command seen ≡ seen → ((text : List ℕ) → Done seen.shelf text → IsDone command seen net text)
+    → ShelfAnswer Done (needs_of command) seen result → JobAnswer command seen net result
+on-shelf command Done seen net (Ok text) same done answer = done text.items answer
+on-shelf command Done seen net (Err end) same done answer = subst (λ (x : Outside). Ends (needs_of command) x net end) (sym same) (inl answer)
+
+-- and leaves the net as it was
+pub left-alone : (needs : Needs) (end : Ended) (net : NetSeen) → IsNetUntouched net → NetFrame needs end net
+left-alone needs end net same = record {
+  quiet = λ other. same.1;
+  later = (let e = same.1 in omega arith);
+  untouched = λ no_bid no_serve. same;
+  early = λ clock no_bid ended. same;
+}

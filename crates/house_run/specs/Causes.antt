@@ -1,6 +1,6 @@
 -- How a run may end, end by end: which line is written, when the end may come, and of which faults it tells. A row speaks of what a
 -- command needs, so it serves every command, and an end that a command cannot have asks for what the command does not need.
-use Rattle.std.specs.Prelude.{◌≡◌, ◌≢◌, ◌≤◌, ◌⊎◌, ◌++◌, ⊤, ℕ, List, [], ◌∷◌, length, Err, codes, decimal}
+use Rattle.std.specs.Prelude.{◌≡◌, ◌≢◌, ◌≤◌, ◌⊎◌, ◌++◌, ⊤, ℕ, List, [], ◌∷◌, length, Err, codes, decimal, None}
 use Rattle.house_io.specs.Faults.{Rose}
 use Rattle.outcome_text.specs.Lines.{line, numerals}
 use Rattle.auction_file.specs.AuctionFile.{Listing, auction_of}
@@ -39,6 +39,11 @@ line_of (how.BadValues fault) = line (codes "bad" ∷ codes "values" ∷ decimal
 line_of (how.NotSubstitutes bidder x y good) =
     line (codes "not" ∷ codes "substitutes" ∷ codes "bidder" ∷ decimal bidder ∷ codes "x" ∷ numerals x ++ (codes "y" ∷ numerals y ++ (codes "good" ∷ decimal good ∷ [])))
 line_of (how.BadAuction fault) = line (codes "bad" ∷ codes "auction" ∷ decimal (number_of fault) ∷ [])
+line_of how.NetFault = codes "net fault\n"
+line_of (how.Refused code detail value) = line (codes "refused" ∷ codes "code" ∷ decimal code ∷ codes "detail" ∷ decimal detail ∷ codes "value" ∷ decimal value ∷ [])
+line_of (how.LooksSpent clock) = line (codes "looks" ∷ codes "spent" ∷ codes "clock" ∷ decimal clock ∷ [])
+line_of how.BadReply = codes "bad reply\n"
+line_of (how.NoBidder bidder) = line (codes "no" ∷ codes "bidder" ∷ decimal bidder ∷ [])
 
 -- the line of the end has a number, so that it takes memory
 abbrev pub HasNumber : Ended → Type 0
@@ -47,6 +52,8 @@ HasNumber how.NoMemory = ⊥
 HasNumber how.Usage = ⊥
 HasNumber how.ReadFault = ⊥
 HasNumber how.WriteFault = ⊥
+HasNumber how.NetFault = ⊥
+HasNumber how.BadReply = ⊥
 HasNumber (how.TooLong file) = ⊥
 HasNumber end = ⊤
 
@@ -77,7 +84,8 @@ pub record IsBadLog (log : Log) (place : ℕ) (shelf : ShelfSeen) : Type 0 where
   pub is_read : IsRead shelf log.name log_limit read
   pub faulty : IsFaultyAt log.terms read place
 
--- When a job may end so without a text. Usage and a write fault are no ends of a job, and want of memory is free.
+-- When a job may end so without a text, by what it found on the shelf. Usage and a write fault are no ends of a job, want of memory is free,
+-- and the ends by the net stand in a table of their own.
 abbrev pub MayEnd : Needs → Outside → Ended → Type 0
 MayEnd needs seen how.Done = ⊥
 MayEnd needs seen how.NoMemory = ⊤
@@ -94,9 +102,14 @@ MayEnd needs seen (how.TooLong which.Auction) = Has needs.auction (λ auction. I
 MayEnd needs seen (how.TooLong which.Log) = Has needs.log (λ log. IsTooLong seen.shelf log.name log_limit)
 MayEnd needs seen (how.TooLong which.Values) = Has needs.auction (λ auction. Has needs.values (λ values. IsTooLong seen.shelf values values_limit))
 MayEnd needs seen (how.BadValues fault) = Has needs.auction (λ auction. Has needs.values (λ values. IsBadValues seen.shelf auction values fault))
-MayEnd needs seen (how.NotSubstitutes bidder x y good) =
-    Has needs.auction (λ auction. Has needs.values (λ values. IsNotSubstitutesAt seen.shelf auction values bidder x y good)) ⊎ Has needs.number (λ number. IsNotSubstitutesOf number bidder x y good)
+MayEnd needs seen (how.NotSubstitutes bidder x y good) = (needs.bid ≡ None)
+    × (Has needs.auction (λ auction. Has needs.values (λ values. IsNotSubstitutesAt seen.shelf auction values bidder x y good)) ⊎ Has needs.number (λ number. IsNotSubstitutesOf number bidder x y good))
 MayEnd needs seen (how.BadLog place) = Has needs.log (λ log. IsBadLog log place seen.shelf)
+MayEnd needs seen how.NetFault = ⊥
+MayEnd needs seen (how.Refused code detail value) = ⊥
+MayEnd needs seen (how.LooksSpent clock) = ⊥
+MayEnd needs seen how.BadReply = ⊥
+MayEnd needs seen (how.NoBidder bidder) = ⊥
 
 -- the names whose faults the end tells; a fault under any other name is told by none
 abbrev pub Tells : Needs → Ended → List ℕ → Type 0

@@ -1,6 +1,6 @@
 -- How a run ends: what it answers, what it wrote, and why. A job, the command's own work, is done and has a text, or it ends otherwise;
 -- then the text or the line of that end is written, and only that may still fail.
-use Rattle.std.specs.Prelude.{◌≡◌, ◌<◌, ◌≤◌, ◌-◌, ◌^◌, ◌⊎◌, ℕ, List, [], ◌++◌, length, take, Result, Ok, Err, IfSome, Vec, ◌+◌, Bool, Some, IsTrue}
+use Rattle.std.specs.Prelude.{◌≡◌, ◌<◌, ◌≤◌, ◌-◌, ◌^◌, ◌⊎◌, ◌≢◌, ℕ, List, [], ◌++◌, length, take, Result, Ok, Err, IfSome, Vec, ◌+◌, Bool, Some, IsTrue, None}
 use Rattle.std.specs.declared.alloc.Global.{Global}
 use Rattle.house_io.specs.Faults.{Rose}
 use Rattle.house_io.specs.Told.{IfTold}
@@ -8,8 +8,12 @@ use Rattle.house_io.specs.Shelves.{NamedFile}
 use Rattle.lot_base.specs.declared.auction_terms.Terms.{Terms}
 use Rattle.auction_file.specs.AuctionFile.{Listing, auction_of}
 use Rattle.house_run.specs.Causes.{HasNumber, MayEnd, line_of}
-use Rattle.house_run.specs.Commands.{Command, IsDone, IsNoCommand, MayBeCommand, Spells, needs_of}
+use Rattle.house_run.specs.Commands.{Command, IsDone, IsNoCommand, MayBeCommand, Serve, Spells, needs_of}
+use Rattle.house_run.specs.Found.{as_found}
 use Rattle.house_run.specs.Frame.{Frame}
+use Rattle.house_run.specs.ServeCommand.{ServeFrame}
+use Rattle.house_run.specs.NetEnds.{Ends, EndsOnNet, NetFrame}
+use Rattle.house_run.specs.Nets.{NetSeen, IsNetUntouched}
 use Rattle.house_run.specs.Logs.{IsLogOf}
 use Rattle.house_run.specs.Journals.{AreFromJournals, IsTermsOf}
 use Rattle.lot_base.specs.Economy.{AllStrongSubstitutes}
@@ -20,7 +24,7 @@ use Rattle.trial.specs.Making.{made_supply, made_values}
 use Rattle.house_run.specs.Markets.{market_bidders}
 use Rattle.house_run.specs.Needs.{Has, IsSource, Needs, journal_name}
 use Rattle.house_run.specs.Outcomes.{HaveClosed}
-use Rattle.house_run.specs.Seen.{Outside, SinkSeen, auction_limit, content, log_limit, values_limit}
+use Rattle.house_run.specs.Seen.{Outside, ShelfSeen, SinkSeen, auction_limit, content, log_limit, values_limit}
 use Rattle.house_run.specs.declared.ends.Ended.{Ended}
 use Rattle.house_run.specs.declared.ends.Ended.TheVariants as how
 
@@ -35,9 +39,24 @@ abbrev pub end_of : Result (Vec ℕ Global) Ended → Ended
 end_of (Ok text) = how.Done
 end_of (Err end) = end
 
-abbrev pub JobAnswer : Command → Outside → Result (Vec ℕ Global) Ended → Type 0
-JobAnswer command seen (Ok text) = IsDone command seen text.items
-JobAnswer command seen (Err end) = MayEnd (needs_of command) seen end
+-- what the causes of a command's ends speak of: a serve writes to its journals, so they speak of the files that it found
+abbrev pub as_seen : Command → Outside → Outside
+as_seen (Serve auction journals s) seen = as_found seen
+as_seen command seen = seen
+
+abbrev pub JobAnswer : Command → Outside → NetSeen → Result (Vec ℕ Global) Ended → Type 0
+JobAnswer command seen net (Ok text) = IsDone command seen net text.items
+JobAnswer command seen net (Err end) = Ends (needs_of command) (as_seen command seen) net end
+
+-- the same of a job that goes to the shelf alone, with this text where it is done
+abbrev pub ShelfAnswer : (ShelfSeen → List ℕ → Type 0) → Needs → Outside → Result (Vec ℕ Global) Ended → Type 0
+ShelfAnswer Done needs seen (Ok text) = Done seen.shelf text.items
+ShelfAnswer Done needs seen (Err end) = MayEnd needs seen end
+
+-- what a job that ended so leaves of the shelf
+abbrev pub CommandFrame : Command → Ended → Outside → Type 0
+CommandFrame (Serve auction journals s) end seen = ServeFrame auction journals s end seen
+CommandFrame command end seen = Frame (needs_of command) end seen
 
 -- The text was appended, and the answer is the job's end; or the sink's count rose, a front of the text was appended, and the
 -- answer says so. A fault is passed over by no other answer.
@@ -60,41 +79,45 @@ abbrev pub WroteLine : SinkSeen → Ended → Ended → Type 0
 WroteLine sink end answer = Wrote sink end (line_of end) answer ⊎ (HasNumber end × Wrote sink how.NoMemory [] answer)
 
 -- the command's job was done, and its text was written
-pub record DoneEnds (command : Command) (seen : Outside) (sink : SinkSeen) (answer : Ended) : Type 0 where
+pub record DoneEnds (command : Command) (seen : Outside) (net : NetSeen) (sink : SinkSeen) (answer : Ended) : Type 0 where
   pub text : List ℕ
-  pub done : IsDone command seen text
-  pub frame : Frame (needs_of command) how.Done seen
+  pub done : IsDone command seen net text
+  pub frame : CommandFrame command how.Done seen
+  pub net_frame : NetFrame (needs_of command) how.Done net
   pub wrote : Wrote sink how.Done text answer
 
 -- the job ended otherwise, for a cause, and the line of its end was written
-pub record OtherEnds (command : Command) (seen : Outside) (sink : SinkSeen) (answer : Ended) : Type 0 where
+pub record OtherEnds (command : Command) (seen : Outside) (net : NetSeen) (sink : SinkSeen) (answer : Ended) : Type 0 where
   pub end : Ended
-  pub cause : MayEnd (needs_of command) seen end
-  pub frame : Frame (needs_of command) end seen
+  pub cause : Ends (needs_of command) (as_seen command seen) net end
+  pub frame : CommandFrame command end seen
+  pub net_frame : NetFrame (needs_of command) end net
   pub wrote : WroteLine sink end answer
 
-abbrev pub CommandEnds : Command → Outside → SinkSeen → Ended → Type 0
-CommandEnds command seen sink answer = DoneEnds command seen sink answer ⊎ OtherEnds command seen sink answer
+abbrev pub CommandEnds : Command → Outside → NetSeen → SinkSeen → Ended → Type 0
+CommandEnds command seen net sink answer = DoneEnds command seen net sink answer ⊎ OtherEnds command seen net sink answer
 
 -- How a run ends: the words are no command, and it says so; or they are a command, and that ends; or memory ran out
 -- before words that may be one were read, and nothing was written.
-pub record UsageEnds (words : List (List ℕ)) (seen : Outside) (sink : SinkSeen) (answer : Ended) : Type 0 where
+pub record UsageEnds (words : List (List ℕ)) (seen : Outside) (net : NetSeen) (sink : SinkSeen) (answer : Ended) : Type 0 where
   pub none : IsNoCommand words
   pub untouched : IsUntouched seen
+  pub net_untouched : IsNetUntouched net
   pub wrote : Wrote sink how.Usage (line_of how.Usage) answer
 
-pub record SomeCommandEnds (words : List (List ℕ)) (seen : Outside) (sink : SinkSeen) (answer : Ended) : Type 0 where
+pub record SomeCommandEnds (words : List (List ℕ)) (seen : Outside) (net : NetSeen) (sink : SinkSeen) (answer : Ended) : Type 0 where
   pub command : Command
   pub spelled : Spells command words
-  pub ends : CommandEnds command seen sink answer
+  pub ends : CommandEnds command seen net sink answer
 
-pub record NoMemoryEnds (words : List (List ℕ)) (seen : Outside) (sink : SinkSeen) (answer : Ended) : Type 0 where
+pub record NoMemoryEnds (words : List (List ℕ)) (seen : Outside) (net : NetSeen) (sink : SinkSeen) (answer : Ended) : Type 0 where
   pub named : MayBeCommand words
   pub untouched : IsUntouched seen
+  pub net_untouched : IsNetUntouched net
   pub wrote : Wrote sink how.NoMemory [] answer
 
-abbrev pub RunEnds : List (List ℕ) → Outside → SinkSeen → Ended → Type 0
-RunEnds words seen sink answer = UsageEnds words seen sink answer ⊎ (SomeCommandEnds words seen sink answer ⊎ NoMemoryEnds words seen sink answer)
+abbrev pub RunEnds : List (List ℕ) → Outside → NetSeen → SinkSeen → Ended → Type 0
+RunEnds words seen net sink answer = UsageEnds words seen net sink answer ⊎ (SomeCommandEnds words seen net sink answer ⊎ NoMemoryEnds words seen net sink answer)
 
 -- the journal of a clock of the auction that the file says
 pub record IsJournalIn (files : List NamedFile) (auction journals name : List ℕ) : Type 0 where
@@ -108,12 +131,16 @@ pub record IsJournalIn (files : List NamedFile) (auction journals name : List �
 abbrev pub MayOpen : Needs → List NamedFile → List ℕ → Type 0
 MayOpen needs files name = IsSource needs name ⊎ Has needs.auction (λ auction. Has needs.journals (λ journals. IsJournalIn files auction journals name))
 
--- No call failed on the sink or under a name that the command may open, and none of these counts stands at its last value.
-pub record NothingFailed (needs : Needs) (files : List NamedFile) (seen : Outside) (sink : SinkSeen) : Type 0 where
+-- No call failed on the sink, on the net or under a name that the command may open, and none of these counts stands at its last value. What
+-- was found on the net ends no job.
+pub record NothingFailed (needs : Needs) (files : List NamedFile) (seen : Outside) (net : NetSeen) (sink : SinkSeen) : Type 0 where
   pub shelf_same : (name : List ℕ) → MayOpen needs files name → seen.shelf.faults name ≡ seen.shelf.faults_before name
   pub shelf_room : (name : List ℕ) → MayOpen needs files name → seen.shelf.faults_before name < 2 ^ 64 - 1
   pub sink_same : sink.faults ≡ sink.faults_before
   pub sink_room : sink.faults_before < 2 ^ 64 - 1
+  pub net_same : net.faults ≡ net.faults_before
+  pub net_room : net.faults_before < 2 ^ 64 - 1
+  pub net_well : (end : Ended) → end ≢ how.NetFault → EndsOnNet needs seen.shelf net end → ⊥
 
 -- the log is not too long, and has no faulty entry
 pub record IsGoodLog (terms : Terms) (bytes : List ℕ) : Type 0 where
@@ -137,8 +164,8 @@ pub record AreGoodJournals (settles : Bool) (files : List NamedFile) (auction jo
   pub from_journals : AreFromJournals (Some files) terms listing.digest journals (terms.bidders + 1) histories
   pub closed : IsTrue settles → HaveClosed histories
 
--- the file has a valuation with strong substitutes for each bidder of the auction
-pub record AreGoodValues (files : List NamedFile) (auction values : List ℕ) : Type 0 where
+-- the file has a valuation for each bidder of the auction, each with strong substitutes where these are tried
+pub record AreGoodValues (tried : Type 0) (files : List NamedFile) (auction values : List ℕ) : Type 0 where
   pub listing : Listing
   pub says : auction_of (content files auction) ≡ Ok listing
   pub terms : Terms
@@ -146,7 +173,7 @@ pub record AreGoodValues (files : List NamedFile) (auction values : List ℕ) : 
   pub short : length (content files values) ≤ values_limit
   pub valuations : List (List ℕ)
   pub read : values_of terms.goods terms.bidders terms.ceiling (content files values) ≡ Ok valuations
-  pub substitutes : AllStrongSubstitutes terms.goods (market_bidders terms valuations) (all_bidders terms.bidders)
+  pub substitutes : tried → AllStrongSubstitutes terms.goods (market_bidders terms valuations) (all_bidders terms.bidders)
 
 -- the market of the number has bidders with strong substitutes
 abbrev pub IsGoodNumber : ℕ → Type 0
@@ -157,7 +184,7 @@ pub record AreGood (needs : Needs) (files : List NamedFile) : Type 0 where
   pub auction : IfSome needs.auction (λ name. IsGoodAuction (content files name))
   pub log : IfSome needs.log (λ log. IsGoodLog log.terms (content files log.name))
   pub journals : IfSome needs.auction (λ auction. IfSome needs.journals (λ journals. AreGoodJournals needs.settles files auction journals))
-  pub values : IfSome needs.auction (λ auction. IfSome needs.values (λ values. AreGoodValues files auction values))
+  pub values : IfSome needs.auction (λ auction. IfSome needs.values (λ values. AreGoodValues (needs.bid ≡ None) files auction values))
   pub number : IfSome needs.number IsGoodNumber
 
 -- the answer is Done, or memory ran out

@@ -1,4 +1,4 @@
--- What a command needs of the outside: which files it reads, and where its journals lie. The definitions of ends and frames ask
+-- What a command needs of the outside: which files it reads, where its journals lie, and what it does on the net. The definitions of ends and frames ask
 -- about this alone, and never about the command.
 use Rattle.std.specs.Prelude.{◌≡◌, ◌⊎◌, ℕ, zero, suc, ◌/◌, ◌%◌, ◌≤◌, Bool, false, List, [], ◌∷◌, ◌++◌, Option, Some, None, option_map, codes, decimal}
 use Rattle.house_io.specs.Shelves.{with_name}
@@ -9,6 +9,20 @@ use Rattle.lot_base.specs.declared.auction_terms.Terms.{Terms}
 pub record Log : Type 0 where
   pub terms : Terms
   pub name : List ℕ
+
+-- the part of a bidder in an auction, and where he dials
+pub record Bidding : Type 0 where
+  pub bidder : ℕ
+  pub token : List ℕ
+  pub address : List ℕ
+  -- how many equal looks at a clock, in a row, are borne
+  pub looks : ℕ
+
+-- where an auction is served: at so many doors on an address, for so many sessions at each
+pub record Serving : Type 0 where
+  pub address : List ℕ
+  pub doors : ℕ
+  pub sessions : ℕ
 
 pub record Needs : Type 0 where
   -- the name of the auction file
@@ -22,9 +36,11 @@ pub record Needs : Type 0 where
   pub values : Option (List ℕ)
   -- the number of a market that is made
   pub number : Option ℕ
+  pub bid : Option Bidding
+  pub serve : Option Serving
 
 abbrev pub nothing_needed : Needs
-nothing_needed = record { auction = None; log = None; journals = None; settles = false; values = None; number = None }
+nothing_needed = record { auction = None; log = None; journals = None; settles = false; values = None; number = None; bid = None; serve = None }
 
 -- it is needed, and it has P
 abbrev pub Has : {A : Type 0} → Option A → (A → Type 0) → Type 0

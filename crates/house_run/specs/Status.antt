@@ -19,6 +19,7 @@ status_of (how.BadAuction refusal) = 3
 status_of how.ReadFault = 4
 status_of how.WriteFault = 5
 status_of (how.DiskFault clock) = 6
+status_of how.NetFault = 7
 status_of (how.BadJournal clock fault) = 8
 status_of (how.Open clock round missing) = 9
 status_of (how.NoAward clock) = 10
@@ -27,6 +28,10 @@ status_of (how.BadValues fault) = 12
 status_of (how.NotSubstitutes bidder x y good) = 13
 status_of (how.TooLong file) = 14
 status_of (how.BadLog place) = 15
+status_of (how.Refused code detail value) = 16
+status_of (how.LooksSpent clock) = 17
+status_of how.BadReply = 18
+status_of (how.NoBidder bidder) = 19
 
 -- want of memory has no line, and no number
 abbrev pub number_of : AuctionFault → ℕ

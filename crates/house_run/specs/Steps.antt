@@ -1,5 +1,5 @@
 -- What one step of a job does on the shelf. A job is a few of these in turn.
-use Rattle.std.specs.Prelude.{◌≡◌, ◌≢◌, ◌≤◌, ◌⊎◌, ⊤, ℕ, Bool, List, [], ◌∷◌, Some, Err}
+use Rattle.std.specs.Prelude.{◌≡◌, ◌≢◌, ◌≤◌, ◌⊎◌, ⊤, ℕ, Bool, List, [], ◌∷◌, Some, Result, Ok, Err}
 use Rattle.house_io.specs.Shelves.{ChangesNone, RisesOnly, with_name}
 use Rattle.house_run.specs.Causes.{FailedAt, MayEnd, Tells}
 use Rattle.lot_base.specs.declared.auction_terms.Terms.{Terms}
@@ -23,6 +23,16 @@ use Rattle.trial.specs.Refusals.{IsFirstWithout}
 use Rattle.trial.specs.declared.faults.TrialFault.{TrialFault}
 use Rattle.trial.specs.declared.faults.TrialFault.TheVariants as fault
 use Rattle.house_run.specs.Markets.{market_bidders}
+use Rattle.house_io.specs.Faults.{Rose}
+use Rattle.bidder_agent.specs.Talks.{Part}
+use Rattle.bidder_agent.specs.declared.agents.AgentEnd.{AgentEnd}
+use Rattle.bidder_agent.specs.declared.agents.AgentEnd.TheVariants as agent
+use Rattle.bidder_agent.specs.declared.agents.Seen.{Seen}
+use Rattle.house_run.specs.BidCommand.{bid_needs}
+use Rattle.house_run.specs.Dialling.{TalksOn}
+use Rattle.house_run.specs.NetEnds.{Ends}
+use Rattle.house_run.specs.Needs.{Bidding}
+use Rattle.house_run.specs.Nets.{NetSeen}
 
 -- no name was opened but this one
 abbrev pub OpensOnly : List ℕ → List (List ℕ) → List (List ℕ) → Type 0
@@ -131,3 +141,34 @@ IsSettledEnd terms histories (how.Open clock round missing) = IsSettlement terms
 IsSettledEnd terms histories (how.NoAward clock) = IsSettlement terms histories (settlement.NoAward clock)
 IsSettledEnd terms histories (how.Halted clock good) = IsSettlement terms histories (settlement.Halted clock good)
 IsSettledEnd terms histories end = ⊥
+
+-- a bid ends so before it goes to the net
+pub record StopsBidding (auction values : List ℕ) (b : Bidding) (seen : Outside) (end : Ended) : Type 0 where
+  pub cause : (net : NetSeen) → Ends (bid_needs auction values b) seen net end
+  pub frame : Frame (bid_needs auction values b) end seen
+
+-- how a command ends whose agent stopped
+abbrev pub ended_by : AgentEnd → Ended
+ended_by (agent.Refused code detail value) = how.Refused code detail value
+ended_by agent.BadReply = how.BadReply
+ended_by agent.LinkFault = how.NetFault
+ended_by (agent.LooksSpent clock) = how.LooksSpent clock
+ended_by agent.NoMemory = how.NoMemory
+
+-- why the talk of an agent gives no looks
+abbrev pub IsTalkEnd : NetSeen → Part → Ended → Type 0
+IsTalkEnd net p how.NoMemory = ⊤
+IsTalkEnd net p how.NetFault = Rose net.faults_before net.faults
+IsTalkEnd net p (how.Refused code detail value) = TalksOn net p (Err (agent.Refused code detail value))
+IsTalkEnd net p (how.LooksSpent clock) = TalksOn net p (Err (agent.LooksSpent clock))
+IsTalkEnd net p how.BadReply = TalksOn net p (Err agent.BadReply)
+IsTalkEnd net p end = ⊥
+
+abbrev pub talk_end : Result Seen Ended → Ended
+talk_end (Ok seen) = how.Done
+talk_end (Err end) = end
+
+-- the count of the net's faults never falls, and rises only where the end tells it
+pub record NetCounts (end : Ended) (net : NetSeen) : Type 0 where
+  pub quiet : end ≢ how.NetFault → net.faults ≡ net.faults_before
+  pub later : net.faults_before ≤ net.faults

@@ -1,12 +1,22 @@
-//! The words behind a command's name: plain words, and the command's option.
-ghost use Rattle.std.specs.Prelude.{◌≡◌, ◌↔◌, ◌∷◌, All, IsTrue, Bool, IfOk, IfErr, IfSome, IfNone, Some};
-ghost use Rattle.house_run.specs.Arguments.{HasOption, option_of, others_in, plain_in, text_of_option};
-ghost use Rattle.house_run.specs.Commands.{IsName, IsNoCommand, IsParted, MayBeCommand};
+//! The words behind a command's name: plain words, and the command's options.
+ghost use Rattle.std.specs.Prelude.{◌≡◌, ◌<◌, ◌↔◌, ◌∷◌, All, IsTrue, length, string_bytes, true, IfOk, IfErr, IfSome, IfNone};
+ghost use Rattle.std.specs.List.{list_all};
+ghost use Rattle.house_run.specs.Arguments.{begins, flags_of, is_among, is_argument, is_option, joined, others_in, plain_in, takes, valued_of, with_value};
+ghost use Rattle.house_run.specs.Commands.{IsJoined, IsName, IsNoCommand, MayBeCommand};
 ghost use Rattle.house_run.specs.Positionals.{texts};
 ghost use Rattle.house_run.specs.Words.{IsPlainWord, is_plain, words_of};
 
 use lot_base::NoMemory;
 use std::alloc::{AllocError, Global};
+
+/// The words of a command line with each option and its value in one word.
+#[derive(Drop)]
+pub(crate) struct Joined<'a> {
+    /// The first word.
+    pub name: &'a str,
+    /// The words behind it.
+    pub words: Vec<String>,
+}
 
 /// The words of a command line by what they are.
 #[derive(Drop)]
@@ -15,43 +25,40 @@ pub(crate) struct Parted<'a> {
     pub name: &'a str,
     /// The words behind it that are no option, in order.
     pub plain: Vec<&'a str>,
-    /// Whether the option of the command stands among them.
-    pub given: bool,
+    /// The options behind it, each with its value in one word, in order.
+    pub options: Vec<&'a str>,
 }
 
-/// Parts the words, if the first one is the name of a command and those behind it are plain but for its option.
-pub(crate) fn part_words(alloc: Global, words: &[String]) -> Result<Option<Parted<'_>>, NoMemory>
-    ensures some { IfOk result (λ o. IfSome o (λ p. IsParted (words_of words.now) p.name.now (texts p.plain.items) p.given)) }
-    ensures plain { IfOk result (λ o. IfSome o (λ p. All (λ word. IsPlainWord word.now) p.plain.items)) }
+/// Joins each option with its value, if the first word is the name of a command and those behind it are plain or options of it.
+pub(crate) fn join_words(alloc: Global, words: &[String]) -> Result<Option<Joined<'_>>, NoMemory>
+    ensures some { IfOk result (λ o. IfSome o (λ j. IsJoined (words_of words.now) j.name.now (words_of j.words.items))) }
     ensures none { IfOk result (λ o. IfNone o (IsNoCommand (words_of words.now))) }
     ensures memory { IfErr result (λ _. MayBeCommand (words_of words.now)) }
 {
     let [name, behind @ ..] = words else {
         return Ok(None);
     };
-    part_behind(alloc, name.as_str(), behind)
+    join_behind(alloc, name.as_str(), behind)
 }
 
 /// The same, of the name and the words behind it.
-fn part_behind<'a>(
+fn join_behind<'a>(
     alloc: Global,
     name: &'a str,
-    behind: &'a [String],
-) -> Result<Option<Parted<'a>>, NoMemory>
-    ensures some { IfOk result (λ o. IfSome o (λ p. IsParted (name.entry.now ∷ words_of behind.entry.now) p.name.now (texts p.plain.items) p.given)) }
-    ensures plain { IfOk result (λ o. IfSome o (λ p. All (λ word. IsPlainWord word.now) p.plain.items)) }
-    ensures none { IfOk result (λ o. IfNone o (IsNoCommand (name.entry.now ∷ words_of behind.entry.now))) }
-    ensures memory { IfErr result (λ _. MayBeCommand (name.entry.now ∷ words_of behind.entry.now)) }
+    behind: &[String],
+) -> Result<Option<Joined<'a>>, NoMemory>
+    ensures some { IfOk result (λ o. IfSome o (λ j. IsJoined (name.entry.now ∷ words_of behind.now) j.name.now (words_of j.words.items))) }
+    ensures none { IfOk result (λ o. IfNone o (IsNoCommand (name.entry.now ∷ words_of behind.now))) }
+    ensures memory { IfErr result (λ _. MayBeCommand (name.entry.now ∷ words_of behind.now)) }
 {
     if !is_name(name) {
         return Ok(None);
     }
-    let given = match option_in(option_of(name), behind) {
-        Some(given) => given,
-        None => return Ok(None),
-    };
-    match plain_words(alloc, behind) {
-        Ok(plain) => Ok(Some(Parted { name, plain, given })),
+    if !are_arguments(name, behind) {
+        return Ok(None);
+    }
+    match joined_words(alloc, name, behind) {
+        Ok(words) => Ok(Some(Joined { name, words })),
         Err(_) => Err(NoMemory),
     }
 }
@@ -62,53 +69,139 @@ fn is_name(word: &str) -> bool
 {
     matches!(
         word,
-        "fold" | "check" | "standing" | "settle" | "trial" | "make"
+        "fold" | "check" | "standing" | "settle" | "trial" | "make" | "serve" | "bid"
     )
 }
 
-/// The option of the command of this name, if it has one.
-pub(crate) fn option_of(name: &str) -> Option<&'static str>
-    ensures { text_of_option result ≡ option_of name.now }
+/// Whether each of these words is plain or an option of the command, once options are joined with their values.
+fn are_arguments(name: &str, words: &[String]) -> bool
+    ensures { result ≡ list_all (is_argument name.now) (joined name.now (words_of words.now)) }
 {
-    match name {
-        "settle" => Some("--json"),
-        _ => None,
-    }
-}
-
-/// Whether the option stands among these words, where every other word is plain and it stands there once at most.
-pub(crate) fn option_in(option: Option<&str>, words: &[String]) -> Option<bool>
-    ensures some { IfSome result (HasOption (text_of_option option.entry) (others_in (words_of words.now))) }
-    ensures none { IfNone result ((given : Bool) → HasOption (text_of_option option.entry) (others_in (words_of words.now)) given → ⊥) }
-{
-    let mut given = false;
-    for word in words {
-        let text = word.as_str();
-        if !is_plain(text) {
-            if given || !is_option(option, text) {
-                return None;
+    let mut rest = words;
+    while let [word, behind @ ..] = rest {
+        match value_of(name, word.as_str(), behind) {
+            Some((_, others)) => rest = others,
+            None => {
+                if !is_argument(name, word.as_str()) {
+                    return false;
+                }
+                rest = behind;
             }
-            given = true;
         }
     }
-    Some(given)
+    true
 }
 
-/// Whether the word is the option.
-fn is_option(option: Option<&str>, word: &str) -> bool
-    ensures { IsTrue result ↔ (text_of_option option.entry ≡ Some word.now) }
+/// The words with each option and its value in one word.
+fn joined_words(alloc: Global, name: &str, words: &[String]) -> Result<Vec<String>, AllocError>
+    ensures { IfOk result (λ v. words_of v.items ≡ joined name.now (words_of words.now)) }
 {
-    match option {
-        Some(option) => option == word,
-        None => false,
+    let mut all = Vec::new(alloc);
+    let mut rest = words;
+    while let [word, behind @ ..] = rest {
+        match value_of(name, word.as_str(), behind) {
+            Some((value, others)) => {
+                all.push(with_value(alloc, word.as_str(), value)?)?;
+                rest = others;
+            }
+            None => {
+                all.push(String::from_str(alloc, word.as_str())?)?;
+                rest = behind;
+            }
+        }
     }
+    Ok(all)
+}
+
+/// The value that the word takes from those behind it, and the others, if it is an option that takes one.
+fn value_of<'a>(name: &str, word: &str, behind: &'a [String]) -> Option<(&'a str, &'a [String])>
+    ensures some { IfSome result (λ v. joined name.now (word.now ∷ words_of behind.entry.now) ≡ with_value word.now v.0.now ∷ joined name.now (words_of v.1.now)) }
+    ensures known { IfSome result (λ v. is_argument name.now (with_value word.now v.0.now) ≡ true) }
+    ensures shorter { IfSome result (λ v. length v.1.now < length behind.entry.now) }
+    ensures none { IfNone result (joined name.now (word.now ∷ words_of behind.entry.now) ≡ word.now ∷ joined name.now (words_of behind.entry.now)) }
+{
+    let [value, others @ ..] = behind else {
+        return None;
+    };
+    if !takes(name, word, value.as_str()) {
+        return None;
+    }
+    Some((value.as_str(), others))
+}
+
+/// An option and its value in one word.
+fn with_value(alloc: Global, option: &str, value: &str) -> Result<String, AllocError>
+    ensures { IfOk result (λ word. string_bytes word ≡ with_value option.now value.now) }
+{
+    format!(in alloc; "{option}={value}")
+}
+
+/// Whether the word is an option with a value, and the one behind it can be that value.
+fn takes(name: &str, word: &str, value: &str) -> bool
+    ensures { result ≡ takes name.now word.now value.now }
+{
+    is_valued(name, word) && is_plain(value)
+}
+
+/// Whether the word is an option of the command that has a value.
+fn is_valued(name: &str, word: &str) -> bool
+    ensures { result ≡ is_among word.now (valued_of name.now) }
+{
+    match name {
+        "serve" => word == "--doors" || word == "--sessions",
+        "bid" => word == "--looks",
+        "trial" => word == "--workers",
+        "make" => word == "--workers",
+        _ => false,
+    }
+}
+
+/// Whether the word is plain or an option of the command, with its value if it has one.
+fn is_argument(name: &str, word: &str) -> bool
+    ensures { result ≡ is_argument name.now word.now }
+{
+    is_plain(word) || is_option(name, word)
+}
+
+/// Whether the word is an option of the command, with its value if it has one.
+fn is_option(name: &str, word: &str) -> bool
+    ensures { result ≡ is_option name.now word.now }
+{
+    match name {
+        "settle" => word == "--json",
+        "serve" => begins("--doors=", word) || begins("--sessions=", word),
+        "bid" => begins("--looks=", word),
+        "trial" => begins("--workers=", word),
+        "make" => begins("--workers=", word),
+        _ => false,
+    }
+}
+
+/// Whether the word begins so.
+fn begins(front: &str, word: &str) -> bool
+    ensures { result ≡ begins front.now word.now }
+{
+    word.starts_with(front)
+}
+
+/// Parts the words into plain ones and options.
+pub(crate) fn part_words<'a>(alloc: Global, joined: &'a Joined) -> Result<Parted<'a>, AllocError>
+    ensures name { IfOk result (λ p. p.name.now ≡ joined.entry.now.name.now) }
+    ensures words { IfOk result (λ p. texts p.plain.items ≡ plain_in (words_of joined.entry.now.words.items)) }
+    ensures options { IfOk result (λ p. texts p.options.items ≡ others_in (words_of joined.entry.now.words.items)) }
+    ensures plain { IfOk result (λ p. All (λ word. IsPlainWord word.now) p.plain.items) }
+{
+    let plain = plain_words(alloc, joined.words.as_slice())?;
+    let options = other_words(alloc, joined.words.as_slice())?;
+    Ok(Parted {
+        name: joined.name,
+        plain,
+        options,
+    })
 }
 
 /// The plain ones of these words, in order.
-pub(crate) fn plain_words<'a>(
-    alloc: Global,
-    words: &'a [String],
-) -> Result<Vec<&'a str>, AllocError>
+fn plain_words<'a>(alloc: Global, words: &'a [String]) -> Result<Vec<&'a str>, AllocError>
     ensures words { IfOk result (λ v. texts v.items ≡ plain_in (words_of words.entry.now)) }
     ensures plain { IfOk result (λ v. All (λ word. IsPlainWord word.now) v.items) }
 {
@@ -120,6 +213,20 @@ pub(crate) fn plain_words<'a>(
         }
     }
     Ok(plain)
+}
+
+/// The other ones of these words, in order.
+fn other_words<'a>(alloc: Global, words: &'a [String]) -> Result<Vec<&'a str>, AllocError>
+    ensures { IfOk result (λ v. texts v.items ≡ others_in (words_of words.entry.now)) }
+{
+    let mut others = Vec::new(alloc);
+    for word in words {
+        let text = word.as_str();
+        if !is_plain(text) {
+            others.push(text)?;
+        }
+    }
+    Ok(others)
 }
 
 /// Whether a word is not empty and does not begin as an option does.

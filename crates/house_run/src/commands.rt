@@ -1,33 +1,41 @@
 //! The commands: a line each here and in `words.rt`, and a file each for their jobs.
 ghost use Rattle.house_run.specs.CommandView.{command_as};
-ghost use Rattle.house_run.specs.Commands.{needs_of};
-ghost use Rattle.house_run.specs.Ends.{JobAnswer, end_of};
-ghost use Rattle.house_run.specs.Frame.{Frame};
+ghost use Rattle.house_run.specs.Commands.{IsReady, needs_of};
+ghost use Rattle.house_run.specs.Ends.{CommandFrame, JobAnswer, end_of};
+ghost use Rattle.house_run.specs.NetEnds.{NetFrame};
+ghost use Rattle.house_run.specs.Nets.{net_seen};
 ghost use Rattle.house_run.specs.Seen.{outside};
 
+mod bid;
 mod check;
 mod fold;
 mod make;
+mod serve;
 mod settle;
-mod standing;
+pub(crate) mod standing;
 mod trials;
 
+use crate::dialling::Bidding;
 use crate::ends::Ended;
+use crate::serving_journals::Serving;
 use crate::words::CommandWords;
-use house_io::Shelf;
+use house_io::{Net, Shelf};
 use std::alloc::Global;
 use std::sync::Wait;
 use std::thread::Threads;
 
 /// The text of a command's job, or how the job ended without one.
-pub(crate) fn job<T: Threads + Wait + Sync, H: Shelf>(
+pub(crate) fn job<T: Threads + Wait + Sync, H: Shelf, N: Net>(
     rt: &T,
     alloc: Global,
     command: &CommandWords,
     shelf: &mut H,
+    net: &mut N,
 ) -> Result<Vec<u8>, Ended>
-    ensures answer { JobAnswer (command_as command.now) (outside H.files H.faults H.opened shelf.old shelf.new) result }
-    ensures frame { Frame (needs_of (command_as command.now)) (end_of result) (outside H.files H.faults H.opened shelf.old shelf.new) }
+    requires { IsReady (command_as command.now) }
+    ensures answer { JobAnswer (command_as command.now) (outside H.files H.faults H.opened shelf.old shelf.new) (net_seen N.told N.Door.told N.Door.Link.told N.Link.told N.faults net.old net.new) result }
+    ensures frame { CommandFrame (command_as command.now) (end_of result) (outside H.files H.faults H.opened shelf.old shelf.new) }
+    ensures net_frame { NetFrame (needs_of (command_as command.now)) (end_of result) (net_seen N.told N.Door.told N.Door.Link.told N.Link.told N.faults net.old net.new) }
 {
     match command {
         CommandWords::Fold { terms, log } => fold::job(alloc, terms, log, shelf),
@@ -40,7 +48,41 @@ pub(crate) fn job<T: Threads + Wait + Sync, H: Shelf>(
             journals,
             json,
         } => settle::job(alloc, auction, journals, *json, shelf),
-        CommandWords::Trial { auction, values } => trials::job(rt, alloc, auction, values, shelf),
-        CommandWords::Make { number } => make::job(rt, alloc, *number, shelf),
+        CommandWords::Trial {
+            auction,
+            values,
+            workers,
+        } => trials::job(rt, alloc, auction, values, *workers, shelf),
+        CommandWords::Make { number, workers } => { make::job(rt, alloc, *number, *workers, shelf) }
+        CommandWords::Serve {
+            auction,
+            journals,
+            address,
+            doors,
+            sessions,
+        } => {
+            let serving = Serving {
+                address,
+                doors: *doors,
+                sessions: *sessions,
+            };
+            serve::job(rt, alloc, auction, journals, &serving, shelf, net)
+        }
+        CommandWords::Bid {
+            auction,
+            values,
+            bidder,
+            token,
+            address,
+            looks,
+        } => {
+            let bidding = Bidding {
+                bidder: *bidder,
+                token,
+                address,
+                looks: *looks,
+            };
+            bid::job(alloc, auction, values, &bidding, shelf, net)
+        }
     }
 }

@@ -55,6 +55,8 @@ fn plain_line(ended: &Ended) -> Option<&'static [u8]>
         Ended::Done | Ended::NoMemory | Ended::WriteFault => Some(b""),
         Ended::Usage => Some(b"usage\n"),
         Ended::ReadFault => Some(b"read fault\n"),
+        Ended::NetFault => Some(b"net fault\n"),
+        Ended::BadReply => Some(b"bad reply\n"),
         Ended::TooLong(File::Auction) => Some(b"too long auction\n"),
         Ended::TooLong(File::Log) => Some(b"too long log\n"),
         Ended::TooLong(File::Values) => Some(b"too long values\n"),
@@ -66,7 +68,10 @@ fn plain_line(ended: &Ended) -> Option<&'static [u8]>
         | Ended::Halted { .. }
         | Ended::BadValues(_)
         | Ended::NotSubstitutes { .. }
-        | Ended::BadLog(_) => None,
+        | Ended::BadLog(_)
+        | Ended::Refused { .. }
+        | Ended::LooksSpent(_)
+        | Ended::NoBidder(_) => None,
     }
 }
 
@@ -91,11 +96,20 @@ fn numbered_line(alloc: Global, ended: &Ended) -> Result<String, AllocError>
             not_substitutes_line(alloc, *bidder, x, y, *good)
         }
         Ended::BadLog(place) => bad_log_line(alloc, *place),
+        Ended::Refused {
+            code,
+            detail,
+            value,
+        } => refused_line(alloc, *code, *detail, *value),
+        Ended::LooksSpent(clock) => looks_spent_line(alloc, *clock),
+        Ended::NoBidder(bidder) => no_bidder_line(alloc, *bidder),
         Ended::Done
         | Ended::NoMemory
         | Ended::Usage
         | Ended::ReadFault
         | Ended::WriteFault
+        | Ended::NetFault
+        | Ended::BadReply
         | Ended::TooLong(_) => unreachable!(),
     }
 }
@@ -149,6 +163,27 @@ fn bad_log_line(alloc: Global, place: u64) -> Result<String, AllocError>
     ensures { IfOk result (λ line. string_bytes line ≡ line_of (how.BadLog place)) }
 {
     let line = format!(in alloc; "bad log at {place}\n")?;
+    Ok(line)
+}
+
+fn refused_line(alloc: Global, code: u8, detail: u8, value: u32) -> Result<String, AllocError>
+    ensures { IfOk result (λ line. string_bytes line ≡ line_of (how.Refused code detail value)) }
+{
+    let line = format!(in alloc; "refused code {code} detail {detail} value {value}\n")?;
+    Ok(line)
+}
+
+fn looks_spent_line(alloc: Global, clock: u8) -> Result<String, AllocError>
+    ensures { IfOk result (λ line. string_bytes line ≡ line_of (how.LooksSpent clock)) }
+{
+    let line = format!(in alloc; "looks spent clock {clock}\n")?;
+    Ok(line)
+}
+
+fn no_bidder_line(alloc: Global, bidder: u8) -> Result<String, AllocError>
+    ensures { IfOk result (λ line. string_bytes line ≡ line_of (how.NoBidder bidder)) }
+{
+    let line = format!(in alloc; "no bidder {bidder}\n")?;
     Ok(line)
 }
 

@@ -33,6 +33,8 @@ pub enum Ended {
     WriteFault,
     /// A call on this clock's journal failed.
     DiskFault(u8),
+    /// A call on the net, or on what was given back to it, failed.
+    NetFault,
     /// This clock's journal is refused, the first one that is.
     BadJournal {
         clock: u8,
@@ -67,6 +69,18 @@ pub enum Ended {
     TooLong(File),
     /// The first faulty entry of the log begins behind so many bytes.
     BadLog(u64),
+    /// The house refused a frame of the bidder's agent.
+    Refused {
+        code: u8,
+        detail: u8,
+        value: u32,
+    },
+    /// So many looks at this clock in a row were equal to the one before.
+    LooksSpent(u8),
+    /// What came over the link answered nothing.
+    BadReply,
+    /// The auction has no bidder of this number.
+    NoBidder(u8),
 }
 
 impl Ended {
@@ -82,6 +96,7 @@ impl Ended {
             Ended::ReadFault => 4,
             Ended::WriteFault => 5,
             Ended::DiskFault(_) => 6,
+            Ended::NetFault => 7,
             Ended::BadJournal { .. } => 8,
             Ended::Open { .. } => 9,
             Ended::NoAward { .. } => 10,
@@ -90,6 +105,10 @@ impl Ended {
             Ended::NotSubstitutes { .. } => 13,
             Ended::TooLong(_) => 14,
             Ended::BadLog(_) => 15,
+            Ended::Refused { .. } => 16,
+            Ended::LooksSpent(_) => 17,
+            Ended::BadReply => 18,
+            Ended::NoBidder(_) => 19,
         }
     }
 }

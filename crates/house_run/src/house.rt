@@ -48,7 +48,7 @@ pub(crate) fn read_house<H: Shelf>(
 }
 
 /// How a command ends that can't read all journals.
-fn end_at(unread: Unread) -> Ended
+pub(crate) fn end_at(unread: Unread) -> Ended
     ensures { result ≡ end_at unread.clock unread.fault }
 {
     match unread.fault {

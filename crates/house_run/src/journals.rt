@@ -80,7 +80,7 @@ fn read_journal<H: Shelf>(
 }
 
 /// The name of a clock's journal.
-fn name_of(alloc: Global, journals: &str, clock: u8) -> Result<String, AllocError>
+pub(crate) fn name_of(alloc: Global, journals: &str, clock: u8) -> Result<String, AllocError>
     ensures { IfOk result (λ name. string_bytes name ≡ journal_name journals.now clock) }
 {
     let tens = clock / 10;

@@ -6,7 +6,7 @@ ghost use Rattle.house_run.specs.Entries.{log_of};
 ghost use Rattle.house_run.specs.Logs.{AreBytes, IsLogOf, IsFaultyAt, entry_of};
 ghost use Rattle.lot_base.specs.declared.limits.TheConstants.{MOST_BIDDERS};
 ghost use Rattle.house_run.specs.Needs.{journal_name};
-ghost use Rattle.house_run.specs.Commands.{Command, IsNoCommand, Settle, Spells};
+ghost use Rattle.house_run.specs.Commands.{Command, IsNoCommand, Serve, Settle, Spells, Trial};
 
 /// Words are one command at most. So what `run` says of a command says which one it did.
 pub fn words_law()
@@ -19,6 +19,17 @@ pub fn option_examples()
     ensures before { Spells (Settle (codes "a") (codes "j") true) (codes "settle" ∷ codes "--json" ∷ codes "a" ∷ codes "j" ∷ []) }
     ensures twice { IsNoCommand (codes "settle" ∷ codes "a" ∷ codes "j" ∷ codes "--json" ∷ codes "--json" ∷ []) }
     ensures valued { IsNoCommand (codes "settle" ∷ codes "a" ∷ codes "j" ∷ codes "--json=1" ∷ []) }
+    ensures dashes { IsNoCommand (codes "settle" ∷ codes "a" ∷ codes "j" ∷ codes "--" ∷ []) }
+{}
+
+/// The value of an option stands behind it or behind `=`, a number is spelled in one way, and an option that is not given has its
+/// default.
+pub fn value_examples()
+    ensures behind { Spells (Serve (codes "a") (codes "j") (record { address = codes "h"; doors = 2; sessions = 1 })) (codes "serve" ∷ codes "--doors" ∷ codes "2" ∷ codes "a" ∷ codes "j" ∷ codes "h" ∷ []) }
+    ensures joined { Spells (Serve (codes "a") (codes "j") (record { address = codes "h"; doors = 2; sessions = 1 })) (codes "serve" ∷ codes "a" ∷ codes "j" ∷ codes "h" ∷ codes "--doors=2" ∷ []) }
+    ensures default { Spells (Trial (codes "a") (codes "v") 1) (codes "trial" ∷ codes "a" ∷ codes "v" ∷ []) }
+    ensures alone { IsNoCommand (codes "serve" ∷ codes "a" ∷ codes "j" ∷ codes "h" ∷ codes "--doors" ∷ []) }
+    ensures leading { IsNoCommand (codes "trial" ∷ codes "a" ∷ codes "v" ∷ codes "--workers" ∷ codes "01" ∷ []) }
 {}
 
 /// The journals of an auction's clocks have different names.

@@ -4,16 +4,24 @@
 mod arguments;
 mod commands;
 mod delivery;
+mod dialling;
+mod digits;
+mod disks;
 pub mod ends;
 mod entries;
 mod files;
+mod giving_back;
+mod hosting;
 mod house;
 mod journals;
 pub mod laws;
 mod markets;
+mod options;
 mod pieces;
 mod positionals;
 mod runs;
+mod serve_texts;
+mod serving_journals;
 mod texts;
 mod words;
 

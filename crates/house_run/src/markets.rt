@@ -1,16 +1,20 @@
 //! Markets, and what a trial of one gives.
-ghost use Rattle.std.specs.Prelude.{◌≡◌, IfOk, IfErr};
+ghost use Rattle.std.specs.Prelude.{◌≡◌, ◌≤◌, IfOk, IfErr};
 ghost use Rattle.clock.specs.Reports.{histories};
+ghost use Rattle.lot_base.specs.Goods.{IsRange};
 ghost use Rattle.trial.specs.Trials.{AreValuationsOf, IsTried};
 ghost use Rattle.house_run.specs.Frame.{Frame};
 ghost use Rattle.house_run.specs.Markets.{IsMarketAt, TriesAs, market_bidders};
 ghost use Rattle.house_run.specs.Seen.{outside, shelf_seen};
-ghost use Rattle.house_run.specs.Steps.{IsTrialEnd, LeavesSo, end_by};
+ghost use Rattle.house_run.specs.BidCommand.{bid_needs};
+ghost use Rattle.house_run.specs.Needs.{Bidding};
+ghost use Rattle.house_run.specs.Steps.{IsTrialEnd, LeavesSo, StopsBidding, end_by};
 ghost use Rattle.house_run.specs.TrialCommand.{trial_needs};
 ghost use Rattle.house_run.specs.declared.ends.Ended.{Ended as End};
 
 use crate::ends::Ended;
 use crate::files::{read_auction, read_values};
+use auction_file::Auction;
 use house_io::Shelf;
 use lot_base::Terms;
 use settlement::{Outcome, Settlement};
@@ -52,18 +56,57 @@ pub(crate) fn read_market<H: Shelf>(
     }
 }
 
-/// The outcome of the trial of a market, or how a command that needs it ends.
+/// An auction, and a valuation for each of its bidders.
+#[derive(Drop)]
+pub(crate) struct Bidders {
+    pub auction: Auction,
+    pub valuations: Vec<Valuation>,
+}
+
+/// Reads an auction, which has to have this bidder, and a file of valuations, or says how a command that needs both ends.
+pub(crate) fn read_bidders<H: Shelf>(
+    alloc: Global,
+    shelf: &mut H,
+    auction: &str,
+    values: &str,
+    bidder: u8,
+) -> Result<Bidders, Ended>
+    ensures read { IfOk result (λ m. IsMarketAt (shelf_seen H.files H.faults H.opened shelf.old shelf.new) auction.now values.now m.auction.terms m.valuations.items) }
+    ensures valuations { IfOk result (λ m. AreValuationsOf m.auction.terms m.valuations.items) }
+    ensures bidder { IfOk result (λ m. bidder ≤ m.auction.terms.bidders) }
+    ensures frame { IfOk result (λ _. (b : Bidding) (end : End) → Frame (bid_needs auction.now values.now b) end (outside H.files H.faults H.opened shelf.old shelf.new)) }
+    ensures ends { IfErr result (λ end. (b : Bidding) → b.bidder ≡ bidder → StopsBidding auction.now values.now b (outside H.files H.faults H.opened shelf.old shelf.new) end) }
+{
+    let auction = match read_auction(alloc, shelf, auction) {
+        Ok(auction) => auction,
+        Err(ended) => return Err(ended),
+    };
+    if auction.terms.bidders < bidder {
+        return Err(Ended::NoBidder(bidder));
+    }
+    match read_values(alloc, shelf, values, &auction.terms) {
+        Ok(valuations) => Ok(Bidders {
+            auction,
+            valuations,
+        }),
+        Err(ended) => Err(ended),
+    }
+}
+
+/// The outcome of the trial of a market by so many workers, or how a command that needs it ends.
 pub(crate) fn try_market<T: Threads + Wait + Sync>(
     rt: &T,
     alloc: Global,
     terms: &Terms,
     valuations: &[Valuation],
+    workers: u32,
 ) -> Result<Outcome, Ended>
-    requires { AreValuationsOf terms.now valuations.now }
+    requires valuations { AreValuationsOf terms.now valuations.now }
+    requires workers { IsRange 1 64 workers }
     ensures tries { IfOk result (TriesAs terms.now valuations.now) }
     ensures ends { IfErr result (IsTrialEnd terms.now valuations.now) }
 {
-    match trial(rt, alloc, terms, valuations, 1) {
+    match trial(rt, alloc, terms, valuations, workers) {
         Ok(tried) => outcome_of(terms, valuations, tried),
         Err(fault) => Err(end_by(&fault)),
     }

@@ -1,22 +1,27 @@
 //! Reading the words of the command line.
-ghost use Rattle.std.specs.Prelude.{◌≡◌, ◌<◌, ◌≤◌, ◌∷◌, ◌++◌, ◌⊎◌, ◌==◌, false, [], ℕ, List, codes, decimal, map, length, IfOk, IfErr, IfSome, IfNone, IsTrue, ◌↔◌, All, string_bytes};
+ghost use Rattle.std.specs.Prelude.{◌≡◌, ◌<◌, ◌≤◌, ◌∷◌, ◌++◌, ◌⊎◌, ◌==◌, false, [], ℕ, List, codes, decimal, map, length, IfOk, IfSome, IfNone, IsSome, IsTrue, Some, ◌↔◌, All, string_bytes};
 ghost use Rattle.std.specs.List.{list_all, slice_split, AllByRecursion};
 ghost use Rattle.house_run.specs.Words.{IsPlainWord, comma_list, words_of};
-ghost use Rattle.house_run.specs.Arguments.{AreArguments};
+ghost use Rattle.clap.specs.Words.{first_value, found_of};
+ghost use Rattle.lot_base.specs.Goods.{IsRange, IsSupply};
+ghost use Rattle.house_run.specs.Givens.{IsBidOf, bid_ids};
 ghost use Rattle.house_run.specs.Commands.{IsNoCommand, IsParted, Spells};
 ghost use Rattle.house_run.specs.Positionals.{texts};
 ghost use Rattle.house_run.specs.FoldCommand.{AreTermWords};
 ghost use Rattle.house_run.specs.CommandView.{command_as};
-ghost use Rattle.std.specs.Char.{is_ascii_digit};
-ghost use Rattle.house_run.specs.Numerals.{is_numeral};
-ghost use Rattle.lot_base.specs.Goods.{IsSupply};
 ghost use Rattle.lot_base.specs.declared.auction_terms.Terms.{Terms as TermsValue};
 
 use crate::arguments::Parted;
+use crate::digits::read_number;
+use crate::options::{flag_of, number_of};
 use crate::positionals::{named_words, word_of};
+use clap::ArgMatches;
 use lot_base::limits::{GREATEST_CEILING, LEAST_CEILING, MOST_BIDDERS, MOST_GOODS};
 use lot_base::{Goods, NoMemory, Terms};
 use std::alloc::Global;
+
+/// A token has at most so many bytes.
+const LONGEST_TOKEN: usize = 64;
 
 /// The words of a command.
 #[derive(Clone, Copy)]
@@ -45,10 +50,29 @@ pub(crate) enum CommandWords<'a> {
     Trial {
         auction: &'a str,
         values: &'a str,
+        workers: u32,
     },
     /// The same of a market that a number makes.
     Make {
         number: u32,
+        workers: u32,
+    },
+    /// An auction is opened to its bidders.
+    Serve {
+        auction: &'a str,
+        journals: &'a str,
+        address: &'a str,
+        doors: u32,
+        sessions: u32,
+    },
+    /// An agent takes the part of a bidder.
+    Bid {
+        auction: &'a str,
+        values: &'a str,
+        bidder: u8,
+        token: &'a str,
+        address: &'a str,
+        looks: u32,
     },
 }
 
@@ -58,17 +82,20 @@ pub(crate) fn read_words<'a>(
     parted: &'a Parted,
 ) -> Result<Option<CommandWords<'a>>, NoMemory>
     requires { All (λ word. IsPlainWord word.now) parted.now.plain.items }
-    ensures some { IfOk result (λ o. IfSome o (λ command. (words : List (List ℕ)) → IsParted words parted.entry.now.name.now (texts parted.entry.now.plain.items) parted.entry.now.given → Spells (command_as command) words)) }
-    ensures none { IfOk result (λ o. IfNone o ((words : List (List ℕ)) → IsParted words parted.entry.now.name.now (texts parted.entry.now.plain.items) parted.entry.now.given → IsNoCommand words)) }
+    ensures some { IfOk result (λ o. IfSome o (λ command. (words : List (List ℕ)) → IsParted words parted.entry.now.name.now (texts parted.entry.now.plain.items) (texts parted.entry.now.options.items) → Spells (command_as command) words)) }
+    ensures none { IfOk result (λ o. IfNone o ((words : List (List ℕ)) → IsParted words parted.entry.now.name.now (texts parted.entry.now.plain.items) (texts parted.entry.now.options.items) → IsNoCommand words)) }
 {
     let plain = parted.plain.as_slice();
+    let options = parted.options.as_slice();
     match parted.name {
         "fold" => read_fold(alloc, plain),
         "check" => read_check(alloc, plain),
         "standing" => read_standing(alloc, plain),
-        "settle" => read_settle(alloc, plain, parted.given),
-        "trial" => read_trial(alloc, plain),
-        "make" => read_make(alloc, plain),
+        "settle" => read_settle(alloc, plain, options),
+        "trial" => read_trial(alloc, plain, options),
+        "make" => read_make(alloc, plain, options),
+        "serve" => read_serve(alloc, plain, options),
+        "bid" => read_bid(alloc, plain, options),
         _ => Ok(None),
     }
 }
@@ -131,16 +158,20 @@ fn read_standing<'a>(
     }
 }
 
-/// The command `settle` of the plain words behind its name, with `--json` among them or not.
+/// The command `settle` of the plain words and the options behind its name.
 fn read_settle<'a>(
     alloc: Global,
     words: &'a [&'a str],
-    json: bool,
+    options: &[&str],
 ) -> Result<Option<CommandWords<'a>>, NoMemory>
     requires { All (λ word. IsPlainWord word.now) words.now }
-    ensures some { IfOk result (λ o. IfSome o (λ command. (behind : List (List ℕ)) → AreArguments (Some (codes "--json")) behind (texts words.entry.now) json → Spells (command_as command) (codes "settle" ∷ behind))) }
-    ensures none { IfOk result (λ o. IfNone o ((behind : List (List ℕ)) → AreArguments (Some (codes "--json")) behind (texts words.entry.now) json → IsNoCommand (codes "settle" ∷ behind))) }
+    ensures some { IfOk result (λ o. IfSome o (λ command. (line : List (List ℕ)) → IsParted line (codes "settle") (texts words.entry.now) (texts options.now) → Spells (command_as command) line)) }
+    ensures none { IfOk result (λ o. IfNone o ((line : List (List ℕ)) → IsParted line (codes "settle") (texts words.entry.now) (texts options.now) → IsNoCommand line)) }
 {
+    let json = match flag_of(options, "--json") {
+        Some(json) => json,
+        None => return Ok(None),
+    };
     match named_words(alloc, "settle", &["AUCTION", "JOURNALS"], words) {
         Ok(Some(matches)) => Ok(Some(CommandWords::Settle {
             auction: word_of(&matches, "AUCTION"),
@@ -152,36 +183,130 @@ fn read_settle<'a>(
     }
 }
 
-/// The command `trial` of the words behind its name.
-fn read_trial<'a>(alloc: Global, words: &'a [&'a str]) -> Result<Option<CommandWords<'a>>, NoMemory>
+/// The command `trial` of the plain words and the options behind its name.
+fn read_trial<'a>(
+    alloc: Global,
+    words: &'a [&'a str],
+    options: &[&str],
+) -> Result<Option<CommandWords<'a>>, NoMemory>
     requires { All (λ word. IsPlainWord word.now) words.now }
-    ensures some { IfOk result (λ o. IfSome o (λ command. Spells (command_as command) (codes "trial" ∷ texts words.entry.now))) }
-    ensures none { IfOk result (λ o. IfNone o (IsNoCommand (codes "trial" ∷ texts words.entry.now))) }
+    ensures some { IfOk result (λ o. IfSome o (λ command. (line : List (List ℕ)) → IsParted line (codes "trial") (texts words.entry.now) (texts options.now) → Spells (command_as command) line)) }
+    ensures none { IfOk result (λ o. IfNone o ((line : List (List ℕ)) → IsParted line (codes "trial") (texts words.entry.now) (texts options.now) → IsNoCommand line)) }
 {
+    let workers = match number_of(options, "--workers=", 1, 64, 1) {
+        Some(workers) => workers,
+        None => return Ok(None),
+    };
     match named_words(alloc, "trial", &["AUCTION", "VALUES"], words) {
         Ok(Some(matches)) => Ok(Some(CommandWords::Trial {
             auction: word_of(&matches, "AUCTION"),
             values: word_of(&matches, "VALUES"),
+            workers,
         })),
         Ok(None) => Ok(None),
         Err(NoMemory) => Err(NoMemory),
     }
 }
 
-/// The command `make` of the words behind its name.
-fn read_make<'a>(alloc: Global, words: &'a [&'a str]) -> Result<Option<CommandWords<'a>>, NoMemory>
+/// The command `make` of the plain words and the options behind its name.
+fn read_make<'a>(
+    alloc: Global,
+    words: &'a [&'a str],
+    options: &[&str],
+) -> Result<Option<CommandWords<'a>>, NoMemory>
     requires { All (λ word. IsPlainWord word.now) words.now }
-    ensures some { IfOk result (λ o. IfSome o (λ command. Spells (command_as command) (codes "make" ∷ texts words.entry.now))) }
-    ensures none { IfOk result (λ o. IfNone o (IsNoCommand (codes "make" ∷ texts words.entry.now))) }
+    ensures some { IfOk result (λ o. IfSome o (λ command. (line : List (List ℕ)) → IsParted line (codes "make") (texts words.entry.now) (texts options.now) → Spells (command_as command) line)) }
+    ensures none { IfOk result (λ o. IfNone o ((line : List (List ℕ)) → IsParted line (codes "make") (texts words.entry.now) (texts options.now) → IsNoCommand line)) }
 {
+    let workers = match number_of(options, "--workers=", 1, 64, 1) {
+        Some(workers) => workers,
+        None => return Ok(None),
+    };
     match named_words(alloc, "make", &["NUMBER"], words) {
         Ok(Some(matches)) => match read_number(word_of(&matches, "NUMBER"), 0, u32::MAX) {
-            Some(number) => Ok(Some(CommandWords::Make { number })),
+            Some(number) => Ok(Some(CommandWords::Make { number, workers })),
             None => Ok(None),
         },
         Ok(None) => Ok(None),
         Err(NoMemory) => Err(NoMemory),
     }
+}
+
+/// The command `serve` of the plain words and the options behind its name.
+fn read_serve<'a>(
+    alloc: Global,
+    words: &'a [&'a str],
+    options: &[&str],
+) -> Result<Option<CommandWords<'a>>, NoMemory>
+    requires { All (λ word. IsPlainWord word.now) words.now }
+    ensures some { IfOk result (λ o. IfSome o (λ command. (line : List (List ℕ)) → IsParted line (codes "serve") (texts words.entry.now) (texts options.now) → Spells (command_as command) line)) }
+    ensures none { IfOk result (λ o. IfNone o ((line : List (List ℕ)) → IsParted line (codes "serve") (texts words.entry.now) (texts options.now) → IsNoCommand line)) }
+{
+    let doors = match number_of(options, "--doors=", 1, 64, 4) {
+        Some(doors) => doors,
+        None => return Ok(None),
+    };
+    let sessions = match number_of(options, "--sessions=", 1, 10_000, 1) {
+        Some(sessions) => sessions,
+        None => return Ok(None),
+    };
+    match named_words(alloc, "serve", &["AUCTION", "JOURNALS", "ADDRESS"], words) {
+        Ok(Some(matches)) => Ok(Some(CommandWords::Serve {
+            auction: word_of(&matches, "AUCTION"),
+            journals: word_of(&matches, "JOURNALS"),
+            address: word_of(&matches, "ADDRESS"),
+            doors,
+            sessions,
+        })),
+        Ok(None) => Ok(None),
+        Err(NoMemory) => Err(NoMemory),
+    }
+}
+
+/// The command `bid` of the plain words and the options behind its name.
+fn read_bid<'a>(
+    alloc: Global,
+    words: &'a [&'a str],
+    options: &[&str],
+) -> Result<Option<CommandWords<'a>>, NoMemory>
+    requires { All (λ word. IsPlainWord word.now) words.now }
+    ensures some { IfOk result (λ o. IfSome o (λ command. (line : List (List ℕ)) → IsParted line (codes "bid") (texts words.entry.now) (texts options.now) → Spells (command_as command) line)) }
+    ensures none { IfOk result (λ o. IfNone o ((line : List (List ℕ)) → IsParted line (codes "bid") (texts words.entry.now) (texts options.now) → IsNoCommand line)) }
+{
+    let looks = match number_of(options, "--looks=", 1, 1_000_000_000, 100_000) {
+        Some(looks) => looks,
+        None => return Ok(None),
+    };
+    let names = ["AUCTION", "VALUES", "BIDDER", "TOKEN", "ADDRESS"];
+    match named_words(alloc, "bid", &names, words) {
+        Ok(Some(matches)) => Ok(bid_of(&matches, looks)),
+        Ok(None) => Ok(None),
+        Err(NoMemory) => Err(NoMemory),
+    }
+}
+
+/// The command `bid` of its words, if the bidder is one of 1 to 12 and the token has 1 to 64 bytes.
+fn bid_of<'a>(matches: &ArgMatches<'a>, looks: u32) -> Option<CommandWords<'a>>
+    requires { AllByRecursion (λ id. IsSome (first_value (found_of matches.now) id)) bid_ids }
+    ensures some { IfSome result (λ command. IsBidOf (found_of matches.now) looks (command_as command)) }
+    ensures none { IfNone result ((bidder : ℕ) (token : List ℕ) → IsRange 1 12 bidder → IsRange 1 64 (length token) → first_value (found_of matches.now) (codes "BIDDER") ≡ Some (decimal bidder) → first_value (found_of matches.now) (codes "TOKEN") ≡ Some token → ⊥) }
+{
+    let bidder = match read_number(word_of(matches, "BIDDER"), 1, MOST_BIDDERS as u32) {
+        Some(bidder) => bidder as u8,
+        None => return None,
+    };
+    let token = word_of(matches, "TOKEN");
+    if token.is_empty() || token.len() > LONGEST_TOKEN {
+        return None;
+    }
+    Some(CommandWords::Bid {
+        auction: word_of(matches, "AUCTION"),
+        values: word_of(matches, "VALUES"),
+        bidder,
+        token,
+        address: word_of(matches, "ADDRESS"),
+        looks,
+    })
 }
 
 /// The terms that these words give.
@@ -260,35 +385,4 @@ fn read_supply(supplies: &mut Vec<u16>, piece: &str) -> Result<bool, NoMemory>
         }
         None => Ok(false),
     }
-}
-
-/// The number in a range whose decimal digits a word is, without a leading zero.
-fn read_number(word: &str, low: u32, high: u32) -> Option<u32>
-    ensures some { IfSome result (λ number. (word.now ≡ decimal number) × (low ≤ number) × (number ≤ high)) }
-    ensures none { IfNone result ((number : ℕ) → low ≤ number → number ≤ high → word.now ≡ decimal number → ⊥) }
-{
-    if !is_numeral(word.as_bytes()) {
-        return None;
-    }
-    match word.parse::<u32>() {
-        Ok(number) if low <= number && number <= high => Some(number),
-        _ => None,
-    }
-}
-
-/// Whether these are decimal digits without a leading zero, but for `0` itself.
-fn is_numeral(bytes: &[u8]) -> bool
-    ensures { result ≡ is_numeral bytes.now }
-{
-    match bytes {
-        [] => false,
-        [b'0', _, ..] => false,
-        _ => all_digits(bytes),
-    }
-}
-
-fn all_digits(bytes: &[u8]) -> bool
-    ensures { result ≡ list_all is_ascii_digit bytes.now }
-{
-    bytes.iter().all(|byte| byte.is_ascii_digit())
 }

@@ -1,6 +1,6 @@
 //! What no clause says: how runs end where there is memory, on words and files that were written by hand.
 use auction_file::AuctionFault;
-use house_io::{ListFile, ListShelf, ListSink, SureFile, SureShelf, SureSink};
+use house_io::{ListFile, ListShelf, ListSink, SureFile, SureNet, SureShelf, SureSink};
 use house_run::{Ended, File, run};
 use std::alloc::Global;
 use std::process::Abort;
@@ -20,6 +20,11 @@ enum Failing {
     Opening(u64),
     Pull(u64),
     Push(u64),
+}
+
+/// A net without doors or links.
+fn no_net(alloc: Global) -> Result<SureNet, Fail> {
+    Ok(SureNet::new(alloc, Vec::new(alloc), Vec::new(alloc))?)
 }
 
 fn words_of(alloc: Global, words: &[&str]) -> Result<Vec<String>, Fail> {
@@ -56,7 +61,8 @@ fn assert_run(
     let mut shelf = SureShelf::new(alloc, files, 0)?;
     let mut out = SureSink::new(alloc, 200)?;
     let words = words_of(alloc, words)?;
-    let answer = run(rt, alloc, &words, &mut shelf, &mut out);
+    let mut net = no_net(alloc)?;
+    let answer = run(rt, alloc, &words, &mut shelf, &mut out, &mut net);
     assert_eq!(rt; answer.status(), status, "{words:?}: {answer:?}");
     assert_eq!(rt; out.written(), text.as_bytes(), "{words:?}: {answer:?}");
     assert_eq!(rt; shelf.file(name), Some(bytes));
@@ -96,7 +102,8 @@ fn assert_failing(
     let mut shelf = ListShelf::new(alloc, files, 0, plan_of(alloc, opening)?)?;
     let mut out = ListSink::new(alloc, 200, plan_of(alloc, push)?)?;
     let words = words_of(alloc, words)?;
-    let answer = run(rt, alloc, &words, &mut shelf, &mut out);
+    let mut net = no_net(alloc)?;
+    let answer = run(rt, alloc, &words, &mut shelf, &mut out, &mut net);
     assert_eq!(rt;
         answer.status(),
         status,
@@ -121,6 +128,7 @@ fn ends_have_their_numbers(rt: HostRuntime) {
         (Ended::ReadFault, 4),
         (Ended::WriteFault, 5),
         (Ended::DiskFault(1), 6),
+        (Ended::NetFault, 7),
         (
             Ended::Open {
                 clock: 0,
@@ -134,6 +142,9 @@ fn ends_have_their_numbers(rt: HostRuntime) {
         (Ended::TooLong(File::Auction), 14),
         (Ended::TooLong(File::Log), 14),
         (Ended::BadLog(0), 15),
+        (Ended::LooksSpent(0), 17),
+        (Ended::BadReply, 18),
+        (Ended::NoBidder(3), 19),
     ] {
         assert_eq!(rt; ended.status(), status, "{ended:?}");
     }

@@ -1,5 +1,5 @@
 //! What no clause says: auctions that were worked by hand, told by valuations, and the market of the number 7.
-use house_io::{SureFile, SureShelf, SureSink};
+use house_io::{SureFile, SureNet, SureShelf, SureSink};
 use house_run::run;
 use std::alloc::Global;
 use std::process::Abort;
@@ -103,6 +103,11 @@ clock 2 steps 0 prices 0 0
 choice 2 1 1 0
 ";
 
+/// A net without doors or links.
+fn no_net(alloc: Global) -> Result<SureNet, Fail> {
+    Ok(SureNet::new(alloc, Vec::new(alloc), Vec::new(alloc))?)
+}
+
 fn words_of(alloc: Global, words: &[&str]) -> Result<Vec<String>, Fail> {
     let mut copies = Vec::new(alloc);
     for word in words {
@@ -158,7 +163,8 @@ fn ends_with(
 ) -> Result<bool, Fail> {
     let mut out = SureSink::new(alloc, 2000)?;
     let words = words_of(alloc, words)?;
-    let answer = run(rt, alloc, &words, &mut shelf, &mut out);
+    let mut net = no_net(alloc)?;
+    let answer = run(rt, alloc, &words, &mut shelf, &mut out, &mut net);
     Ok(answer.status() == status && out.written() == text.as_bytes())
 }
 

@@ -1,7 +1,6 @@
 //! The command `check`: what an auction file says.
-ghost use Rattle.house_run.specs.Commands.{Check};
-ghost use Rattle.house_run.specs.CheckCommand.{check_needs};
-ghost use Rattle.house_run.specs.Ends.{JobAnswer, end_of};
+ghost use Rattle.house_run.specs.CheckCommand.{CheckDone, check_needs};
+ghost use Rattle.house_run.specs.Ends.{ShelfAnswer, end_of};
 ghost use Rattle.house_run.specs.Frame.{Frame};
 ghost use Rattle.house_run.specs.Seen.{outside};
 
@@ -13,7 +12,7 @@ use std::alloc::Global;
 
 /// The text of the auction that a file says, or why there is none.
 pub(crate) fn job<H: Shelf>(alloc: Global, auction: &str, shelf: &mut H) -> Result<Vec<u8>, Ended>
-    ensures answer { JobAnswer (Check auction.now) (outside H.files H.faults H.opened shelf.old shelf.new) result }
+    ensures answer { ShelfAnswer (CheckDone auction.now) (check_needs auction.now) (outside H.files H.faults H.opened shelf.old shelf.new) result }
     ensures frame { Frame (check_needs auction.now) (end_of result) (outside H.files H.faults H.opened shelf.old shelf.new) }
 {
     let auction = match read_auction(alloc, shelf, auction) {

@@ -1,8 +1,7 @@
 //! The command `fold`: one clock over a log.
 ghost use Rattle.std.specs.Prelude.{◌≡◌};
-ghost use Rattle.house_run.specs.Commands.{Fold};
-ghost use Rattle.house_run.specs.Ends.{JobAnswer, end_of};
-ghost use Rattle.house_run.specs.FoldCommand.{fold_needs};
+ghost use Rattle.house_run.specs.Ends.{ShelfAnswer, end_of};
+ghost use Rattle.house_run.specs.FoldCommand.{FoldDone, fold_needs};
 ghost use Rattle.house_run.specs.Frame.{Frame};
 ghost use Rattle.house_run.specs.Seen.{outside};
 
@@ -20,7 +19,7 @@ pub(crate) fn job<H: Shelf>(
     log: &str,
     shelf: &mut H,
 ) -> Result<Vec<u8>, Ended>
-    ensures answer { JobAnswer (Fold terms.now log.now) (outside H.files H.faults H.opened shelf.old shelf.new) result }
+    ensures answer { ShelfAnswer (FoldDone terms.now log.now) (fold_needs terms.now log.now) (outside H.files H.faults H.opened shelf.old shelf.new) result }
     ensures frame { Frame (fold_needs terms.now log.now) (end_of result) (outside H.files H.faults H.opened shelf.old shelf.new) }
 {
     let clock = match read_log(alloc, terms, shelf, log) {

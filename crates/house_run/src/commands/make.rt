@@ -3,10 +3,10 @@ ghost use Rattle.std.specs.Prelude.{◌≡◌, ◌<◌, ◌^◌, pos, neg_ℤ, �
 ghost use Rattle.sha2.specs.Sha256.{sha256};
 ghost use Rattle.hex.specs.Hex.{encode_lower};
 ghost use Rattle.outcome_text.specs.Plain.{plain_text};
-ghost use Rattle.house_run.specs.Commands.{Make};
-ghost use Rattle.house_run.specs.Ends.{JobAnswer, end_of};
+ghost use Rattle.lot_base.specs.Goods.{IsRange};
+ghost use Rattle.house_run.specs.Ends.{ShelfAnswer, end_of};
 ghost use Rattle.house_run.specs.Frame.{Frame};
-ghost use Rattle.house_run.specs.MakeCommand.{make_line, make_needs, revenue_of, steps_in, summary_line};
+ghost use Rattle.house_run.specs.MakeCommand.{MakeDone, make_line, make_needs, revenue_of, steps_in, summary_line};
 ghost use Rattle.house_run.specs.Seen.{outside};
 
 use crate::ends::Ended;
@@ -26,16 +26,18 @@ pub(crate) fn job<T: Threads + Wait + Sync, H: Shelf>(
     rt: &T,
     alloc: Global,
     number: u32,
+    workers: u32,
     shelf: &mut H,
 ) -> Result<Vec<u8>, Ended>
-    ensures answer { JobAnswer (Make number) (outside H.files H.faults H.opened shelf.old shelf.new) result }
+    requires { IsRange 1 64 workers }
+    ensures answer { ShelfAnswer (λ _. MakeDone number) (make_needs number) (outside H.files H.faults H.opened shelf.old shelf.new) result }
     ensures frame { Frame (make_needs number) (end_of result) (outside H.files H.faults H.opened shelf.old shelf.new) }
 {
     let (terms, valuations) = match make(alloc, number) {
         Ok(market) => market,
         Err(NoMemory) => return Err(Ended::NoMemory),
     };
-    let outcome = match try_market(rt, alloc, &terms, valuations.as_slice()) {
+    let outcome = match try_market(rt, alloc, &terms, valuations.as_slice(), workers) {
         Ok(outcome) => outcome,
         Err(ended) => return Err(ended),
     };

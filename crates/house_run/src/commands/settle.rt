@@ -2,13 +2,12 @@
 ghost use Rattle.std.specs.Prelude.{◌≡◌, IfOk, IfErr};
 ghost use Rattle.clock.specs.Reports.{histories};
 ghost use Rattle.settlement.specs.Clocks.{AreClocksOf};
-ghost use Rattle.house_run.specs.Commands.{Settle};
-ghost use Rattle.house_run.specs.Ends.{JobAnswer, end_of};
+ghost use Rattle.house_run.specs.Ends.{ShelfAnswer, end_of};
 ghost use Rattle.house_run.specs.Frame.{Frame};
 ghost use Rattle.house_run.specs.Outcomes.{text_of_outcome};
 ghost use Rattle.house_run.specs.Steps.{IsSettledEnd, IsSettledText};
 ghost use Rattle.house_run.specs.Seen.{outside};
-ghost use Rattle.house_run.specs.SettleCommand.{settle_needs};
+ghost use Rattle.house_run.specs.SettleCommand.{SettleDone, settle_needs};
 
 use crate::ends::Ended;
 use crate::house::{House, read_house};
@@ -26,7 +25,7 @@ pub(crate) fn job<H: Shelf>(
     json: bool,
     shelf: &mut H,
 ) -> Result<Vec<u8>, Ended>
-    ensures answer { JobAnswer (Settle auction.now journals.now json) (outside H.files H.faults H.opened shelf.old shelf.new) result }
+    ensures answer { ShelfAnswer (SettleDone auction.now journals.now json) (settle_needs auction.now journals.now) (outside H.files H.faults H.opened shelf.old shelf.new) result }
     ensures frame { Frame (settle_needs auction.now journals.now) (end_of result) (outside H.files H.faults H.opened shelf.old shelf.new) }
 {
     let house = match read_house(alloc, shelf, auction, journals) {

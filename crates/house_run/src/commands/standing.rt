@@ -2,11 +2,10 @@
 ghost use Rattle.std.specs.Prelude.{◌≡◌, IfOk};
 ghost use Rattle.std.specs.List.{flat_map};
 ghost use Rattle.clock.specs.Reports.{histories};
-ghost use Rattle.house_run.specs.Commands.{Standing};
-ghost use Rattle.house_run.specs.Ends.{JobAnswer, end_of};
+ghost use Rattle.house_run.specs.Ends.{ShelfAnswer, end_of};
 ghost use Rattle.house_run.specs.Frame.{Frame};
 ghost use Rattle.house_run.specs.Seen.{outside};
-ghost use Rattle.house_run.specs.StandingCommand.{standing_needs};
+ghost use Rattle.house_run.specs.StandingCommand.{StandingDone, standing_needs};
 ghost use Rattle.house_run.specs.Texts.{standing_of};
 
 use crate::ends::Ended;
@@ -24,7 +23,7 @@ pub(crate) fn job<H: Shelf>(
     journals: &str,
     shelf: &mut H,
 ) -> Result<Vec<u8>, Ended>
-    ensures answer { JobAnswer (Standing auction.now journals.now) (outside H.files H.faults H.opened shelf.old shelf.new) result }
+    ensures answer { ShelfAnswer (StandingDone auction.now journals.now) (standing_needs auction.now journals.now) (outside H.files H.faults H.opened shelf.old shelf.new) result }
     ensures frame { Frame (standing_needs auction.now journals.now) (end_of result) (outside H.files H.faults H.opened shelf.old shelf.new) }
 {
     let house = match read_house(alloc, shelf, auction, journals) {
@@ -38,7 +37,7 @@ pub(crate) fn job<H: Shelf>(
 }
 
 /// The standing line of each clock.
-fn standing_text(alloc: Global, clocks: &[Clock]) -> Result<Vec<u8>, NoMemory>
+pub(crate) fn standing_text(alloc: Global, clocks: &[Clock]) -> Result<Vec<u8>, NoMemory>
     ensures { IfOk result (λ text. text.items ≡ flat_map standing_of (histories clocks.now)) }
 {
     let mut text = Vec::new(alloc);

@@ -1,9 +1,9 @@
 //! The command `trial`: what the clocks of an auction settle, told by bidders with valuations.
-ghost use Rattle.house_run.specs.Commands.{Trial};
-ghost use Rattle.house_run.specs.Ends.{JobAnswer, end_of};
+ghost use Rattle.lot_base.specs.Goods.{IsRange};
+ghost use Rattle.house_run.specs.Ends.{ShelfAnswer, end_of};
 ghost use Rattle.house_run.specs.Frame.{Frame};
 ghost use Rattle.house_run.specs.Seen.{outside};
-ghost use Rattle.house_run.specs.TrialCommand.{trial_needs};
+ghost use Rattle.house_run.specs.TrialCommand.{TrialDone, trial_needs};
 
 use crate::ends::Ended;
 use crate::markets::{read_market, try_market};
@@ -20,16 +20,19 @@ pub(crate) fn job<T: Threads + Wait + Sync, H: Shelf>(
     alloc: Global,
     auction: &str,
     values: &str,
+    workers: u32,
     shelf: &mut H,
 ) -> Result<Vec<u8>, Ended>
-    ensures answer { JobAnswer (Trial auction.now values.now) (outside H.files H.faults H.opened shelf.old shelf.new) result }
+    requires { IsRange 1 64 workers }
+    ensures answer { ShelfAnswer (TrialDone auction.now values.now) (trial_needs auction.now values.now) (outside H.files H.faults H.opened shelf.old shelf.new) result }
     ensures frame { Frame (trial_needs auction.now values.now) (end_of result) (outside H.files H.faults H.opened shelf.old shelf.new) }
 {
     let market = match read_market(alloc, shelf, auction, values) {
         Ok(market) => market,
         Err(ended) => return Err(ended),
     };
-    let outcome = match try_market(rt, alloc, &market.terms, market.valuations.as_slice()) {
+    let valuations = market.valuations.as_slice();
+    let outcome = match try_market(rt, alloc, &market.terms, valuations, workers) {
         Ok(outcome) => outcome,
         Err(ended) => return Err(ended),
     };

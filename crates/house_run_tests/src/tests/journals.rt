@@ -156,7 +156,8 @@ pub(super) fn assert_house(
     let mut shelf = shelf_of(alloc, auction, journals)?;
     let mut out = SureSink::new(alloc, 1_000)?;
     let words = words_of(alloc, words)?;
-    let answer = run(rt, alloc, &words, &mut shelf, &mut out);
+    let mut net = no_net(alloc)?;
+    let answer = run(rt, alloc, &words, &mut shelf, &mut out, &mut net);
     assert_eq!(rt; answer.status(), status, "{words:?}: {answer:?}");
     assert_eq!(rt; out.written(), text.as_bytes(), "{words:?}: {answer:?}");
     if let Some(journal) = journals.first() {

@@ -413,7 +413,8 @@ fn assert_disk(
     let mut shelf = ListShelf::new(alloc, files, 9, plan_of(alloc, opening)?)?;
     let mut out = SureSink::new(alloc, 200)?;
     let words = words_of(alloc, &[command, "a", "j"])?;
-    let answer = run(rt, alloc, &words, &mut shelf, &mut out);
+    let mut net = no_net(alloc)?;
+    let answer = run(rt, alloc, &words, &mut shelf, &mut out, &mut net);
     assert_eq!(rt; answer.status(), status, "{answer:?}");
     assert_eq!(rt; out.written(), text.as_bytes(), "{answer:?}");
     Ok(())

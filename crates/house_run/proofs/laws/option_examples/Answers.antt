@@ -1,25 +1,40 @@
-use Rattle.std.proofs.Common.{◌≡◌, Bool, true, false, [], ◌∷◌, Some, refl}
+use Rattle.std.proofs.Common.{◌≡◌, Bool, true, false, [], ◌∷◌, refl, inl, inr}
 use Rattle.std.specs.Prelude.{codes}
-use Rattle.house_run.specs.Arguments.{HasOption}
-use Rattle.house_run.proofs.PlainWords.{unparted}
+use Rattle.house_run.specs.Arguments.{HasFlag}
+use Rattle.house_run.proofs.NamedWords.{no-settle}
+use Rattle.house_run.proofs.PlainWords.{unknown}
 use Rattle.house_run.proofs.laws.option_examples.Goals as goal
 
-twice : (given : Bool) → HasOption (Some (codes "--json")) (codes "--json" ∷ codes "--json" ∷ []) given → ⊥
+twice : (given : Bool) → HasFlag (codes "--json") (codes "--json" ∷ codes "--json" ∷ []) given → ⊥
 twice false has = let bad : codes "--json" ∷ codes "--json" ∷ [] ≡ [] = has in cc
 twice true has = let bad : codes "--json" ∷ codes "--json" ∷ [] ≡ codes "--json" ∷ [] = has in cc
 
-valued : (given : Bool) → HasOption (Some (codes "--json")) (codes "--json=1" ∷ []) given → ⊥
-valued false has = let bad : codes "--json=1" ∷ [] ≡ [] = has in cc
-valued true has = let bad : codes "--json=1" ∷ [] ≡ codes "--json" ∷ [] = has in cc
-
 pub returns-clause-between : goal.returns-clause-between
-returns-clause-between c = record { behind = codes "a" ∷ codes "--json" ∷ codes "j" ∷ []; words_are = refl; arguments = record { plain_are = refl; option_is = refl } }
+returns-clause-between c = record {
+  behind = codes "a" ∷ codes "--json" ∷ codes "j" ∷ [];
+  options = codes "--json" ∷ [];
+  words_are = refl;
+  arguments = record { known = refl; plain_are = refl; options_are = refl };
+  json_is = refl;
+}
 
 pub returns-clause-before : goal.returns-clause-before
-returns-clause-before c = record { behind = codes "--json" ∷ codes "a" ∷ codes "j" ∷ []; words_are = refl; arguments = record { plain_are = refl; option_is = refl } }
+returns-clause-before c = record {
+  behind = codes "--json" ∷ codes "a" ∷ codes "j" ∷ [];
+  options = codes "--json" ∷ [];
+  words_are = refl;
+  arguments = record { known = refl; plain_are = refl; options_are = refl };
+  json_is = refl;
+}
 
 pub returns-clause-twice : goal.returns-clause-twice
-returns-clause-twice c = unparted (codes "settle") (codes "a" ∷ codes "j" ∷ codes "--json" ∷ codes "--json" ∷ []) twice
+returns-clause-twice c =
+    no-settle (codes "settle" ∷ codes "a" ∷ codes "j" ∷ codes "--json" ∷ codes "--json" ∷ []) (codes "a" ∷ codes "j" ∷ []) (codes "--json" ∷ codes "--json" ∷ [])
+    (record { behind = codes "a" ∷ codes "j" ∷ codes "--json" ∷ codes "--json" ∷ []; words_are = refl; named = inr (inr (inr (inl refl))); arguments = record { known = refl; plain_are = refl; options_are = refl } })
+    (λ auction journals json same has. twice json has)
 
 pub returns-clause-valued : goal.returns-clause-valued
-returns-clause-valued c = unparted (codes "settle") (codes "a" ∷ codes "j" ∷ codes "--json=1" ∷ []) valued
+returns-clause-valued c = unknown (codes "settle") (codes "a" ∷ codes "j" ∷ codes "--json=1" ∷ []) refl
+
+pub returns-clause-dashes : goal.returns-clause-dashes
+returns-clause-dashes c = unknown (codes "settle") (codes "a" ∷ codes "j" ∷ codes "--" ∷ []) refl

@@ -5,7 +5,7 @@ use Rattle.house_run.specs.Seen.{outside}
 use Rattle.house_run.specs.TrialCommand.{trial_needs}
 use Rattle.house_run.proofs.HouseSteps.{terms-of}
 use Rattle.house_run.proofs.Framing.{steady-counts}
-use Rattle.house_run.proofs.MarketSteps.{auction-ends, market-frame, market-read, terms-then, values-ends, known-by}
+use Rattle.house_run.proofs.MarketSteps.{auction-ends, market-frame, market-read, terms-then, trial-two, values-ends, known-by}
 use Rattle.house_run.specs.Causes.{Tells}
 use Rattle.house_run.specs.Seen.{shelf_seen}
 use Rattle.house_run.proofs.markets.read_market.Goals as goal
@@ -13,7 +13,7 @@ use Rattle.house_run.proofs.markets.read_market.Goals as goal
 pub returns-in-Err-clause-ends : goal.returns-in-Err-clause-ends
 returns-in-Err-clause-ends g c =
     let seen = outside g.H.Shelf.files g.H.Shelf.faults g.H.Shelf.opened c.args.shelf.now c.read_auction.new.shelf in
-    auction-ends c.args.auction.now c.args.values.now seen c.in-Err.ended c.read_auction.ensures.reads (c.in-Err.ensures.refused (trial_needs c.args.auction.now c.args.values.now) refl)
+    auction-ends (trial_needs c.args.auction.now c.args.values.now) c.args.auction.now c.args.values.now seen c.in-Err.ended (trial-two c.args.auction.now c.args.values.now) c.read_auction.ensures.reads (c.in-Err.ensures.refused (trial_needs c.args.auction.now c.args.values.now) refl)
 
 pub returns-in-Ok-read_values-clause-read : goal.returns-in-Ok-read_values-clause-read
 returns-in-Ok-read_values-clause-read g c =
@@ -34,7 +34,7 @@ returns-in-Ok-read_values-clause-frame g c = λ end.
     let names = g.H.Shelf.opened c.read_auction.new.shelf in
     let known = known-by c.args.auction.now seen auction.terms (listing_of auction) files faults names c.in-Ok.ensures.read (terms-of auction) c.read_auction.ensures.reads.unchanged c.in-Ok.ensures.opened c.in-Ok.ensures.steady in
     let second = shelf_seen g.H.Shelf.files g.H.Shelf.faults g.H.Shelf.opened c.read_auction.new.shelf c.read_values.new.shelf in
-    market-frame c.args.auction.now c.args.values.now seen auction.terms files faults names end known c.read_values.ensures.reads (steady-counts (Tells (trial_needs c.args.auction.now c.args.values.now) end) second c.in-Ok-read_values.ensures.steady)
+    market-frame (trial_needs c.args.auction.now c.args.values.now) c.args.auction.now c.args.values.now seen auction.terms files faults names end (trial-two c.args.auction.now c.args.values.now) known c.read_values.ensures.reads (steady-counts (Tells (trial_needs c.args.auction.now c.args.values.now) end) second c.in-Ok-read_values.ensures.steady)
 
 pub returns-clause-ends : goal.returns-clause-ends
 returns-clause-ends g c =
@@ -45,4 +45,4 @@ returns-clause-ends g c =
     let names = g.H.Shelf.opened c.read_auction.new.shelf in
     let known = known-by c.args.auction.now seen auction.terms (listing_of auction) files faults names c.in-Ok.ensures.read (terms-of auction) c.read_auction.ensures.reads.unchanged c.in-Ok.ensures.opened c.in-Ok.ensures.steady in
     let has = terms-then c.args.auction.now seen auction.terms files faults names known c.read_values.ensures.reads.unchanged in
-    values-ends c.in-Err-read_values.ended c.args.auction.now c.args.values.now seen auction.terms files faults names known has c.read_values.ensures.reads c.in-Err-read_values.ensures.refused
+    values-ends c.in-Err-read_values.ended (trial_needs c.args.auction.now c.args.values.now) c.args.auction.now c.args.values.now seen auction.terms files faults names (trial-two c.args.auction.now c.args.values.now) known has c.read_values.ensures.reads c.in-Err-read_values.ensures.refused

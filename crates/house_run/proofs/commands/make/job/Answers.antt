@@ -1,6 +1,5 @@
 -- The market of the number is tried.
 use Rattle.std.proofs.Common.{◌∙◌, List, ℕ, ap, subst}
-use Rattle.settlement.specs.declared.outcome.Outcome.{Outcome}
 use Rattle.house_run.specs.Markets.{TriesAs}
 use Rattle.house_run.specs.Seen.{outside}
 use Rattle.house_run.specs.Steps.{IsTrialEnd}

@@ -1,4 +1,4 @@
-use Rattle.std.proofs.Common.{arith, refl}
+use Rattle.std.proofs.Common.{arith}
 use Rattle.house_run.proofs.Summing.{steps-next, steps-all}
 use Rattle.house_run.proofs.commands.make.steps_in.Goals as goal
 

@@ -11,7 +11,7 @@ returns-in-Err-try_market-clause-answer g c =
     let seen = outside g.H.Shelf.files g.H.Shelf.faults g.H.Shelf.opened c.args.shelf.now c.read_market.new.shelf in
     let terms = c.in-Ok.market.terms in
     let E : List (List ℕ) → Type 0 = λ vs. IsTrialEnd terms vs c.in-Err-try_market.ended in
-    trial-ends c.in-Err-try_market.ended c.args.auction.now c.args.values.now seen terms c.in-Ok.market.valuations.items c.in-Ok.ensures.read (subst E c.as_slice.ensures.value c.in-Err-try_market.ensures.ends)
+    trial-ends c.in-Err-try_market.ended c.args.auction.now c.args.values.now seen terms c.in-Ok.market.valuations.items c.in-Ok.ensures.read (subst E c.as_slice-valuations.ensures.value c.in-Err-try_market.ensures.ends)
 
 pub returns-in-Err-try_market-clause-frame : goal.returns-in-Err-try_market-clause-frame
 returns-in-Err-try_market-clause-frame g c = c.in-Ok.ensures.frame c.in-Err-try_market.ended
@@ -25,7 +25,7 @@ returns-in-Ok-write_plain-clause-answer g c =
       valuations = c.in-Ok.market.valuations.items;
       market = c.in-Ok.ensures.read;
       outcome = c.in-Ok-try_market.outcome;
-      tries = subst T c.as_slice.ensures.value c.in-Ok-try_market.ensures.tries;
+      tries = subst T c.as_slice-valuations.ensures.value c.in-Ok-try_market.ensures.tries;
       text_is = c.in-Ok-write_plain.ensures;
     }
 

@@ -1,0 +1,161 @@
+-- Doors and books are given back one after another.
+use Rattle.std.proofs.Common.{◌≡◌, ◌∙◌, ◌<◌, ◌≤◌, ◌+◌, ◌-◌, ◌++◌, ℕ, Bool, true, false, IsTrue, List, [], ◌∷◌, length, map, reverse, Option, Some, None, arith, refl, sym, ap, subst, append_assoc, length-append}
+use Rattle.std.specs.Prelude.{min}
+use Rattle.std.specs.List.{AllByRecursion}
+use Rattle.std.proofs.lemmas.List.{append-nil, map-append, reverse-append}
+use Rattle.house_io.specs.Faults.{Rose, raised_by}
+use Rattle.house_io.specs.Moments.{Moments}
+use Rattle.house_io.specs.Nets.{NetLists, TakesDoor}
+use Rattle.house_io.specs.Told.{IfTold}
+use Rattle.clock.specs.Reports.{ClockHistory, ClockOf, histories}
+use Rattle.clock_book.specs.Books.{BookOf, IsKept}
+use Rattle.house_serve.specs.declared.ends.SessionEnd.{SessionEnd}
+use Rattle.house_run.specs.GivingBack.{TakesAll, raised_by_all}
+use Rattle.house_run.proofs.JournalSteps.{all-more}
+
+pub told-then : {A : Type 0} (P Q R : A → A → Type 0) (a b c : Option A) → ((x y z : A) → P x y → Q y z → R x z) → IfTold a b P → IfTold b c Q → IfTold a c R
+told-then P Q R a b None of first second = tt
+told-then P Q R a None (Some z) of first second = absurd second
+told-then P Q R None (Some y) (Some z) of first second = absurd first
+told-then P Q R (Some x) (Some y) (Some z) of first second = of x y z first second
+
+pub told-same : {A : Type 0} (P : A → A → Type 0) (a : Option A) → ((x : A) → P x x) → IfTold a a P
+told-same P None of = tt
+told-same P (Some x) of = of x
+
+-- counts
+
+raised-push : (before more : ℕ) (counts : List ℕ) → raised_by_all before (counts ++ more ∷ []) ≡ raised_by (raised_by_all before counts) more
+raised-push before more [] = refl
+raised-push before more (n ∷ counts) = raised-push (raised_by before n) more counts
+
+pub raised-none : (before : ℕ) (counts : List ℕ) → AllByRecursion (λ n. n ≡ 0) counts → raised_by_all before counts ≡ before
+raised-none before [] none = refl
+raised-none before (n ∷ counts) none =
+    let e : raised_by before n ≡ before = (let z = none.0 in omega arith) in
+    ap (λ b. raised_by_all b counts) e ∙ raised-none before counts none.1
+
+pub raised-later : (before : ℕ) (counts : List ℕ) → before ≤ raised_by_all before counts
+raised-later before [] = omega arith
+raised-later before (n ∷ counts) = let l = raised-later (raised_by before n) counts in omega arith
+
+-- doors
+
+none-taken : {D L : Type 0} (lists : NetLists D L) → TakesAll [] lists lists
+none-taken lists few = λ i. record {
+  doors = lists.doors;
+  links = lists.links;
+  closed = sym (append-nil lists.closed) i;
+  hung_up = lists.hung_up;
+  door_places = (let e : lists.door_places ≡ lists.door_places - 0 = omega arith in e) i;
+  link_places = lists.link_places;
+}
+
+one-taken : {D L : Type 0} (front : List D) (door : D) (a b c : NetLists D L) → TakesAll front a b → TakesDoor door b c → TakesAll (front ++ door ∷ []) a c
+one-taken front door a b c first takes few =
+    let more = length-append front (door ∷ []) in
+    let e = first (omega arith) in
+    let places : b.door_places ≡ a.door_places - length front = ap (λ l. l.door_places) e in
+    let closed : c.closed ≡ a.closed ++ (front ++ door ∷ []) = takes.placed (omega arith) ∙ ap (λ l. l.closed ++ door ∷ []) e ∙ append_assoc a.closed front (door ∷ []) in
+    let left : b.door_places - 1 ≡ a.door_places - length (front ++ door ∷ []) = omega arith in
+    takes.rest ∙ (λ i. record { doors = (e i).doors; links = (e i).links; closed = closed i; hung_up = (e i).hung_up; door_places = left i; link_places = (e i).link_places })
+
+-- before a door is given back
+pub record DoorsBack {D L : Type 0} (faults : D → ℕ) (doors rest : List D) (told_before told : Option (NetLists D L)) (counted_before counted : ℕ) : Type 0 where
+  pub front : List D
+  pub are : doors ≡ front ++ reverse rest
+  pub lists : IfTold told_before told (TakesAll front)
+  pub counts : counted ≡ raised_by_all counted_before (map faults front)
+
+turned : {A : Type 0} (all front rest left : List A) (one : A) → rest ≡ left ++ one ∷ [] → all ≡ front ++ reverse rest → all ≡ (front ++ one ∷ []) ++ reverse left
+turned all front rest left one is are =
+    are ∙ ap (λ l. front ++ reverse l) is ∙ ap (λ l. front ++ l) (reverse-append left (one ∷ [])) ∙ sym (append_assoc front (one ∷ []) (reverse left))
+
+pub doors-begun : {D L : Type 0} (faults : D → ℕ) (doors rest : List D) (told : Option (NetLists D L)) (counted : ℕ) → doors ≡ reverse rest → DoorsBack faults doors rest told told counted counted
+doors-begun faults doors rest told counted are = record { front = []; are = are; lists = told-same (TakesAll []) told none-taken; counts = refl }
+
+pub doors-more : {D L : Type 0} (faults : D → ℕ) (doors rest left : List D) (door : D) (before between after : Option (NetLists D L)) (counted_before counted counted_after : ℕ)
+    → rest ≡ left ++ door ∷ [] → DoorsBack faults doors rest before between counted_before counted → IfTold between after (TakesDoor door) → counted_after ≡ raised_by counted (faults door)
+    → DoorsBack faults doors left before after counted_before counted_after
+doors-more faults doors rest left door before between after counted_before counted counted_after is back takes raised = record {
+  front = back.front ++ door ∷ [];
+  are = turned doors back.front rest left door is back.are;
+  lists = told-then (TakesAll back.front) (TakesDoor door) (TakesAll (back.front ++ door ∷ [])) before between after (one-taken back.front door) back.lists takes;
+  counts =
+      raised ∙ ap (λ n. raised_by n (faults door)) back.counts ∙ sym (raised-push counted_before (faults door) (map faults back.front))
+      ∙ ap (raised_by_all counted_before) (sym (map-append faults back.front (door ∷ [])));
+}
+
+whole : {A : Type 0} (all front : List A) → all ≡ front ++ reverse [] → front ≡ all
+whole all front are = sym (are ∙ append-nil front)
+
+pub doors-lists : {D L : Type 0} (faults : D → ℕ) (doors rest : List D) (before after : Option (NetLists D L)) (counted_before counted : ℕ) → rest ≡ [] → DoorsBack faults doors rest before after counted_before counted → IfTold before after (TakesAll doors)
+doors-lists faults doors rest before after counted_before counted none back =
+    subst (λ ds. IfTold before after (TakesAll ds)) (whole doors back.front (back.are ∙ ap (λ l. back.front ++ reverse l) none)) back.lists
+
+pub doors-counts : {D L : Type 0} (faults : D → ℕ) (doors rest : List D) (before after : Option (NetLists D L)) (counted_before counted : ℕ) → rest ≡ [] → DoorsBack faults doors rest before after counted_before counted
+    → counted ≡ raised_by_all counted_before (map faults doors)
+doors-counts faults doors rest before after counted_before counted none back =
+    back.counts ∙ ap (λ ds. raised_by_all counted_before (map faults ds)) (whole doors back.front (back.are ∙ ap (λ l. back.front ++ reverse l) none))
+
+-- books
+
+-- before a book is taken apart
+pub record BooksApart {D : Type 0} (tells : D → Bool) (moments : D → Moments) (faults : D → ℕ) (books rest : List (BookOf D)) (clocks : List ClockOf) (disks : List D) : Type 0 where
+  pub front : List (BookOf D)
+  pub are : books ≡ front ++ reverse rest
+  pub clocks_are : histories clocks ≡ map (λ (b : BookOf D). b.state.clock) front
+  pub disks_are : disks ≡ map (λ (b : BookOf D). b.disk) front
+  pub kept : AllByRecursion (λ (b : BookOf D). IsKept (IsTrue (tells b.disk)) (moments b.disk) (faults b.disk) b) front
+
+module _ {D : Type 0} (tells : D → Bool) (moments : D → Moments) (faults : D → ℕ) where
+  pub books-begun : (books rest : List (BookOf D)) (clocks : List ClockOf) (disks : List D) → books ≡ reverse rest → clocks ≡ [] → disks ≡ [] → BooksApart tells moments faults books rest clocks disks
+  books-begun books rest clocks disks are none empty = record { front = []; are = are; clocks_are = ap histories none; disks_are = empty; kept = tt }
+
+  pub books-more : (books rest left : List (BookOf D)) (book : BookOf D) (clocks clocks_then : List ClockOf) (clock : ClockOf) (disks disks_then : List D) (disk : D) → rest ≡ left ++ book ∷ [] → BooksApart tells moments faults books rest clocks disks
+      → IsKept (IsTrue (tells book.disk)) (moments book.disk) (faults book.disk) book → clock.history ≡ book.state.clock → disk ≡ book.disk → clocks_then ≡ clocks ++ clock ∷ [] → disks_then ≡ disks ++ disk ∷ []
+      → BooksApart tells moments faults books left clocks_then disks_then
+  books-more books rest left book clocks clocks_then clock disks disks_then disk is apart kept history same clocks_more disks_more = record {
+    front = apart.front ++ book ∷ [];
+    are = turned books apart.front rest left book is apart.are;
+    clocks_are =
+        ap histories clocks_more ∙ map-append (λ (c : ClockOf). c.history) clocks (clock ∷ []) ∙ (λ i. apart.clocks_are i ++ history i ∷ []) ∙ sym (map-append (λ (b : BookOf D). b.state.clock) apart.front (book ∷ []));
+    disks_are = disks_more ∙ (λ i. apart.disks_are i ++ same i ∷ []) ∙ sym (map-append (λ (b : BookOf D). b.disk) apart.front (book ∷ []));
+    kept = all-more (λ (b : BookOf D). IsKept (IsTrue (tells b.disk)) (moments b.disk) (faults b.disk) b) apart.front book apart.kept kept;
+  }
+
+  -- no book is left
+  pub books-apart : (books rest : List (BookOf D)) (clocks : List ClockOf) (disks : List D) → rest ≡ [] → BooksApart tells moments faults books rest clocks disks → record {
+    clocks : histories clocks ≡ map (λ (b : BookOf D). b.state.clock) books;
+    disks : disks ≡ map (λ (b : BookOf D). b.disk) books;
+    kept : AllByRecursion (λ (b : BookOf D). IsKept (IsTrue (tells b.disk)) (moments b.disk) (faults b.disk) b) books;
+  }
+  books-apart books rest clocks disks none apart =
+      let e = whole books apart.front (apart.are ∙ ap (λ l. apart.front ++ reverse l) none) in
+      record {
+        clocks = apart.clocks_are ∙ ap (map (λ (b : BookOf D). b.state.clock)) e;
+        disks = apart.disks_are ∙ ap (map (λ (b : BookOf D). b.disk)) e;
+        kept = subst (AllByRecursion (λ (b : BookOf D). IsKept (IsTrue (tells b.disk)) (moments b.disk) (faults b.disk) b)) e apart.kept;
+      }
+
+-- lists
+
+pub length-none : {A : Type 0} (xs : List A) → length xs ≡ 0 → xs ≡ []
+length-none [] none = refl
+length-none (x ∷ xs) none = absurd (omega arith)
+
+pub map-reverse : {A B : Type 0} (f : A → B) (xs : List A) → map f (reverse xs) ≡ reverse (map f xs)
+map-reverse f [] = refl
+map-reverse f (x ∷ xs) =
+    ap (map f) (reverse-append (x ∷ []) xs) ∙ map-append f (reverse xs) (x ∷ []) ∙ ap (λ l. l ++ f x ∷ []) (map-reverse f xs) ∙ sym (reverse-append (f x ∷ []) (map f xs))
+
+pub map-map : {A B C : Type 0} (f : B → C) (h : A → B) (xs : List A) → map f (map h xs) ≡ map (λ x. f (h x)) xs
+map-map f h [] = refl
+map-map f h (x ∷ xs) = ap (λ l. f (h x) ∷ l) (map-map f h xs)
+
+-- one more is kept of a list that lies reversed
+pub kept-more : {A B V : Type 0} (f : V → B) (h : A → B) (kept kept_then : List V) (v : V) (all rest left : List A) (one : A) → kept_then ≡ kept ++ v ∷ [] → f v ≡ h one → rest ≡ left ++ one ∷ []
+    → map f kept ++ map h (reverse rest) ≡ map h all → map f kept_then ++ map h (reverse left) ≡ map h all
+kept-more f h kept kept_then v all rest left one more same is are =
+    ap (λ l. map f l ++ map h (reverse left)) more ∙ ap (λ l. l ++ map h (reverse left)) (map-append f kept (v ∷ [])) ∙ append_assoc (map f kept) (f v ∷ []) (map h (reverse left))
+    ∙ ap (λ b. map f kept ++ b ∷ map h (reverse left)) same ∙ sym (ap (λ l. map f kept ++ map h l) (ap reverse is ∙ reverse-append left (one ∷ []))) ∙ are

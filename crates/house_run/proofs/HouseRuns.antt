@@ -1,0 +1,178 @@
+-- From the disks of a house's journals to these disks again.
+use Rattle.std.proofs.Common.{◌≡◌, ◌≢◌, ◌∙◌, ◌<◌, ◌≤◌, ◌+◌, ℕ, zero, suc, Bool, true, false, IsTrue, List, [], ◌∷◌, length, map, get_or, Option, Result, Ok, Err, arith, inl, inr, refl, sym, ap, subst}
+use Rattle.std.specs.List.{flat_map}
+use Rattle.std.specs.Prelude.{◌⊎◌}
+use Rattle.std.proofs.lemmas.Bool.{cases_lt}
+use Rattle.std.proofs.lemmas.List.{get_or-map, length-map}
+use Rattle.std.proofs.lemmas.List.Elements.{All-from_recursion}
+use Rattle.lot_base.specs.declared.auction_terms.Terms.{Terms}
+use Rattle.house_io.specs.Doors.{DoorLinks}
+use Rattle.house_io.specs.Links.{LinkBytes}
+use Rattle.house_io.specs.Moments.{Moments}
+use Rattle.house_io.specs.Nets.{NetLists}
+use Rattle.auction_file.specs.declared.listing.Auction.{Auction}
+use Rattle.clock.specs.Reports.{ClockHistory, histories}
+use Rattle.recovery.specs.Journaled.{Owner, owner_of}
+use Rattle.clock_book.specs.Books.{BookOf, IsKept}
+use Rattle.clock_book.specs.Opened.{Opens}
+use Rattle.clock_book.specs.declared.faults.OpenFault.{OpenFault}
+use Rattle.clock_book.specs.declared.faults.OpenFault.TheVariants as why
+use Rattle.clock_family.specs.Houses.{HouseOf, HousePassOf, IsOpened}
+use Rattle.clock_family.specs.Opening.{IsNotOpen}
+use Rattle.clock_family.specs.declared.house_books.HouseBook.{HouseBook}
+use Rattle.turn_desk.specs.Passes.{Opened}
+use Rattle.house_serve.specs.Houses.{Joins, turns_of}
+use Rattle.house_run.specs.ClockRuns.{ClockRun, IsClockRun, IsJournalRun}
+use Rattle.house_run.specs.Hosting.{BooksBack, HostEnd, HostOutcome, HouseEnd, HouseOutcome, IsSameNet, IsUnhosted, LeavesDisk}
+use Rattle.house_run.specs.Status.{end_at}
+use Rattle.house_run.specs.declared.ends.Ended.{Ended}
+use Rattle.house_run.specs.declared.ends.Ended.TheVariants as how
+use Rattle.house_run.specs.declared.hosting.Hosted.{Hosted}
+use Rattle.house_run.proofs.DiskSteps.{some-of}
+use Rattle.house_run.proofs.ClockRunning.{clock-run, journal-run, run_of, was-journal, was-run, back_of}
+
+-- the runs of books that were opened and closed, in order of the clocks
+runs_in : {D : Type 0} → List (Opened (HouseBook D)) → List (BookOf D) → List ClockRun
+runs_in [] books = []
+runs_in (d ∷ desks) [] = []
+runs_in (d ∷ desks) (b ∷ books) = run_of d.book.book b ∷ runs_in desks books
+
+length-runs : {D : Type 0} (desks : List (Opened (HouseBook D))) (books : List (BookOf D)) → length books ≡ length desks → length (runs_in desks books) ≡ length desks
+unfolding runs_in
+length-runs [] books e = refl
+length-runs (d ∷ desks) [] e = absurd (omega arith)
+length-runs (d ∷ desks) (b ∷ books) e = ap suc (length-runs desks books (let t : length books ≡ length desks = omega arith in t))
+
+runs-at : {D : Type 0} (desks : List (Opened (HouseBook D))) (books : List (BookOf D)) (k : ℕ) (c : ClockRun) (d : Opened (HouseBook D)) (b : BookOf D) → length books ≡ length desks → k < length desks
+    → get_or (runs_in desks books) k c ≡ run_of (get_or desks k d).book.book (get_or books k b)
+unfolding runs_in
+runs-at [] books k c d b e below = absurd (omega arith)
+runs-at (x ∷ desks) [] k c d b e below = absurd (omega arith)
+runs-at (x ∷ desks) (y ∷ books) zero c d b e below = refl
+runs-at (x ∷ desks) (y ∷ books) (suc k) c d b e below = runs-at desks books k c d b (let t : length books ≡ length desks = omega arith in t) (omega arith)
+
+histories-in : {D : Type 0} (desks : List (Opened (HouseBook D))) (books : List (BookOf D)) → length books ≡ length desks → map (λ (b : BookOf D). b.state.clock) books ≡ map (λ (c : ClockRun). c.closed.clock) (runs_in desks books)
+unfolding runs_in
+histories-in [] [] e = refl
+histories-in [] (b ∷ books) e = absurd (omega arith)
+histories-in (d ∷ desks) [] e = absurd (omega arith)
+histories-in (d ∷ desks) (b ∷ books) e = ap (λ l. b.state.clock ∷ l) (histories-in desks books (let t : length books ≡ length desks = omega arith in t))
+
+module _ {D : Type 0} (tells : D → Bool) (moments : D → Moments) (faults : D → ℕ) (terms : Terms) (digest : List ℕ) where
+  -- one clock of a house that was opened and closed
+  record RanAt (old disks : List D) (desks : List (Opened (HouseBook D))) (books : List (BookOf D)) (k : ℕ) : Type 0 where
+    desk : Opened (HouseBook D)
+    book : BookOf D
+    run_is : (c : ClockRun) → get_or (runs_in desks books) k c ≡ run_of (get_or desks k desk).book.book (get_or books k book)
+    clock : IsClockRun (owner_of terms k digest) (run_of (get_or desks k desk).book.book (get_or books k book))
+    journal : (d : D) → IsTrue (tells (get_or disks k d)) → IsJournalRun (owner_of terms k digest) (run_of (get_or desks k desk).book.book (get_or books k book)) (moments (get_or old k d)) (moments (get_or disks k d))
+
+  ran-at : (old disks : List D) (house : HouseOf D) (books : List (BookOf D)) → length house.desks ≡ length old
+      → ((k : ℕ) (x : D) (d : Opened (HouseBook D)) → k < length old → Opens tells moments faults (owner_of terms k digest) (get_or old k x) (get_or house.desks k d).book.book)
+      → BooksBack tells moments faults house.desks books disks → (k : ℕ) → k < length old → RanAt old disks house.desks books k
+  ran-at old disks house books count opens back k below =
+      let long = back.count in
+      let desk = some-of house.desks k (omega arith) in
+      let book = some-of books k (omega arith) in
+      let first = (get_or house.desks k desk).book.book in
+      let closed = get_or books k book in
+      let within : k < length house.desks = omega arith in
+      let inside : k < length books = omega arith in
+      let same = back.origins k desk book within in
+      let Kept : BookOf D → Type 0 = λ b. IsKept (IsTrue (tells b.disk)) (moments b.disk) (faults b.disk) b in
+      let kept = All-from_recursion Kept books back.kept k book inside in
+      let x = some-of old k below in
+      record {
+        desk = desk;
+        book = book;
+        run_is = λ c. runs-at house.desks books k c desk book long within;
+        clock = clock-run tells moments faults (owner_of terms k digest) (get_or old k x) first closed (opens k x desk below) same kept;
+        journal = λ d told.
+            let is : get_or disks k d ≡ closed.disk = ap (λ l. get_or l k d) back.disks_are ∙ get_or-map (λ (b : BookOf D). b.disk) books k book d inside in
+            let J : D → Type 0 = λ y. IsJournalRun (owner_of terms k digest) (run_of first closed) (moments (get_or old k d)) (moments y) in
+            subst J (sym is) (journal-run tells moments faults (owner_of terms k digest) (get_or old k d) first closed (opens k d desk below) same kept (subst (λ y. IsTrue (tells y)) is told));
+      }
+
+  house-end : {N : Type 0} (old disks : List D) (told_before told_after : Option N) (counted_before counted : ℕ) (end : Ended) → HouseEnd counted_before counted end → HostEnd {N = N} tells moments faults terms digest old disks told_before told_after counted_before counted end
+  house-end old disks told_before told_after counted_before counted how.NetFault cause = cause
+  house-end old disks told_before told_after counted_before counted how.NoMemory cause = cause
+  house-end old disks told_before told_after counted_before counted how.Done cause = absurd cause
+  house-end old disks told_before told_after counted_before counted how.Usage cause = absurd cause
+  house-end old disks told_before told_after counted_before counted how.ReadFault cause = absurd cause
+  house-end old disks told_before told_after counted_before counted how.WriteFault cause = absurd cause
+  house-end old disks told_before told_after counted_before counted (how.BadAuction fault) cause = absurd cause
+  house-end old disks told_before told_after counted_before counted (how.DiskFault clock) cause = absurd cause
+  house-end old disks told_before told_after counted_before counted (how.BadJournal clock fault) cause = absurd cause
+  house-end old disks told_before told_after counted_before counted (how.Open clock round missing) cause = absurd cause
+  house-end old disks told_before told_after counted_before counted (how.NoAward clock) cause = absurd cause
+  house-end old disks told_before told_after counted_before counted (how.Halted clock good) cause = absurd cause
+  house-end old disks told_before told_after counted_before counted (how.BadValues fault) cause = absurd cause
+  house-end old disks told_before told_after counted_before counted (how.NotSubstitutes bidder x y good) cause = absurd cause
+  house-end old disks told_before told_after counted_before counted (how.TooLong file) cause = absurd cause
+  house-end old disks told_before told_after counted_before counted (how.BadLog place) cause = absurd cause
+  house-end old disks told_before told_after counted_before counted (how.Refused code detail value) cause = absurd cause
+  house-end old disks told_before told_after counted_before counted (how.LooksSpent clock) cause = absurd cause
+  house-end old disks told_before told_after counted_before counted how.BadReply cause = absurd cause
+  house-end old disks told_before told_after counted_before counted (how.NoBidder bidder) cause = absurd cause
+
+  refused-host : {N : Type 0} (fault : OpenFault) (old disks : List D) (clock : ℕ) (told : Option N) (counted : ℕ) → IsNotOpen tells moments faults terms digest old disks clock fault
+      → HostEnd {N = N} tells moments faults terms digest old disks told told counted counted (end_at clock fault)
+  refused-host why.DiskFault old disks clock told counted not = (not, record { told_same = refl; counted_same = refl })
+  refused-host why.NoMemory old disks clock told counted not = refl
+  refused-host (why.Broken broken) old disks clock told counted not = (not, tt, record { told_same = refl; counted_same = refl })
+  refused-host (why.NotAcceptable number judgement) old disks clock told counted not = (not, tt, record { told_same = refl; counted_same = refl })
+
+  -- no house was opened
+  pub not-hosted : {N : Type 0} (fault : OpenFault) (old disks : List D) (clock : ℕ) (told : Option N) (counted : ℕ) → IsNotOpen tells moments faults terms digest old disks clock fault
+      → IsUnhosted {N = N} tells moments faults terms digest old disks (end_at clock fault) told told counted counted
+  not-hosted fault old disks clock told counted not = record { disks_count = not.count; left = λ k d below. left k d (cases_lt k clock); cause = refused-host fault old disks clock told counted not }
+    where
+      left : (k : ℕ) (d : D) → (k < clock) ⊎ (clock ≤ k) → LeavesDisk tells moments (owner_of terms k digest) (get_or old k d) (get_or disks k d)
+      left k d (inl before) =
+          let was = not.before k d before in
+          inr (run_of was.first (back_of was.first was.pending (get_or disks k d)), was-run tells moments faults (owner_of terms k digest) (get_or old k d) (get_or disks k d) was, was-journal tells moments faults (owner_of terms k digest) (get_or old k d) (get_or disks k d) was)
+      left k d (inr beyond) = elim (cases_lt clock k) [
+        | inl after ↦ inl (λ told. inl (ap moments (not.after k d after)))
+        | inr same ↦
+            let here : clock ≡ k = omega arith in
+            subst (λ (n : ℕ). LeavesDisk tells moments (owner_of terms n digest) (get_or old n d) (get_or disks n d)) here (inl (not.refused d).leaves)
+      ]
+
+module _ {D R L M : Type 0} (tells : D → Bool) (moments : D → Moments) (disk_faults : D → ℕ) (told : R → Option (DoorLinks M)) (faults : R → ℕ) (link_told : M → Option LinkBytes) (link_faults : M → ℕ) (auction : Auction) (count sessions : ℕ) where
+  -- a house was opened, and came to this
+  pub hosted : (answer : Result Hosted Ended) (old disks : List D) (house : HouseOf D) (passes : List HousePassOf) (told_before told_after : Option (NetLists R L)) (counted_before counted : ℕ)
+      → IsOpened tells moments disk_faults auction.terms auction.digest count old house passes
+      → HouseOutcome {L = L} tells moments disk_faults told faults link_told link_faults auction count sessions house.desks answer disks told_before told_after counted_before counted
+      → HostOutcome {L = L} tells moments disk_faults told faults link_told link_faults auction count sessions old answer disks told_before told_after counted_before counted
+  hosted (Ok h) old disks house passes told_before told_after counted_before counted opened served =
+      let back = served.back in
+      let books = served.books in
+      let at = ran-at tells moments disk_faults auction.terms auction.digest old disks house books opened.clocks opened.books back in
+      let long : length (runs_in house.desks books) ≡ length old = length-runs house.desks books back.count ∙ opened.clocks in
+      let all : length disks ≡ length books = ap length back.disks_are ∙ length-map books (λ (b : BookOf D). b.disk) in
+      record {
+        disks_count = all ∙ back.count ∙ opened.clocks;
+        clocks = runs_in house.desks books;
+        count_is = long;
+        clocks_are = λ k c below. let r = at k (omega arith) in subst (λ (run : ClockRun). IsClockRun (owner_of auction.terms k auction.digest) run) (sym (r.run_is c)) r.clock;
+        journals_are = λ k c d below told_now.
+            let r = at k (omega arith) in
+            subst (λ (run : ClockRun). IsJournalRun (owner_of auction.terms k auction.digest) run (moments (get_or old k d)) (moments (get_or disks k d))) (sym (r.run_is c)) (r.journal d told_now);
+        histories_are = served.clocks ∙ histories-in house.desks books back.count;
+        runs = served.runs;
+        ran = served.ran;
+        joins = λ k c below.
+            let r = at k (omega arith) in
+            let within : k < length house.desks = (let o = opened.clocks in omega arith) in
+            subst (λ (run : ClockRun). Joins run.opening run.closed.history (flat_map turns_of served.runs) k) (sym (r.run_is c)) (served.joins k r.desk r.book within);
+      }
+  hosted (Err end) old disks house passes told_before told_after counted_before counted opened not =
+      let back = not.back in
+      let books = not.books in
+      let at = ran-at tells moments disk_faults auction.terms auction.digest old disks house books opened.clocks opened.books back in
+      let all : length disks ≡ length books = ap length back.disks_are ∙ length-map books (λ (b : BookOf D). b.disk) in
+      record {
+        disks_count = all ∙ back.count ∙ opened.clocks;
+        left = λ k d below. let r = at k below in inr (run_of (get_or house.desks k r.desk).book.book (get_or books k r.book), r.clock, r.journal d);
+        cause = house-end tells moments disk_faults auction.terms auction.digest old disks told_before told_after counted_before counted end not.cause;
+      }

@@ -1,0 +1,361 @@
+-- The journals of an auction are opened, the auction is served, and they are given back.
+use Rattle.std.proofs.Common.{◌≡◌, ◌≢◌, ◌∙◌, ◌<◌, ◌≤◌, ◌+◌, ◌++◌, ℕ, zero, suc, Bool, false, IsTrue, List, [], ◌∷◌, length, map, take, drop, get_or, Option, Some, None, Result, Ok, Err, arith, inl, inr, refl, sym, ap, subst, option_map, unwrap_or}
+use Rattle.std.specs.Prelude.{◌⊎◌, IfSome}
+use Rattle.std.specs.List.{AllByRecursion, flat_map}
+use Rattle.std.proofs.lemmas.Bool.{cases_lt}
+use Rattle.std.proofs.lemmas.List.Elements.{All-from_recursion}
+use Rattle.std.proofs.lemmas.List.{drop-map, length-map, map-append, take-map}
+use Rattle.house_io.specs.Doors.{DoorLinks, IsEmptyDoor}
+use Rattle.house_io.specs.Faults.{Rose, raised_by}
+use Rattle.house_io.specs.Links.{LinkBytes}
+use Rattle.house_io.specs.Moments.{Moments, opened}
+use Rattle.house_io.specs.Nets.{NetLists}
+use Rattle.house_io.specs.Shelves.{NamedFile, IfTells, IfWasTold, IsLeftBy, StandsAs, file_of, moments_at}
+use Rattle.house_io.specs.Told.{IfTold}
+use Rattle.lot_base.specs.declared.auction_terms.Terms.{Terms}
+use Rattle.auction_file.specs.declared.listing.Auction.{Auction}
+use Rattle.recovery.specs.Journaled.{Owner, owner_of}
+use Rattle.clock.specs.Reports.{ClockHistory}
+use Rattle.clock_book.specs.Opening.{IsOpening, ReadsClock, StandsForHistory}
+use Rattle.clock_family.specs.Opening.{IsNotOpen}
+use Rattle.clock_book.specs.declared.faults.OpenFault.{OpenFault}
+use Rattle.clock_book.specs.declared.faults.OpenFault.TheVariants as why
+use Rattle.house_serve.specs.Houses.{DoorRun, IsRun, Joins, turns_of}
+use Rattle.house_run.specs.Causes.{FailedAt}
+use Rattle.house_run.specs.ClockRuns.{ClockRun, IsClockRun, IsJournalRun, LeavesJournal}
+use Rattle.house_run.specs.Disks.{AreGivenBack, AreNotOpen, AreOpen, IsJournalBelow, IsNotOpened, KeepsMoments, KeepsOthers}
+use Rattle.house_run.specs.DoorsSeen.{DoorSeen, LinkSeen, door_seen, link_seen, links_seen}
+use Rattle.house_run.specs.Frame.{RisesAmong}
+use Rattle.house_run.specs.Found.{told_first}
+use Rattle.house_run.specs.Hosting.{DoorsRan, DoorsServed, HostEnd, HostOutcome, IsSameNet, LeavesDisk}
+use Rattle.house_run.specs.Journals.{AreFromJournals, IsFirstRefused, IsReadAt, IsRefusal}
+use Rattle.house_run.specs.Needs.{Serving, first_journals, journal_name, with_names}
+use Rattle.house_run.specs.Nets.{DoorView, NetSeen, NetView, IsNetUntouched, door_view, net_view}
+use Rattle.house_run.specs.Seen.{ShelfSeen, content}
+use Rattle.house_run.specs.Serving.{ClocksRan, DoorsServing, JoinAll, JournalsNotServed, JournalsServed, KeepsJournals, LeavesAll, NotServing, ServesAt, ServesJournals, view_of}
+use Rattle.house_run.specs.Status.{end_at}
+use Rattle.house_run.specs.declared.ends.Ended.{Ended}
+use Rattle.house_run.specs.declared.ends.Ended.TheVariants as how
+use Rattle.house_run.specs.declared.hosting.Hosted.{Hosted}
+use Rattle.house_run.proofs.ClockRunning.{was-told}
+use Rattle.house_run.proofs.DiskSteps.{Keeps, between, keeps-itself, keeps-then, some-of}
+use Rattle.house_run.proofs.Framing.{content-now}
+use Rattle.house_run.proofs.GivingSteps.{map-map}
+use Rattle.house_run.proofs.JournalSteps.{more-from}
+use Rattle.house_run.proofs.RunsSeen.{all-seen, run_seen, told-by, turns-seen}
+
+-- the net, as a contract of a run sees it
+
+module _ {R L M : Type 0} (told : R → Option (DoorLinks M)) (faults : R → ℕ) (link_told : M → Option LinkBytes) (link_faults : M → ℕ) (dialled_told : L → Option LinkBytes) where
+  abbrev shown : R → Option DoorView
+  shown door = option_map (door_view link_told) (told door)
+
+  same-view : (o : Option (DoorLinks M)) → option_map (door_view (λ (l : LinkSeen). l.told)) (option_map (links_seen link_told link_faults) o) ≡ option_map (door_view link_told) o
+  unfolding door_view
+  same-view None = refl
+  same-view (Some d) = λ i. Some (record {
+    to_come = map-map (λ (l : LinkSeen). l.told) (link_seen link_told link_faults) d.to_come i;
+    hung_up = map-map (λ (l : LinkSeen). l.told) (link_seen link_told link_faults) d.hung_up i;
+    free = d.free;
+  })
+
+  views : (doors : List R) → map view_of (map (door_seen told faults link_told link_faults) doors) ≡ map shown doors
+  views [] = refl
+  views (d ∷ doors) = (λ i. same-view (told d) i ∷ views doors i)
+
+  empty-view : (o : Option (DoorLinks M)) → IsEmptyDoor o → IfSome (option_map (door_view link_told) o) (λ (d : DoorView). d.to_come ≡ [])
+  unfolding door_view
+  empty-view None empty = tt
+  empty-view (Some d) empty = ap (map link_told) empty
+
+  empty-views : (doors : List R) → AllByRecursion (λ door. IsEmptyDoor (told door)) doors → AllByRecursion (λ (door : Option DoorView). IfSome door (λ (d : DoorView). d.to_come ≡ [])) (map shown doors)
+  empty-views [] all = tt
+  empty-views (d ∷ doors) all = (empty-view (told d) all.0, empty-views doors all.1)
+
+  pub serves-at : (count : ℕ) (given back : List R) (b a : NetLists R L) → DoorsServed told count given back b a
+      → ServesAt count (map (door_seen told faults link_told link_faults) given) (map (door_seen told faults link_told link_faults) back) (net_view told link_told dialled_told b) (net_view told link_told dialled_told a)
+  unfolding net_view
+  serves-at count given back b a served = record {
+    empty = map shown served.empty;
+    given_are = views given ∙ ap (map shown) served.given_are ∙ map-append shown (take count b.doors) served.empty ∙ ap (λ l. l ++ map shown served.empty) (sym (take-map shown count b.doors));
+    are_empty = empty-views served.empty served.are_empty;
+    after_is = ap (net_view told link_told dialled_told) served.after_is ∙ (λ i. record {
+      doors = sym (drop-map shown count b.doors) i;
+      closed = (map-append shown b.closed back ∙ ap (λ l. map shown b.closed ++ l) (sym (views back))) i;
+      links = map dialled_told b.links;
+      hung_up = map dialled_told b.hung_up;
+      door_places = b.door_places;
+      link_places = b.link_places;
+    });
+  }
+
+  none-seen : (sessions : ℕ) (auction : Auction) (runs : List (DoorRun R M)) → AllByRecursion (λ (r : DoorRun R M). r.log.failed ≡ false) runs
+      → AllByRecursion (λ (d : DoorRun DoorSeen LinkSeen). d.log.failed ≡ false) (map (run_seen told faults link_told link_faults auction sessions) runs)
+  none-seen sessions auction [] all = tt
+  none-seen sessions auction (r ∷ runs) all = (all.0, none-seen sessions auction runs all.1)
+
+  pub doors-serving : (auction : Auction) (s : Serving) (runs : List (DoorRun R M)) (ends : _) (before after : Option (NetLists R L)) (counted_before counted : ℕ)
+      → DoorsRan {L = L} told faults link_told link_faults auction s.doors s.sessions runs ends before after counted_before counted
+      → DoorsServing auction s (record { told_before = option_map (net_view told link_told dialled_told) before; told = option_map (net_view told link_told dialled_told) after; faults_before = counted_before; faults = counted })
+      (map (run_seen told faults link_told link_faults auction s.sessions) runs)
+  doors-serving auction s runs ends before after counted_before counted ran =
+      let seen = run_seen told faults link_told link_faults auction s.sessions in
+      let door = door_seen told faults link_told link_faults in
+      let given = map-map (λ (d : DoorRun DoorSeen LinkSeen). d.door) seen runs ∙ sym (map-map door (λ (r : DoorRun R M). r.door) runs) in
+      let back = map-map (λ (d : DoorRun DoorSeen LinkSeen). d.log.door) seen runs ∙ sym (map-map door (λ (r : DoorRun R M). r.log.door) runs) in
+      let V : List DoorSeen → List DoorSeen → Type 0 = λ gs bs. IfTold (option_map (net_view told link_told dialled_told) before) (option_map (net_view told link_told dialled_told) after) (ServesAt s.doors gs bs) in
+      let lists : V (map door (map (λ (r : DoorRun R M). r.door) runs)) (map door (map (λ (r : DoorRun R M). r.log.door) runs)) =
+      told-by (net_view told link_told dialled_told) (DoorsServed told s.doors (map (λ (r : DoorRun R M). r.door) runs) (map (λ (r : DoorRun R M). r.log.door) runs))
+      (ServesAt s.doors (map door (map (λ (r : DoorRun R M). r.door) runs)) (map door (map (λ (r : DoorRun R M). r.log.door) runs))) before after
+      (serves-at s.doors (map (λ (r : DoorRun R M). r.door) runs) (map (λ (r : DoorRun R M). r.log.door) runs)) ran.lists in
+      record {
+        count_is = length-map runs seen ∙ ran.count_is;
+        each = all-seen told faults link_told link_faults auction s.sessions runs ran.each;
+        none_failed = none-seen s.sessions auction runs ran.none_failed;
+        lists = subst (λ gs. V gs (map (λ (d : DoorRun DoorSeen LinkSeen). d.log.door) (map seen runs))) (sym given) (subst (V (map door (map (λ (r : DoorRun R M). r.door) runs))) (sym back) lists);
+      }
+
+-- the journals
+
+-- what holds of the moments of each disk holds of those of its journal
+pub journal-moments : {D : Type 0} (tells : D → Bool) (moments : D → Moments) (journals : List ℕ) (Q : ℕ → Moments → Moments → Type 0) (old disks : List D) (a b c : Option (List NamedFile)) (P R : List ℕ → Type 0) → Keeps P a b → Keeps R b c
+    → ((k : ℕ) (d : D) → k < length old → IfTells b (λ now. IfWasTold a (StandsAs tells moments (journal_name journals k) (get_or old k d))))
+    → ((k : ℕ) (d : D) → k < length disks → IfTells c (IsLeftBy tells moments (journal_name journals k) (get_or disks k d))) → length disks ≡ length old
+    → ((k : ℕ) (d : D) → k < length old → IsTrue (tells (get_or disks k d)) → Q k (moments (get_or old k d)) (moments (get_or disks k d)))
+    → IfTells c (λ after. IfWasTold a (λ before. (k : ℕ) → k < length old → Q k (moments_at before (journal_name journals k)) (moments_at after (journal_name journals k))))
+journal-moments tells moments journals Q old disks a b None P R first second stand left same holds = tt
+journal-moments tells moments journals Q old disks a None (Some c) P R first second stand left same holds = absurd second
+journal-moments tells moments journals Q old disks None (Some b) (Some c) P R first second stand left same holds = absurd first
+journal-moments tells moments journals Q old disks (Some a) (Some b) (Some c) P R first second stand left same holds = λ k below.
+    let d = some-of old k below in
+    let here = stand k d below in
+    let there = left k d (omega arith) in
+    let now : moments (get_or disks k d) ≡ moments_at c (journal_name journals k) = sym (ap (λ o. unwrap_or o (opened [])) there.1) in
+    subst (λ (m : Moments). Q k m (moments_at c (journal_name journals k))) here.1 (subst (λ (m : Moments). Q k (moments (get_or old k d)) m) now (holds k d below there.0))
+
+below-all : (journals : List ℕ) (n m : ℕ) (name : List ℕ) → n ≤ m → IsJournalBelow journals n name → IsJournalBelow journals m name
+below-all journals n m name more b = (b.0, (let l = b.1 in omega arith), b.2)
+
+-- nothing was done, for want of memory
+pub none-served : (value : Auction) (journals : List ℕ) (files : Option (List NamedFile)) (counts : List ℕ → ℕ) (names : List (List ℕ)) (told : Option NetView) (counted : ℕ)
+    → JournalsNotServed value journals (between files files counts counts names names) (record { told_before = told; told = told; faults_before = counted; faults = counted }) how.NoMemory
+none-served value journals files counts names told counted = record {
+  keeps = record {
+    others = keeps-itself (IsJournalBelow journals (value.terms.bidders + 1)) files;
+    counts = record { later = λ s. omega arith; others = λ s not. refl };
+    front = 0;
+    few = omega arith;
+    names = refl;
+  };
+  left = same files;
+  cause = refl;
+}
+  where
+    same : (o : Option (List NamedFile)) → IfTells o (λ after. IfWasTold o (λ before. (k : ℕ) → k ≤ value.terms.bidders → LeavesJournal (owner_of value.terms k value.digest) (moments_at before (journal_name journals k)) (moments_at after (journal_name journals k))))
+    same None = tt
+    same (Some files) = λ k few. inl (inl refl)
+
+-- the journals were not all opened
+pub none-opened : (fault : OpenFault) (value : Auction) (journals : List ℕ) (clock : ℕ) (shelf : ShelfSeen) (told : Option NetView) (counted : ℕ) → AreNotOpen journals (value.terms.bidders + 1) clock fault shelf
+    → JournalsNotServed value journals shelf (record { told_before = told; told = told; faults_before = counted; faults = counted }) (end_at clock fault)
+none-opened fault value journals clock shelf told counted not = record {
+  keeps = record {
+    others = keeps-then (IsJournalBelow journals clock) (λ s. ⊥) (IsJournalBelow journals n) shelf.files_before shelf.files shelf.files (λ s b. below-all journals clock n s (let w = not.within in omega arith) b) (λ s b. absurd b) not.others (keeps-itself (λ s. ⊥) shelf.files);
+    counts = counts fault not.cause;
+    front = not.front;
+    few = not.few;
+    names = not.names;
+  };
+  left = left shelf.files_before shelf.files not.moments;
+  cause = cause fault not.cause;
+}
+  where
+    n : ℕ
+    n = value.terms.bidders + 1
+
+    net : NetSeen
+    net = record { told_before = told; told = told; faults_before = counted; faults = counted }
+
+    counts : (w : OpenFault) → IsNotOpened shelf journals clock w → RisesAmong (IsJournalBelow journals (value.terms.bidders + 1)) shelf.faults_before shelf.faults
+    counts why.DiskFault failed = record { later = failed.counts.later; others = λ s other. failed.counts.others s (λ e. other (clock, (let w = not.within in w), e)) }
+    counts why.NoMemory steady = record { later = λ s. (let e = steady s in omega arith); others = λ s other. steady s }
+    counts (why.Broken broken) no_such = absurd no_such
+    counts (why.NotAcceptable number judgement) no_such = absurd no_such
+
+    left : (a c : Option (List NamedFile)) → KeepsMoments a c
+        → IfTells c (λ after. IfWasTold a (λ before. (k : ℕ) → k ≤ value.terms.bidders → LeavesJournal (owner_of value.terms k value.digest) (moments_at before (journal_name journals k)) (moments_at after (journal_name journals k))))
+    left a None kept = tt
+    left None (Some c) kept = absurd kept
+    left (Some a) (Some c) kept = λ k few. inl (inl (kept (journal_name journals k)))
+
+    cause : (w : OpenFault) → IsNotOpened shelf journals clock w → NotServing value journals shelf (record { told_before = told; told = told; faults_before = counted; faults = counted }) (end_at clock w)
+    cause why.DiskFault failed = ((let w = not.within in omega arith), failed.failed, (refl, refl))
+    cause why.NoMemory steady = refl
+    cause (why.Broken broken) no_such = absurd no_such
+    cause (why.NotAcceptable number judgement) no_such = absurd no_such
+
+-- they were opened, and given back
+module _ {D : Type 0} (tells : D → Bool) (moments : D → Moments) (faults : D → ℕ) (journals : List ℕ) (old disks : List D) (shelf : ShelfSeen) (files : Option (List NamedFile)) (counts : List ℕ → ℕ) (names : List (List ℕ)) where
+  pub keeps-journals : (n : ℕ) → length old ≡ n → length disks ≡ length old → AreOpen tells moments faults journals old (between shelf.files_before files shelf.faults_before counts shelf.opened_before names)
+      → AreGivenBack tells moments faults journals disks (between files shelf.files counts shelf.faults names shelf.opened) → KeepsJournals journals n shelf
+  keeps-journals n long same are given = record {
+    others = keeps-then (IsJournalBelow journals (length old)) (IsJournalBelow journals (length disks)) (IsJournalBelow journals n) shelf.files_before files shelf.files (λ s b. below-all journals (length old) n s (omega arith) b)
+        (λ s b. below-all journals (length disks) n s (omega arith) b) are.others given.others;
+    counts = record {
+      later = λ s. let e = are.steady s in let l = given.counts.later s in omega arith;
+      others = λ s other. given.counts.others s (λ b. other (below-all journals (length disks) n s (omega arith) b)) ∙ are.steady s;
+    };
+    front = n;
+    few = omega arith;
+    names = given.names ∙ are.names ∙ ap (λ k. with_names (first_journals journals k) shelf.opened_before) long;
+  }
+
+  -- the count of a disk is that of its journal
+  pub journal-rose : (k : ℕ) (d : D) → k < length old → length disks ≡ length old → AreOpen tells moments faults journals old (between shelf.files_before files shelf.faults_before counts shelf.opened_before names)
+      → AreGivenBack tells moments faults journals disks (between files shelf.files counts shelf.faults names shelf.opened) → faults (get_or old k d) ≡ 0 → Rose (faults (get_or old k d)) (faults (get_or disks k d)) → FailedAt shelf (journal_name journals k)
+  journal-rose k d below same are given fresh rose =
+      let a = given.added k d (omega arith) in
+      let e = are.steady (journal_name journals k) in
+      omega arith
+
+pub tells-map : (a c : Option (List NamedFile)) (P Q : List NamedFile → List NamedFile → Type 0) → ((x y : List NamedFile) → P x y → Q x y) → IfTells c (λ after. IfWasTold a (λ before. P before after)) → IfTells c (λ after. IfWasTold a (λ before. Q before after))
+tells-map a None P Q of told = tt
+tells-map None (Some c) P Q of told = absurd told
+tells-map (Some a) (Some c) P Q of told = of a c told
+
+-- what was found of a file that a disk stood for
+told-content : {D : Type 0} (tells : D → Bool) (moments : D → Moments) (name : List ℕ) (Q : List ℕ → Type 0) (old new : D) (a b c : Option (List NamedFile)) (P R : List ℕ → Type 0) → Keeps P a b → Keeps R b c
+    → IfTells b (λ now. IfWasTold a (StandsAs tells moments name old)) → IfTells c (IsLeftBy tells moments name new) → (IsTrue (tells new) → Q (moments old).now.read) → IfTells (told_first a c) (λ files. Q (content files name))
+told-content tells moments name Q old new a b None P R first second stand left holds = tt
+told-content tells moments name Q old new a None (Some c) P R first second stand left holds = absurd second
+told-content tells moments name Q old new None (Some b) (Some c) P R first second stand left holds = absurd first
+told-content tells moments name Q old new (Some a) (Some b) (Some c) P R first second stand left holds =
+    let read : content a name ≡ (moments old).now.read = content-now (file_of a name) ∙ ap (λ (m : Moments). m.now.read) (sym stand.1) in
+    subst Q (sym read) (holds left.0)
+
+reads-opening : (owner : Owner) (file : List ℕ) (fault : OpenFault) → IsRefusal fault → ReadsClock owner file (Err fault) → IsOpening owner file (Err fault)
+reads-opening owner file (why.Broken broken) refusal reads = reads
+reads-opening owner file (why.NotAcceptable number judgement) refusal reads = reads
+reads-opening owner file why.DiskFault refusal reads = absurd refusal
+reads-opening owner file why.NoMemory refusal reads = absurd refusal
+
+-- the histories of the clocks before one that was refused
+record Earlier (files : Option (List NamedFile)) (terms : Terms) (digest journals : List ℕ) (clocks : ℕ) : Type 0 where
+  histories_in : List ClockHistory
+  are : AreFromJournals files terms digest journals clocks histories_in
+
+module _ {D : Type 0} (tells : D → Bool) (moments : D → Moments) (faults : D → ℕ) (terms : Terms) (digest journals : List ℕ) (old disks : List D) (shelf : ShelfSeen) (files : Option (List NamedFile)) (counts : List ℕ → ℕ) (names : List (List ℕ))
+    (are : AreOpen tells moments faults journals old (between shelf.files_before files shelf.faults_before counts shelf.opened_before names))
+    (given : AreGivenBack tells moments faults journals disks (between files shelf.files counts shelf.faults names shelf.opened)) where
+  abbrev first-files : Option (List NamedFile)
+  first-files = told_first shelf.files_before shelf.files
+
+  earlier-of : (clock : ℕ) (fault : OpenFault) → IsNotOpen tells moments faults terms digest old disks clock fault → (n : ℕ) → n ≤ clock → Earlier first-files terms digest journals n
+  earlier-of clock fault not zero few = record { histories_in = []; are = record { numbers = refl; each = tt } }
+  earlier-of clock fault not (suc n) few =
+      let before = earlier-of clock fault not n (omega arith) in
+      let w = not.within in
+      let d = some-of old n (omega arith) in
+      let was = not.before n d (omega arith) in
+      let history = was.first.state.clock in
+      let owner = owner_of terms n digest in
+      let read : IsReadAt first-files terms digest (journal_name journals n) n history = record {
+        history = was.opens.history;
+        in_file = told-content tells moments (journal_name journals n) (λ file. StandsForHistory owner history file) (get_or old n d) (get_or disks n d) shelf.files_before files shelf.files (IsJournalBelow journals (length old)) (IsJournalBelow journals (length disks))
+            are.others given.others (are.stand n d (omega arith)) (given.left n d (let c = not.count in omega arith)) (λ told. was.opens.read (was-told tells moments faults owner (get_or old n d) (get_or disks n d) was told));
+      } in
+      let e : n + 1 ≡ suc n = omega arith in
+      record { histories_in = before.histories_in ++ history ∷ []; are = subst (λ (m : ℕ). AreFromJournals first-files terms digest journals m (before.histories_in ++ history ∷ [])) e (more-from first-files terms digest journals n before.histories_in history before.are read) }
+
+  pub first-refused : (clock : ℕ) (fault : OpenFault) → IsNotOpen tells moments faults terms digest old disks clock fault → IsRefusal fault → IsFirstRefused first-files terms digest journals clock fault
+  first-refused clock fault not refusal =
+      let before = earlier-of clock fault not clock (omega arith) in
+      let w = not.within in
+      let d = some-of old clock w in
+      record {
+        earlier = before.histories_in;
+        from_journals = before.are;
+        refused = record {
+          refusal = refusal;
+          in_file = told-content tells moments (journal_name journals clock) (λ file. IsOpening (owner_of terms clock digest) file (Err fault)) (get_or old clock d) (get_or disks clock d) shelf.files_before files shelf.files (IsJournalBelow journals (length old)) (IsJournalBelow journals (length disks))
+              are.others given.others (are.stand clock d w) (given.left clock d (let c = not.count in omega arith)) (λ told. reads-opening (owner_of terms clock digest) (moments (get_or old clock d)).now.read fault refusal ((not.refused d).refused told));
+        };
+      }
+
+module _ {D R L M : Type 0} (tells : D → Bool) (moments : D → Moments) (disk_faults : D → ℕ) (told : R → Option (DoorLinks M)) (faults : R → ℕ) (link_told : M → Option LinkBytes) (link_faults : M → ℕ) (dialled_told : L → Option LinkBytes) where
+  abbrev seen-net : Option (NetLists R L) → Option (NetLists R L) → ℕ → ℕ → NetSeen
+  seen-net before after counted_before counted = record { told_before = option_map (net_view told link_told dialled_told) before; told = option_map (net_view told link_told dialled_told) after; faults_before = counted_before; faults = counted }
+
+  pub served-journals : (answer : Result Hosted Ended) (value : Auction) (journals : List ℕ) (s : Serving) (old disks : List D) (shelf : ShelfSeen) (files : Option (List NamedFile)) (counts : List ℕ → ℕ) (names : List (List ℕ)) (before after : Option (NetLists R L)) (counted_before counted : ℕ)
+      → length old ≡ value.terms.bidders + 1
+      → AreOpen tells moments disk_faults journals old (between shelf.files_before files shelf.faults_before counts shelf.opened_before names)
+      → AreGivenBack tells moments disk_faults journals disks (between files shelf.files counts shelf.faults names shelf.opened)
+      → HostOutcome {L = L} tells moments disk_faults told faults link_told link_faults value s.doors s.sessions old answer disks before after counted_before counted
+      → ServesJournals value journals s shelf (seen-net before after counted_before counted) answer
+  served-journals (Ok hosted) value journals s old disks shelf files counts names before after counted_before counted long are given is =
+      let seen = run_seen told faults link_told link_faults value s.sessions in
+      let Q : ℕ → Moments → Moments → Type 0 = λ k m n. (c : ClockRun) → IsJournalRun (owner_of value.terms k value.digest) (get_or is.clocks k c) m n in
+      record {
+        keeps = keeps-journals tells moments disk_faults journals old disks shelf files counts names (value.terms.bidders + 1) long is.disks_count are given;
+        clocks = is.clocks;
+        ran = record {
+          count_is = is.count_is ∙ long;
+          clocks_are = is.clocks_are;
+          journals_are =
+              tells-map shelf.files_before shelf.files (λ x y. (k : ℕ) → k < length old → Q k (moments_at x (journal_name journals k)) (moments_at y (journal_name journals k)))
+              (λ x y. (k : ℕ) (c : ClockRun) → k < length is.clocks → IsJournalRun (owner_of value.terms k value.digest) (get_or is.clocks k c) (moments_at x (journal_name journals k)) (moments_at y (journal_name journals k)))
+              (λ x y all k c below. all k (let e = is.count_is in omega arith) c)
+              (journal-moments tells moments journals Q old disks shelf.files_before files shelf.files (IsJournalBelow journals (length old)) (IsJournalBelow journals (length disks)) are.others given.others are.stand given.left is.disks_count
+              (λ k d below told_now c. is.journals_are k c d (let e = is.count_is in omega arith) told_now));
+        };
+        histories_are = is.histories_are;
+        doors = map seen is.runs;
+        serving = doors-serving told faults link_told link_faults dialled_told value s is.runs (map (λ ends. ends.items) hosted.ends.items) before after counted_before counted is.ran;
+        joins = λ k c below.
+            subst (λ turns. Joins (get_or is.clocks k c).opening (get_or is.clocks k c).closed.history turns k) (sym (turns-seen told faults link_told link_faults value s.sessions is.runs)) (is.joins k c below);
+        ends_are = is.ran.ends_are ∙ sym (map-map (λ (d : DoorRun DoorSeen LinkSeen). d.log.ends.items) seen is.runs);
+        steady = is.ran.steady;
+      }
+  served-journals (Err end) value journals s old disks shelf files counts names before after counted_before counted long are given is = record {
+    keeps = keeps-journals tells moments disk_faults journals old disks shelf files counts names (value.terms.bidders + 1) long is.disks_count are given;
+    left =
+        tells-map shelf.files_before shelf.files (λ x y. (k : ℕ) → k < length old → LeavesJournal (owner_of value.terms k value.digest) (moments_at x (journal_name journals k)) (moments_at y (journal_name journals k)))
+        (λ x y. (k : ℕ) → k ≤ value.terms.bidders → LeavesJournal (owner_of value.terms k value.digest) (moments_at x (journal_name journals k)) (moments_at y (journal_name journals k)))
+        (λ x y all k few. all k (omega arith))
+        (journal-moments tells moments journals (λ k m n. LeavesJournal (owner_of value.terms k value.digest) m n) old disks shelf.files_before files shelf.files (IsJournalBelow journals (length old)) (IsJournalBelow journals (length disks)) are.others given.others
+        are.stand given.left is.disks_count (λ k d below told_now. leaves (owner_of value.terms k value.digest) (get_or old k d) (get_or disks k d) told_now (is.left k d below)));
+    cause = cause end is.cause;
+  }
+    where
+      leaves : (owner : Owner) (x y : D) → IsTrue (tells y) → LeavesDisk tells moments owner x y → LeavesJournal owner (moments x) (moments y)
+      leaves owner x y told_now (inl left) = inl (left told_now)
+      leaves owner x y told_now (inr run) = inr (run.0, run.1, run.2 told_now)
+
+      untouched : IsSameNet before after counted_before counted → IsNetUntouched (seen-net before after counted_before counted)
+      untouched same = (ap (option_map (net_view told link_told dialled_told)) same.told_same, same.counted_same)
+
+      cause : (w : Ended) → HostEnd {N = NetLists R L} tells moments disk_faults value.terms value.digest old disks before after counted_before counted w → NotServing value journals shelf (seen-net before after counted_before counted) w
+      cause (how.DiskFault clock) (not, same) =
+          let d = some-of old clock not.within in
+          let rose = (not.refused d).counts in
+          ((let w = not.within in omega arith), journal-rose tells moments disk_faults journals old disks shelf files counts names clock d not.within not.count are given (All-from_recursion (λ (x : D). disk_faults x ≡ 0) old are.fresh clock d not.within) rose.1, untouched same)
+      cause (how.BadJournal clock fault) (not, refusal, same) =
+          ((let w = not.within in omega arith), first-refused tells moments disk_faults value.terms value.digest journals old disks shelf files counts names are given clock fault not refusal, untouched same)
+      cause how.NetFault ended = ended
+      cause how.NoMemory ended = ended
+      cause how.Done ended = absurd ended
+      cause how.Usage ended = absurd ended
+      cause how.ReadFault ended = absurd ended
+      cause how.WriteFault ended = absurd ended
+      cause (how.BadAuction fault) ended = absurd ended
+      cause (how.Open clock round missing) ended = absurd ended
+      cause (how.NoAward clock) ended = absurd ended
+      cause (how.Halted clock good) ended = absurd ended
+      cause (how.BadValues fault) ended = absurd ended
+      cause (how.NotSubstitutes bidder x y good) ended = absurd ended
+      cause (how.TooLong file) ended = absurd ended
+      cause (how.BadLog place) ended = absurd ended
+      cause (how.Refused code detail value) ended = absurd ended
+      cause (how.LooksSpent clock) ended = absurd ended
+      cause how.BadReply ended = absurd ended
+      cause (how.NoBidder bidder) ended = absurd ended

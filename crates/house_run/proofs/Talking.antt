@@ -1,0 +1,153 @@
+-- A link that was dialled, over which a part was played, and which was hung up again: what is then said of the net, and how a bid ends.
+use Rattle.std.proofs.Common.{◌≡◌, ◌∙◌, ◌⊎◌, ◌<◌, ◌≤◌, ◌+◌, ◌-◌, ◌++◌, ℕ, List, [], ◌∷◌, length, get_or, map, Option, Some, None, Ok, Err, inl, inr, arith, refl, sym, ap, subst, option_map}
+use Rattle.std.specs.Prelude.{Result, Vec, IfOk, IfErr}
+use Rattle.std.specs.declared.alloc.Global.{Global}
+use Rattle.std.specs.List.{concat, flat_map}
+use Rattle.std.proofs.lemmas.List.{get_or_default, map-append}
+use Rattle.lot_base.specs.Economy.{demand}
+use Rattle.lot_base.specs.declared.auction_terms.Terms.{Terms}
+use Rattle.valuation.specs.Values.{valuation_of}
+use Rattle.trial.specs.Trials.{AreValuationsOf}
+use Rattle.house_io.specs.Doors.{DoorLinks, IsEmptyLink}
+use Rattle.house_io.specs.Faults.{Rose, raised_by}
+use Rattle.house_io.specs.Links.{LinkBytes}
+use Rattle.house_io.specs.Nets.{GivesLink, NetLists, TakesLink}
+use Rattle.house_io.specs.Told.{IfTold}
+use Rattle.bidder_agent.specs.Talks.{Agrees, HasCauseOf, Part}
+use Rattle.bidder_agent.specs.declared.agents.AgentEnd.{AgentEnd}
+use Rattle.bidder_agent.specs.declared.agents.AgentEnd.TheVariants as agent
+use Rattle.bidder_agent.specs.declared.agents.Seen.{Seen}
+use Rattle.house_run.specs.BidCommand.{IsPlayable, bid_needs, look_line}
+use Rattle.house_run.specs.Commands.{Bid}
+use Rattle.house_run.specs.Dialling.{IsDialled, PlaysIn, TalksOn, part_in}
+use Rattle.house_run.specs.Ends.{JobAnswer}
+use Rattle.house_run.specs.Needs.{Bidding}
+use Rattle.house_run.specs.NetEnds.{Ends, NetFrame}
+use Rattle.house_run.specs.Nets.{NetSeen, NetView, net_view}
+use Rattle.house_run.specs.Seen.{Outside}
+use Rattle.house_run.specs.Steps.{IsTalkEnd, NetCounts, ended_by}
+use Rattle.house_run.specs.declared.ends.Ended.{Ended}
+use Rattle.house_run.specs.declared.ends.Ended.TheVariants as how
+
+-- the part of a bidder with these values
+abbrev pub part_with : Terms → Bidding → List ℕ → Part
+part_with terms b values = record {
+  goods = length terms.goods;
+  bidders = terms.bidders;
+  who = b.bidder;
+  token = b.token;
+  demands = λ prices. concat (demand terms.goods (valuation_of terms.goods values) prices);
+  looks = b.looks;
+}
+
+-- is that of the market in which these are his valuation
+pub plays-as : (terms : Terms) (valuations : List (List ℕ)) (b : Bidding) (values other : List ℕ) (before after : Option LinkBytes) (answer : Result Seen AgentEnd) → IsPlayable b → b.bidder ≤ terms.bidders → AreValuationsOf terms valuations
+    → values ≡ get_or valuations (b.bidder - 1) other → Agrees (part_with terms b values) before after answer → Agrees (part_in terms valuations b) before after answer
+plays-as terms valuations b values other before after answer playable few are is agrees =
+    let first = playable.from_one in
+    let count = are.count in
+    let within : b.bidder - 1 < length valuations = omega arith in
+    let P : List ℕ → Type 0 = λ vs. Agrees (part_with terms b vs) before after answer in
+    subst P (is ∙ get_or_default valuations (b.bidder - 1) other [] within) agrees
+
+-- the links that are told
+
+first-dialled : {L : Type 0} (told : L → Option LinkBytes) (link : L) (before between after : List L) → after ≡ between → (before ≡ link ∷ between) ⊎ ((before ≡ []) × (between ≡ []) × IsEmptyLink (told link))
+    → (map told before ≡ told link ∷ map told after) ⊎ ((map told before ≡ []) × (map told after ≡ []) × IsEmptyLink (told link))
+first-dialled told link before between after same (inl first) = inl (ap (map told) first ∙ ap (λ links. told link ∷ map told links) (sym same))
+first-dialled told link before between after same (inr none) = inr (ap (map told) none.0, ap (map told) (same ∙ none.1), none.2)
+
+moved : {D L M : Type 0} (door_told : D → Option (DoorLinks M)) (door_link_told : M → Option LinkBytes) (told : L → Option LinkBytes) (link hung : L) (a b c : NetLists D L) → GivesLink told link a b → TakesLink hung b c
+    → IsDialled (told link) (told hung) (net_view door_told door_link_told told a) (net_view door_told door_link_told told c)
+unfolding net_view
+moved {D = D} {L = L} door_told door_link_told told link hung a b c gives takes =
+    let places : b.link_places ≡ a.link_places + 1 = ap (λ (x : NetLists D L). x.link_places) gives.rest in
+    let free : 0 < b.link_places = omega arith in
+    let less : c.link_places ≡ b.link_places - 1 = ap (λ (x : NetLists D L). x.link_places) takes.rest in
+    let link_places : c.link_places ≡ a.link_places = omega arith in
+    let door_places : c.door_places ≡ a.door_places = ap (λ (x : NetLists D L). x.door_places) takes.rest ∙ ap (λ (x : NetLists D L). x.door_places) gives.rest in
+    let doors : c.doors ≡ a.doors = ap (λ (x : NetLists D L). x.doors) takes.rest ∙ ap (λ (x : NetLists D L). x.doors) gives.rest in
+    let closed : c.closed ≡ a.closed = ap (λ (x : NetLists D L). x.closed) takes.rest ∙ ap (λ (x : NetLists D L). x.closed) gives.rest in
+    let links : c.links ≡ b.links = ap (λ (x : NetLists D L). x.links) takes.rest in
+    let kept : c.hung_up ≡ a.hung_up ++ hung ∷ [] = takes.placed free ∙ ap (λ (x : NetLists D L). x.hung_up ++ hung ∷ []) gives.rest in
+    let told_kept : map told c.hung_up ≡ map told a.hung_up ++ told hung ∷ [] = ap (map told) kept ∙ map-append told a.hung_up (hung ∷ []) in
+    let view : List D → List D → List (Option LinkBytes) → ℕ → ℕ → NetView = λ ds cs hs dp lp. record (net_view door_told door_link_told told (record c { doors = ds; closed = cs })) { hung_up = hs; door_places = dp; link_places = lp } in
+    (first-dialled told link a.links b.links c.links links gives.given, λ i. view (doors i) (closed i) (told_kept i) (door_places i) (link_places i))
+
+pub dialled : {D L M : Type 0} (door_told : D → Option (DoorLinks M)) (door_link_told : M → Option LinkBytes) (told : L → Option LinkBytes) (link hung : L) (before between after : Option (NetLists D L))
+    → IfTold before between (GivesLink told link) → IfTold between after (TakesLink hung)
+    → IfTold (option_map (net_view door_told door_link_told told) before) (option_map (net_view door_told door_link_told told) after) (IsDialled (told link) (told hung))
+dialled door_told door_link_told told link hung before between None gives takes = tt
+dialled door_told door_link_told told link hung before None (Some c) gives takes = absurd takes
+dialled door_told door_link_told told link hung None (Some b) (Some c) gives takes = absurd gives
+dialled door_told door_link_told told link hung (Some a) (Some b) (Some c) gives takes = moved door_told door_link_told told link hung a b c gives takes
+
+-- the net's count
+
+pub same-count : (net : NetSeen) (between fresh faults : ℕ) → between ≡ net.faults_before → fresh ≡ 0 → faults ≡ fresh → net.faults ≡ raised_by between faults → net.faults ≡ net.faults_before
+same-count net between fresh faults steady none same raised = omega arith
+
+rose-count : (net : NetSeen) (between fresh faults : ℕ) → between ≡ net.faults_before → fresh ≡ 0 → Rose fresh faults → net.faults ≡ raised_by between faults → Rose net.faults_before net.faults
+rose-count net between fresh faults steady none rose raised = omega arith
+
+pub quiet-counts : (net : NetSeen) (end : Ended) → net.faults ≡ net.faults_before → NetCounts end net
+quiet-counts net end same = record { quiet = λ other. same; later = omega arith }
+
+loud-counts : (net : NetSeen) (between faults : ℕ) → between ≡ net.faults_before → net.faults ≡ raised_by between faults → NetCounts how.NetFault net
+loud-counts net between faults steady raised = record { quiet = λ other. absurd (other refl); later = omega arith }
+
+pub record Stops (net : NetSeen) (p : Part) (end : Ended) : Type 0 where
+  pub ends : IsTalkEnd net p end
+  pub counts : NetCounts end net
+
+-- the agent stopped
+pub stopped : (end : AgentEnd) (net : NetSeen) (p : Part) (before after : Option LinkBytes) (between fresh faults : ℕ) → IfTold net.told_before net.told (IsDialled before after) → Agrees p before after (Err end)
+    → between ≡ net.faults_before → fresh ≡ 0 → HasCauseOf {A = Seen} fresh faults (Err end) → net.faults ≡ raised_by between faults → Stops net p (ended_by end)
+stopped (agent.Refused code detail value) net p before after between fresh faults lists agrees steady none cause raised =
+    record { ends = record { before = before; after = after; agrees = agrees; lists = lists }; counts = quiet-counts net _ (same-count net between fresh faults steady none cause raised) }
+stopped agent.BadReply net p before after between fresh faults lists agrees steady none cause raised =
+    record { ends = record { before = before; after = after; agrees = agrees; lists = lists }; counts = quiet-counts net _ (same-count net between fresh faults steady none cause raised) }
+stopped (agent.LooksSpent clock) net p before after between fresh faults lists agrees steady none cause raised =
+    record { ends = record { before = before; after = after; agrees = agrees; lists = lists }; counts = quiet-counts net _ (same-count net between fresh faults steady none cause raised) }
+stopped agent.NoMemory net p before after between fresh faults lists agrees steady none cause raised =
+    record { ends = tt; counts = quiet-counts net _ (same-count net between fresh faults steady none cause raised) }
+stopped agent.LinkFault net p before after between fresh faults lists agrees steady none cause raised =
+    record { ends = rose-count net between fresh faults steady none cause.0 raised; counts = loud-counts net between faults steady raised }
+
+-- how a bid ends whose talk gave no looks
+pub bid-ends : (end : Ended) (auction values : List ℕ) (b : Bidding) (seen : Outside) (net : NetSeen) (p : Part) → PlaysIn seen.shelf auction values b p → IsTalkEnd net p end → Ends (bid_needs auction values b) seen net end
+bid-ends how.NoMemory auction values b seen net p plays ends = inl tt
+bid-ends how.NetFault auction values b seen net p plays ends = inr (inl tt, ends)
+bid-ends (how.Refused code detail value) auction values b seen net p plays ends = inr (record { part = p; plays = plays; talks = ends })
+bid-ends (how.LooksSpent clock) auction values b seen net p plays ends = inr (record { part = p; plays = plays; talks = ends })
+bid-ends how.BadReply auction values b seen net p plays ends = inr (record { part = p; plays = plays; talks = ends })
+bid-ends how.Done auction values b seen net p plays ends = absurd ends
+bid-ends how.Usage auction values b seen net p plays ends = absurd ends
+bid-ends how.ReadFault auction values b seen net p plays ends = absurd ends
+bid-ends how.WriteFault auction values b seen net p plays ends = absurd ends
+bid-ends (how.DiskFault clock) auction values b seen net p plays ends = absurd ends
+bid-ends (how.BadJournal clock refusal) auction values b seen net p plays ends = absurd ends
+bid-ends (how.BadAuction refusal) auction values b seen net p plays ends = absurd ends
+bid-ends (how.BadValues refusal) auction values b seen net p plays ends = absurd ends
+bid-ends (how.Open clock round missing) auction values b seen net p plays ends = absurd ends
+bid-ends (how.NoAward clock) auction values b seen net p plays ends = absurd ends
+bid-ends (how.Halted clock good) auction values b seen net p plays ends = absurd ends
+bid-ends (how.NotSubstitutes bidder x y good) auction values b seen net p plays ends = absurd ends
+bid-ends (how.TooLong file) auction values b seen net p plays ends = absurd ends
+bid-ends (how.BadLog place) auction values b seen net p plays ends = absurd ends
+bid-ends (how.NoBidder bidder) auction values b seen net p plays ends = absurd ends
+
+-- what a bid leaves of the net
+pub bid-leaves : (auction values : List ℕ) (b : Bidding) (end : Ended) (net : NetSeen) → NetCounts end net → NetFrame (bid_needs auction values b) end net
+bid-leaves auction values b end net counts = record {
+  quiet = counts.quiet;
+  later = counts.later;
+  untouched = λ no_bid no_serve. absurd (let no : ⊥ = cc in no);
+  early = λ clock no_bid ended. absurd (let no : ⊥ = cc in no);
+}
+
+-- a bid whose agent played its part to the end, and that is done where there is memory for its text
+pub bid-answer : (result : Result (Vec ℕ Global) Ended) (auction values : List ℕ) (b : Bidding) (seen : Outside) (net : NetSeen) (p : Part) (looks : Seen) → PlaysIn seen.shelf auction values b p → TalksOn net p (Ok looks)
+    → IfOk result (λ text. text.items ≡ flat_map look_line looks.looks.items) → IfErr result (λ end. end ≡ how.NoMemory) → JobAnswer (Bid auction values b) seen net result
+bid-answer (Ok text) auction values b seen net p looks plays talks is none = record { part = p; plays = plays; seen = looks; talks = talks; text_is = is }
+bid-answer (Err end) auction values b seen net p looks plays talks is none = let P : Ended → Type 0 = λ e. Ends (bid_needs auction values b) seen net e in subst P (sym none) (inl tt)

@@ -1,0 +1,71 @@
+-- The files are read, and then the part is played over a link.
+use Rattle.std.proofs.Common.{◌∙◌, ap, refl}
+use Rattle.std.specs.List.{flat_map}
+use Rattle.house_run.specs.BidCommand.{look_line}
+use Rattle.house_run.specs.CommandView.{bidding_as}
+use Rattle.house_run.specs.Dialling.{PlaysIn, part_in}
+use Rattle.house_run.specs.Nets.{net_seen}
+use Rattle.house_run.specs.Seen.{outside}
+use Rattle.house_run.specs.declared.ends.Ended.TheVariants as how
+use Rattle.house_run.proofs.Talking.{bid-ends, bid-leaves, quiet-counts}
+use Rattle.house_run.proofs.commands.bid.job.Goals as goal
+
+pub returns-in-Err-clause-answer : goal.returns-in-Err-clause-answer
+returns-in-Err-clause-answer g c =
+    let net = net_seen g.N.Net.told g.N.Door.Door.told g.N.Door.Link.Link.told g.N.Link.Link.told g.N.Net.faults c.args.net.now c.args.net.now in
+    (c.in-Err.ensures.ends (bidding_as c.args.bidding.now) refl).cause net
+
+pub returns-in-Err-clause-frame : goal.returns-in-Err-clause-frame
+returns-in-Err-clause-frame g c = (c.in-Err.ensures.ends (bidding_as c.args.bidding.now) refl).frame
+
+pub returns-in-Err-clause-net_frame : goal.returns-in-Err-clause-net_frame
+returns-in-Err-clause-net_frame g c = bid-leaves c.args.auction.now c.args.values.now (bidding_as c.args.bidding.now) _ _ (quiet-counts _ _ refl)
+
+pub returns-in-Err-talk-clause-answer : goal.returns-in-Err-talk-clause-answer
+returns-in-Err-talk-clause-answer g c =
+    let seen = outside g.H.Shelf.files g.H.Shelf.faults g.H.Shelf.opened c.args.shelf.now c.read_bidders.new.shelf in
+    let net = net_seen g.N.Net.told g.N.Door.Door.told g.N.Door.Link.Link.told g.N.Link.Link.told g.N.Net.faults c.args.net.now c.talk.new.net in
+    let b = bidding_as c.args.bidding.now in
+    let market = c.in-Ok.market in
+    let part = part_in market.auction.terms market.valuations.items b in
+    let plays : PlaysIn seen.shelf c.args.auction.now c.args.values.now b part = record {
+      terms = market.auction.terms;
+      valuations = market.valuations.items;
+      market = c.in-Ok.ensures.read;
+      bidder_is = record { at_least = c.requires.from_one; at_most = c.in-Ok.ensures.bidder };
+      part_is = refl;
+    } in
+    bid-ends c.in-Err-talk.ended c.args.auction.now c.args.values.now b seen net part plays c.in-Err-talk.ensures.ends
+
+pub returns-in-Err-talk-clause-frame : goal.returns-in-Err-talk-clause-frame
+returns-in-Err-talk-clause-frame g c = c.in-Ok.ensures.frame (bidding_as c.args.bidding.now) c.in-Err-talk.ended
+
+pub returns-in-Err-talk-clause-net_frame : goal.returns-in-Err-talk-clause-net_frame
+returns-in-Err-talk-clause-net_frame g c = bid-leaves c.args.auction.now c.args.values.now (bidding_as c.args.bidding.now) c.in-Err-talk.ended _ c.in-Err-talk.ensures.counts
+
+pub returns-in-Ok-looks_text-clause-answer : goal.returns-in-Ok-looks_text-clause-answer
+returns-in-Ok-looks_text-clause-answer g c =
+    let market = c.in-Ok.market in
+    let b = bidding_as c.args.bidding.now in
+    record {
+      part = part_in market.auction.terms market.valuations.items b;
+      plays = record {
+        terms = market.auction.terms;
+        valuations = market.valuations.items;
+        market = c.in-Ok.ensures.read;
+        bidder_is = record { at_least = c.requires.from_one; at_most = c.in-Ok.ensures.bidder };
+        part_is = refl;
+      };
+      seen = c.in-Ok-talk.seen;
+      talks = c.in-Ok-talk.ensures.talks;
+      text_is = c.in-Ok-looks_text.ensures ∙ ap (flat_map look_line) c.deref.ensures.value;
+    }
+
+pub returns-in-Ok-looks_text-clause-frame : goal.returns-in-Ok-looks_text-clause-frame
+returns-in-Ok-looks_text-clause-frame g c = c.in-Ok.ensures.frame (bidding_as c.args.bidding.now) how.Done
+
+pub returns-in-Ok-looks_text-clause-net_frame : goal.returns-in-Ok-looks_text-clause-net_frame
+returns-in-Ok-looks_text-clause-net_frame g c = bid-leaves c.args.auction.now c.args.values.now (bidding_as c.args.bidding.now) how.Done _ c.in-Ok-talk.ensures.counts
+
+pub returns-clause-frame : goal.returns-clause-frame
+returns-clause-frame g c = c.in-Ok.ensures.frame (bidding_as c.args.bidding.now) how.NoMemory

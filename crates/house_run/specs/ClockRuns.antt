@@ -1,0 +1,39 @@
+-- What a house that was served comes to at one clock, and at its journal.
+use Rattle.std.specs.Prelude.{◌≡◌, ◌⊎◌, List, length, map}
+use Rattle.house_io.specs.Moments.{Leaves, Moments, synced_at}
+use Rattle.recovery.specs.Journaled.{Owner}
+use Rattle.clock_book.specs.Books.{BookState}
+use Rattle.clock_book.specs.DeskHistories.{reports_in}
+use Rattle.clock_book.specs.Opened.{LeftUnopened}
+use Rattle.clock_book.specs.Opening.{IsHistoryOf, StandsForHistory, history_of}
+use Rattle.clock_book.specs.Past.{IsEither, KeepsPast, owner_in}
+use Rattle.clock_book.specs.declared.entries.Entry.{Entry}
+use Rattle.clock_book.specs.declared.entries.Entry.TheVariants.{Offered}
+use Rattle.clock_book.specs.declared.origins.Origin.{Origin}
+
+-- the origin of the clock's book, the history of its desk at the opening, and how the book stood at the closing
+pub record ClockRun : Type 0 where
+  pub origin : Origin
+  pub opening : List Entry
+  pub closed : BookState
+
+-- The book is the owner's. At the opening each report was noted as offered, and the history at the closing is a legal one.
+pub record IsClockRun (owner : Owner) (run : ClockRun) : Type 0 where
+  pub owner_is : owner_in run.origin ≡ owner
+  pub opening_is : run.opening ≡ map Offered (reports_in run.opening)
+  pub history : IsHistoryOf owner run.closed.clock
+  pub reports : reports_in run.closed.history ≡ run.closed.clock.reports
+
+-- The journal of the clock, which had these moments before and has these after. The reports at the opening are those that it stood for;
+-- at each moment from the sync of the opening on it stood for what the book's past says; and each image of it now stands for the reports
+-- of the closed book, or for these and the one that is pending.
+pub record IsJournalRun (owner : Owner) (run : ClockRun) (before after : Moments) : Type 0 where
+  pub stood : StandsForHistory owner (history_of owner (reports_in run.opening)) before.now.read
+  pub read_is : run.origin.read ≡ before.now.read
+  pub synced_is : run.origin.synced ≡ length (synced_at before).past
+  pub past : KeepsPast run.origin run.closed.clock after
+  pub stands : Leaves (IsEither owner run.closed.clock.reports run.closed.pending) after.now
+
+-- the journal was left as an opening that was refused leaves it, or as a book that was opened and closed does
+abbrev pub LeavesJournal : Owner → Moments → Moments → Type 0
+LeavesJournal owner before after = LeftUnopened owner before after ⊎ ((run : ClockRun) × IsClockRun owner run × IsJournalRun owner run before after)

@@ -1,0 +1,56 @@
+-- The part that a bidder's agent plays in the market of two files, and its talk over a link of the net.
+use Rattle.std.specs.Prelude.{◌≡◌, ◌<◌, ◌⊎◌, ℕ, List, [], ◌∷◌, ◌++◌, length, Option, Result}
+use Rattle.std.specs.List.{concat}
+use Rattle.house_io.specs.Doors.{IsEmptyLink}
+use Rattle.house_io.specs.Links.{LinkBytes}
+use Rattle.house_io.specs.Told.{IfTold}
+use Rattle.lot_base.specs.Economy.{demand}
+use Rattle.lot_base.specs.Goods.{IsRange}
+use Rattle.lot_base.specs.declared.auction_terms.Terms.{Terms}
+use Rattle.auction_file.specs.AuctionFile.{Listing}
+use Rattle.bidder_agent.specs.Talks.{Agrees, Part}
+use Rattle.bidder_agent.specs.declared.agents.AgentEnd.{AgentEnd}
+use Rattle.bidder_agent.specs.declared.agents.Seen.{Seen}
+use Rattle.house_run.specs.Markets.{IsMarketAt, market_bidders}
+use Rattle.house_run.specs.Needs.{Bidding}
+use Rattle.house_run.specs.Nets.{NetSeen, NetView}
+use Rattle.house_run.specs.Seen.{ShelfSeen, IsAuctionAt}
+
+-- the part of a bidder of a market: at prices he demands all bundles of the greatest surplus
+abbrev pub part_in : Terms → List (List ℕ) → Bidding → Part
+part_in terms valuations b = record {
+  goods = length terms.goods;
+  bidders = terms.bidders;
+  who = b.bidder;
+  token = b.token;
+  demands = λ prices. concat (demand terms.goods (market_bidders terms valuations b.bidder) prices);
+  looks = b.looks;
+}
+
+-- the part that a bidder's agent plays in the market of two files
+pub record PlaysIn (shelf : ShelfSeen) (auction values : List ℕ) (b : Bidding) (p : Part) : Type 0 where
+  pub terms : Terms
+  pub valuations : List (List ℕ)
+  pub market : IsMarketAt shelf auction values terms valuations
+  pub bidder_is : IsRange 1 terms.bidders b.bidder
+  pub part_is : p ≡ part_in terms valuations b
+
+-- The link was the first of those to come, or one without bytes, where none was; and it is the last of those that were hung up.
+abbrev pub IsDialled : Option LinkBytes → Option LinkBytes → NetView → NetView → Type 0
+IsDialled before after b a =
+    ((b.links ≡ before ∷ a.links) ⊎ ((b.links ≡ []) × (a.links ≡ []) × IsEmptyLink before))
+    × (a ≡ record b { links = a.links; hung_up = b.hung_up ++ after ∷ [] })
+
+-- A link was dialled, the part was played over it with this answer, and it was hung up. The link is seen as it came and as it was hung up.
+pub record TalksOn (net : NetSeen) (p : Part) (answer : Result Seen AgentEnd) : Type 0 where
+  pub before : Option LinkBytes
+  pub after : Option LinkBytes
+  pub agrees : Agrees p before after answer
+  pub lists : IfTold net.told_before net.told (IsDialled before after)
+
+-- the auction that was read has no bidder of this number
+pub record IsNoBidder (shelf : ShelfSeen) (auction : List ℕ) (b : Bidding) (bidder : ℕ) : Type 0 where
+  pub listing : Listing
+  pub auction_is : IsAuctionAt shelf auction listing
+  pub bidder_is : bidder ≡ b.bidder
+  pub above : length listing.bidder_names < bidder

@@ -1,0 +1,155 @@
+-- What a house comes to that is opened on the disks of its journals, served at doors on a net, and closed.
+use Rattle.std.specs.Prelude.{◌≡◌, ◌≤◌, ◌<◌, ◌⊎◌, ◌++◌, ℕ, Bool, false, List, length, map, take, drop, slice_index_or, IsTrue, Option, Result, Ok, Err, vec_capacity}
+use Rattle.std.specs.List.{AllByRecursion, flat_map}
+use Rattle.house_io.specs.Doors.{DoorLinks, IsEmptyDoor}
+use Rattle.house_io.specs.Faults.{Rose}
+use Rattle.house_io.specs.Links.{LinkBytes}
+use Rattle.house_io.specs.Moments.{Moments}
+use Rattle.house_io.specs.Nets.{NetLists}
+use Rattle.house_io.specs.Told.{IfTold}
+use Rattle.auction_file.specs.declared.listing.Auction.{Auction}
+use Rattle.clock.specs.Reports.{histories}
+use Rattle.lot_base.specs.declared.auction_terms.Terms.{Terms}
+use Rattle.recovery.specs.Journaled.{Owner, owner_of}
+use Rattle.clock_book.specs.Books.{BookOf, IsKept}
+use Rattle.clock_book.specs.Opened.{LeftUnopened}
+use Rattle.clock_book.specs.declared.faults.OpenFault.{OpenFault}
+use Rattle.clock_book.specs.declared.faults.OpenFault.TheVariants as why
+use Rattle.clock_family.specs.Opening.{IsNotOpen}
+use Rattle.clock_family.specs.declared.house_books.HouseBook.{HouseBook}
+use Rattle.turn_desk.specs.Passes.{Opened}
+use Rattle.house_serve.specs.Houses.{DoorRun, IsRun, Joins, turns_of}
+use Rattle.house_serve.specs.declared.ends.SessionEnd.{SessionEnd}
+use Rattle.house_run.specs.Journals.{IsRefusal}
+use Rattle.house_run.specs.ClockRuns.{ClockRun, IsClockRun, IsJournalRun}
+use Rattle.house_run.specs.declared.ends.Ended.{Ended}
+use Rattle.house_run.specs.declared.ends.Ended.TheVariants as how
+use Rattle.house_run.specs.declared.hosting.Hosted.{Hosted}
+use Rattle.house_run.specs.declared.hosting.Room.{Room}
+use Rattle.house_serve.specs.declared.houses.DoorLog.{DoorLog}
+use Rattle.house_io.specs.declared.shelves.Refusal.{Refusal}
+use Rattle.house_io.specs.declared.shelves.Refusal.TheVariants as refusal
+
+-- The first doors to come were given, and, in place of those that are missing, doors without links. These were given back, in order.
+pub record DoorsServed {R L M : Type 0} (told : R → Option (DoorLinks M)) (count : ℕ) (given back : List R) (before after : NetLists R L) : Type 0 where
+  pub empty : List R
+  pub given_are : given ≡ take count before.doors ++ empty
+  pub are_empty : AllByRecursion (λ door. IsEmptyDoor (told door)) empty
+  pub after_is : after ≡ record before { doors = drop count before.doors; closed = before.closed ++ back }
+
+-- the books of a house, whose desks these were, once it was closed, and their disks
+pub record BooksBack {D : Type 0} (tells : D → Bool) (moments : D → Moments) (faults : D → ℕ) (desks : List (Opened (HouseBook D))) (books : List (BookOf D)) (disks : List D) : Type 0 where
+  pub count : length books ≡ length desks
+  pub origins : (k : ℕ) (d : Opened (HouseBook D)) (b : BookOf D) → k < length desks → (slice_index_or books k b).origin ≡ (slice_index_or desks k d).book.book.origin
+  pub disks_are : disks ≡ map (λ (b : BookOf D). b.disk) books
+  pub kept : AllByRecursion (λ (b : BookOf D). IsKept (IsTrue (tells b.disk)) (moments b.disk) (faults b.disk) b) books
+
+module _ {R L M : Type 0} (told : R → Option (DoorLinks M)) (faults : R → ℕ) (link_told : M → Option LinkBytes) (link_faults : M → ℕ) (auction : Auction) (count sessions : ℕ) where
+  -- So many doors of a net served so many sessions each, and none failed.
+  pub record DoorsRan (runs : List (DoorRun R M)) (ends : List (List SessionEnd)) (told_before told_after : Option (NetLists R L)) (faults_before faults_after : ℕ) : Type 0 where
+    pub count_is : length runs ≡ count
+    pub each : AllByRecursion (IsRun told faults link_told link_faults auction sessions) runs
+    pub none_failed : AllByRecursion (λ (r : DoorRun R M). r.log.failed ≡ false) runs
+    pub ends_are : ends ≡ map (λ (r : DoorRun R M). r.log.ends.items) runs
+    pub lists : IfTold told_before told_after (DoorsServed told count (map (λ (r : DoorRun R M). r.door) runs) (map (λ (r : DoorRun R M). r.log.door) runs))
+    pub steady : faults_after ≡ faults_before
+
+-- why a house that was opened was not served, by the counts of the net
+abbrev pub HouseEnd : ℕ → ℕ → Ended → Type 0
+HouseEnd before now how.NetFault = Rose before now × (before ≤ now)
+HouseEnd before now how.NoMemory = now ≡ before
+HouseEnd before now end = ⊥
+
+-- A house of these desks was not served, or a door failed; it was closed.
+pub record HouseNotServed {D : Type 0} (tells : D → Bool) (moments : D → Moments) (faults : D → ℕ) (desks : List (Opened (HouseBook D))) (disks : List D) (end : Ended) (counted_before counted : ℕ) : Type 0 where
+  pub books : List (BookOf D)
+  pub back : BooksBack tells moments faults desks books disks
+  pub cause : HouseEnd counted_before counted end
+
+module _ {D R L M : Type 0} (tells : D → Bool) (moments : D → Moments) (disk_faults : D → ℕ) (told : R → Option (DoorLinks M)) (faults : R → ℕ) (link_told : M → Option LinkBytes) (link_faults : M → ℕ) (auction : Auction) (count sessions : ℕ) where
+  -- a house of these desks was served at doors of the net, and closed
+  pub record HouseServed (desks : List (Opened (HouseBook D))) (disks : List D) (hosted : Hosted) (told_before told_after : Option (NetLists R L)) (counted_before counted : ℕ) : Type 0 where
+    pub books : List (BookOf D)
+    pub back : BooksBack tells moments disk_faults desks books disks
+    pub clocks : histories hosted.clocks.items ≡ map (λ (b : BookOf D). b.state.clock) books
+    pub runs : List (DoorRun R M)
+    pub ran : DoorsRan {L = L} told faults link_told link_faults auction count sessions runs (map (λ ends. ends.items) hosted.ends.items) told_before told_after counted_before counted
+    pub joins : (k : ℕ) (d : Opened (HouseBook D)) (b : BookOf D) → k < length desks
+        → Joins (slice_index_or desks k d).book.book.state.history (slice_index_or books k b).state.history (flat_map turns_of runs) k
+
+  abbrev pub HouseOutcome : List (Opened (HouseBook D)) → Result Hosted Ended → List D → Option (NetLists R L) → Option (NetLists R L) → ℕ → ℕ → Type 0
+  HouseOutcome desks (Ok hosted) disks told_before told_after counted_before counted = HouseServed desks disks hosted told_before told_after counted_before counted
+  HouseOutcome desks (Err end) disks told_before told_after counted_before counted = HouseNotServed tells moments disk_faults desks disks end counted_before counted
+
+-- the disks of a house whose desks these were, once it was closed
+pub record HouseBooks {D : Type 0} (tells : D → Bool) (moments : D → Moments) (faults : D → ℕ) (desks : List (Opened (HouseBook D))) (disks : List D) : Type 0 where
+  pub books : List (BookOf D)
+  pub back : BooksBack tells moments faults desks books disks
+
+-- empty lists with room for so many clocks, their disks, and the ends at so many doors
+pub record IsRoom {D : Type 0} (clocks doors : ℕ) (room : Room D) : Type 0 where
+  pub no_clock : length room.clocks.items ≡ 0
+  pub no_disk : length room.disks.items ≡ 0
+  pub no_end : length room.ends.items ≡ 0
+  pub for_clocks : clocks ≤ vec_capacity room.clocks
+  pub for_disks : clocks ≤ vec_capacity room.disks
+  pub for_ends : doors ≤ vec_capacity room.ends
+
+-- what is told of doors that were served, whose logs these are, and of the closed books
+abbrev pub LogsOutcome : {D R : Type 0} → List (BookOf D) → List (DoorLog R) → Result Hosted Ended → Type 0
+LogsOutcome {D = D} {R = R} books logs (Ok hosted) =
+    AllByRecursion (λ (log : DoorLog R). log.failed ≡ false) logs
+    × (histories hosted.clocks.items ≡ map (λ (b : BookOf D). b.state.clock) books)
+    × (map (λ ends. ends.items) hosted.ends.items ≡ map (λ (log : DoorLog R). log.ends.items) logs)
+LogsOutcome {D = D} {R = R} books logs (Err end) = (end ≡ how.NetFault) × (AllByRecursion (λ (log : DoorLog R). log.failed ≡ false) logs → ⊥)
+
+-- how a command ends whose doors the net refuses
+abbrev pub net_end : Refusal → Ended
+net_end refusal.Failed = how.NetFault
+net_end refusal.NoMemory = how.NoMemory
+
+-- The disk of a clock was left as an opening that was refused leaves it, or as a book that was opened and closed does. What is said of
+-- its moments is said where it tells.
+abbrev pub LeavesDisk : {D : Type 0} → (D → Bool) → (D → Moments) → Owner → D → D → Type 0
+LeavesDisk tells moments owner before after =
+    (IsTrue (tells after) → LeftUnopened owner (moments before) (moments after))
+    ⊎ ((run : ClockRun) × IsClockRun owner run × (IsTrue (tells after) → IsJournalRun owner run (moments before) (moments after)))
+
+-- nothing was done on the net
+pub record IsSameNet {N : Type 0} (told_before told_after : Option N) (counted_before counted : ℕ) : Type 0 where
+  pub told_same : told_after ≡ told_before
+  pub counted_same : counted ≡ counted_before
+
+module _ {D R L M : Type 0} (tells : D → Bool) (moments : D → Moments) (disk_faults : D → ℕ) (told : R → Option (DoorLinks M)) (faults : R → ℕ) (link_told : M → Option LinkBytes) (link_faults : M → ℕ) (auction : Auction) (count sessions : ℕ) where
+  -- A house was opened on these disks, one for each clock, served at doors of the net, and closed. The disks came back in order.
+  pub record IsHosted (old disks : List D) (hosted : Hosted) (told_before told_after : Option (NetLists R L)) (counted_before counted : ℕ) : Type 0 where
+    pub disks_count : length disks ≡ length old
+    pub clocks : List ClockRun
+    pub count_is : length clocks ≡ length old
+    pub clocks_are : (k : ℕ) (c : ClockRun) → k < length clocks → IsClockRun (owner_of auction.terms k auction.digest) (slice_index_or clocks k c)
+    pub journals_are : (k : ℕ) (c : ClockRun) (d : D) → k < length clocks → IsTrue (tells (slice_index_or disks k d))
+        → IsJournalRun (owner_of auction.terms k auction.digest) (slice_index_or clocks k c) (moments (slice_index_or old k d)) (moments (slice_index_or disks k d))
+    pub histories_are : histories hosted.clocks.items ≡ map (λ (c : ClockRun). c.closed.clock) clocks
+    pub runs : List (DoorRun R M)
+    pub ran : DoorsRan {L = L} told faults link_told link_faults auction count sessions runs (map (λ ends. ends.items) hosted.ends.items) told_before told_after counted_before counted
+    pub joins : (k : ℕ) (c : ClockRun) → k < length clocks
+        → Joins (slice_index_or clocks k c).opening (slice_index_or clocks k c).closed.history (flat_map turns_of runs) k
+
+module _ {D N : Type 0} (tells : D → Bool) (moments : D → Moments) (disk_faults : D → ℕ) (terms : Terms) (digest : List ℕ) where
+  -- why no house was served: a book was not opened, and nothing was done on the net; memory ran out; or the net failed
+  abbrev pub HostEnd : List D → List D → Option N → Option N → ℕ → ℕ → Ended → Type 0
+  HostEnd old disks told_before told_after counted_before counted (how.DiskFault clock) =
+      IsNotOpen tells moments disk_faults terms digest old disks clock why.DiskFault × IsSameNet told_before told_after counted_before counted
+  HostEnd old disks told_before told_after counted_before counted (how.BadJournal clock fault) =
+      IsNotOpen tells moments disk_faults terms digest old disks clock fault × IsRefusal fault × IsSameNet told_before told_after counted_before counted
+  HostEnd old disks told_before told_after counted_before counted end = HouseEnd counted_before counted end
+
+  pub record IsUnhosted (old disks : List D) (end : Ended) (told_before told_after : Option N) (counted_before counted : ℕ) : Type 0 where
+    pub disks_count : length disks ≡ length old
+    pub left : (k : ℕ) (d : D) → k < length old → LeavesDisk tells moments (owner_of terms k digest) (slice_index_or old k d) (slice_index_or disks k d)
+    pub cause : HostEnd old disks told_before told_after counted_before counted end
+
+module _ {D R L M : Type 0} (tells : D → Bool) (moments : D → Moments) (disk_faults : D → ℕ) (told : R → Option (DoorLinks M)) (faults : R → ℕ) (link_told : M → Option LinkBytes) (link_faults : M → ℕ) (auction : Auction) (count sessions : ℕ) where
+  abbrev pub HostOutcome : List D → Result Hosted Ended → List D → Option (NetLists R L) → Option (NetLists R L) → ℕ → ℕ → Type 0
+  HostOutcome old (Ok hosted) disks told_before told_after counted_before counted = IsHosted tells moments disk_faults told faults link_told link_faults auction count sessions old disks hosted told_before told_after counted_before counted
+  HostOutcome old (Err end) disks told_before told_after counted_before counted = IsUnhosted {N = NetLists R L} tells moments disk_faults auction.terms auction.digest old disks end told_before told_after counted_before counted

@@ -1,0 +1,67 @@
+//! The command `bid`: an agent takes the part of a bidder over a link.
+ghost use Rattle.std.specs.Prelude.{◌≡◌, IfOk};
+ghost use Rattle.std.specs.List.{flat_map};
+ghost use Rattle.house_run.specs.BidCommand.{IsPlayable, bid_needs, look_line};
+ghost use Rattle.house_run.specs.CommandView.{bidding_as};
+ghost use Rattle.house_run.specs.Commands.{Bid};
+ghost use Rattle.house_run.specs.Ends.{JobAnswer, end_of};
+ghost use Rattle.house_run.specs.Frame.{Frame};
+ghost use Rattle.house_run.specs.NetEnds.{NetFrame};
+ghost use Rattle.house_run.specs.Nets.{net_seen};
+ghost use Rattle.house_run.specs.Seen.{outside};
+
+use crate::dialling::{Bidding, talk};
+use crate::ends::Ended;
+use crate::markets::read_bidders;
+use bidder_agent::SeenLook;
+use house_io::{Net, Shelf};
+use lot_base::NoMemory;
+use outcome_text::write_standing;
+use std::alloc::Global;
+
+/// The lines of the clocks' ends that the agent saw, or why there are none.
+pub(crate) fn job<H: Shelf, N: Net>(
+    alloc: Global,
+    auction: &str,
+    values: &str,
+    bidding: &Bidding,
+    shelf: &mut H,
+    net: &mut N,
+) -> Result<Vec<u8>, Ended>
+    requires { IsPlayable (bidding_as bidding.now) }
+    ensures answer { JobAnswer (Bid auction.now values.now (bidding_as bidding.now)) (outside H.files H.faults H.opened shelf.old shelf.new) (net_seen N.told N.Door.told N.Door.Link.told N.Link.told N.faults net.old net.new) result }
+    ensures frame { Frame (bid_needs auction.now values.now (bidding_as bidding.now)) (end_of result) (outside H.files H.faults H.opened shelf.old shelf.new) }
+    ensures net_frame { NetFrame (bid_needs auction.now values.now (bidding_as bidding.now)) (end_of result) (net_seen N.told N.Door.told N.Door.Link.told N.Link.told N.faults net.old net.new) }
+{
+    let market = match read_bidders(alloc, shelf, auction, values, bidding.bidder) {
+        Ok(market) => market,
+        Err(ended) => return Err(ended),
+    };
+    let seen = match talk(alloc, &market, bidding, net) {
+        Ok(seen) => seen,
+        Err(ended) => return Err(ended),
+    };
+    match looks_text(alloc, &seen.looks) {
+        Ok(text) => Ok(text),
+        Err(NoMemory) => Err(Ended::NoMemory),
+    }
+}
+
+/// The standing line of each look.
+fn looks_text(alloc: Global, looks: &[SeenLook]) -> Result<Vec<u8>, NoMemory>
+    ensures { IfOk result (λ text. text.items ≡ flat_map look_line looks.now) }
+{
+    let mut text = Vec::new(alloc);
+    for seen in looks {
+        let line = look_line(alloc, seen)?;
+        text.extend_from_slice(&line)?;
+    }
+    Ok(text)
+}
+
+/// The standing line of a look.
+fn look_line(alloc: Global, seen: &SeenLook) -> Result<Vec<u8>, NoMemory>
+    ensures { IfOk result (λ line. line.items ≡ look_line seen.now) }
+{
+    write_standing(alloc, seen.clock, &seen.look, 0)
+}

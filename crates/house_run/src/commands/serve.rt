@@ -1,0 +1,47 @@
+//! The command `serve`: an auction is served to its bidders.
+ghost use Rattle.house_run.specs.Commands.{Serve};
+ghost use Rattle.house_run.specs.Ends.{CommandFrame, JobAnswer, end_of};
+ghost use Rattle.house_run.specs.NetEnds.{NetFrame};
+ghost use Rattle.house_run.specs.Nets.{net_seen};
+ghost use Rattle.house_run.specs.Seen.{outside};
+ghost use Rattle.house_run.specs.ServeCommand.{IsServable, serve_needs};
+ghost use Rattle.house_run.specs.CommandView.{serving_as};
+
+use crate::ends::Ended;
+use crate::files::read_auction;
+use crate::serve_texts::serve_text;
+use crate::serving_journals::{Serving, serve_journals};
+use house_io::{Net, Shelf};
+use lot_base::NoMemory;
+use std::alloc::Global;
+use std::sync::Wait;
+use std::thread::Threads;
+
+/// The text of an auction that was served, or why there is none.
+pub(crate) fn job<T: Threads + Wait + Sync, H: Shelf, N: Net>(
+    rt: &T,
+    alloc: Global,
+    auction: &str,
+    journals: &str,
+    serving: &Serving,
+    shelf: &mut H,
+    net: &mut N,
+) -> Result<Vec<u8>, Ended>
+    requires { IsServable (serving_as serving.now) }
+    ensures answer { JobAnswer (Serve auction.now journals.now (serving_as serving.now)) (outside H.files H.faults H.opened shelf.old shelf.new) (net_seen N.told N.Door.told N.Door.Link.told N.Link.told N.faults net.old net.new) result }
+    ensures frame { CommandFrame (Serve auction.now journals.now (serving_as serving.now)) (end_of result) (outside H.files H.faults H.opened shelf.old shelf.new) }
+    ensures net_frame { NetFrame (serve_needs auction.now journals.now (serving_as serving.now)) (end_of result) (net_seen N.told N.Door.told N.Door.Link.told N.Link.told N.faults net.old net.new) }
+{
+    let auction = match read_auction(alloc, shelf, auction) {
+        Ok(auction) => auction,
+        Err(ended) => return Err(ended),
+    };
+    let hosted = match serve_journals(rt, alloc, &auction, journals, serving, shelf, net) {
+        Ok(hosted) => hosted,
+        Err(ended) => return Err(ended),
+    };
+    match serve_text(alloc, &hosted.ends, &hosted.clocks) {
+        Ok(text) => Ok(text),
+        Err(NoMemory) => Err(Ended::NoMemory),
+    }
+}

@@ -1,0 +1,221 @@
+//! Serving a house at doors on a net, from the disks of its journals to these disks again.
+ghost use Rattle.std.specs.Prelude.{◌≡◌, ◌≤◌, ◌+◌, List, length, map, true, false, vec_len, vec_capacity, IsTrue, IfOk, IfErr};
+ghost use Rattle.std.specs.List.{AllByRecursion};
+ghost use Rattle.clock_family.specs.Houses.{AreAllOf, IsNewPass};
+ghost use Rattle.house_io.specs.Told.{IfTold};
+ghost use Rattle.clock.specs.Reports.{histories};
+ghost use Rattle.clock_book.specs.Books.{IsKept};
+ghost use Rattle.house_io.specs.Nets.{GivesDoors};
+ghost use Rattle.house_run.specs.GivingBack.{TakesAll, raised_by_all};
+ghost use Rattle.house_run.specs.Hosting.{HostOutcome, HouseBooks, HouseOutcome, IsRoom, LogsOutcome, net_end};
+
+use crate::ends::Ended;
+use crate::giving_back::{close_doors, close_logs, has_failed, take_apart};
+use crate::house::end_at;
+use crate::journals::Unread;
+use auction_file::Auction;
+use clock::Clock;
+use clock_book::ClockBook;
+use clock_family::{House, HousePass, NotOpen};
+use house_io::{Disk, Door, Net, Refusal};
+use house_serve::{DoorLog, NotServed, Served, SessionEnd, serve};
+use lot_base::NoMemory;
+use std::alloc::Global;
+use std::sync::Wait;
+use std::thread::Threads;
+
+/// The clocks of a house that was served, and how the sessions at each of its doors ended.
+#[derive(Drop)]
+pub(crate) struct Hosted {
+    pub(crate) clocks: Vec<Clock>,
+    pub(crate) ends: Vec<Vec<SessionEnd>>,
+}
+
+/// Room for what is left of a house once it was closed. All lists are empty.
+pub(crate) struct Room<D> {
+    clocks: Vec<Clock>,
+    ends: Vec<Vec<SessionEnd>>,
+    disks: Vec<D>,
+}
+
+/// Room for so many clocks and doors.
+fn reserve<D>(alloc: Global, clocks: usize, doors: usize) -> Result<Room<D>, NoMemory>
+    ensures { IfOk result (IsRoom clocks doors) }
+{
+    let clock_list = Vec::with_capacity(alloc, clocks)?;
+    let ends = Vec::with_capacity(alloc, doors)?;
+    let disks = Vec::with_capacity(alloc, clocks)?;
+    Ok(Room {
+        clocks: clock_list,
+        ends,
+        disks,
+    })
+}
+
+/// How a command ends whose doors the net refuses.
+fn net_end(refusal: Refusal) -> Ended
+    ensures { result ≡ net_end refusal }
+{
+    match refusal {
+        Refusal::Failed => Ended::NetFault,
+        Refusal::NoMemory => Ended::NoMemory,
+    }
+}
+
+/// Closes a house that was not served, and gives the disks of its books.
+fn close_house<D: Disk>(house: House<D>, passes: Vec<HousePass<D>>, room: Room<D>) -> Vec<D>
+    requires all { AreAllOf house.desks passes.items }
+    requires room { IsRoom (length house.desks) 0 room }
+    ensures { HouseBooks D.tells D.moments D.faults house.desks result.items }
+{
+    let Room {
+        mut clocks,
+        mut disks,
+        ends: _,
+    } = room;
+    take_apart(house.close(passes), &mut clocks, &mut disks);
+    disks
+}
+
+/// Gives the doors of a house that was served and closed back to the net, and takes its books apart.
+fn close_served<D: Disk, N: Net>(
+    books: Vec<ClockBook<D>>,
+    logs: Vec<DoorLog<N::Door>>,
+    net: &mut N,
+    room: Room<D>,
+) -> (Result<Hosted, Ended>, Vec<D>)
+    requires { IsRoom (length books.items) (length logs.items) room }
+    ensures disks { result.1.items ≡ map (λ book. book.disk) books.items }
+    ensures kept { AllByRecursion (λ book. IsKept (IsTrue (D.tells book.disk)) (D.moments book.disk) (D.faults book.disk) book) books.items }
+    ensures lists { IfTold (N.told net.old) (N.told net.new) (TakesAll (map (λ log. log.door) logs.items)) }
+    ensures faults { N.faults net.new ≡ raised_by_all (N.faults net.old) (map (λ log. N.Door.Door.faults log.door) logs.items) }
+    ensures outcome { LogsOutcome books.items logs.items result.0 }
+{
+    let failed = has_failed(&logs);
+    let Room {
+        mut clocks,
+        mut disks,
+        mut ends,
+    } = room;
+    close_logs(net, logs, &mut ends);
+    take_apart(books, &mut clocks, &mut disks);
+    if failed {
+        return (Err(Ended::NetFault), disks);
+    }
+    (Ok(Hosted { clocks, ends }), disks)
+}
+
+/// Serves a house at these doors and closes it. The doors go back to the net.
+fn host_doors<T: Threads + Wait + Sync, D: Disk + Send, N: Net>(
+    rt: &T,
+    alloc: Global,
+    auction: &Auction,
+    house: House<D>,
+    passes: Vec<HousePass<D>>,
+    doors: Vec<N::Door>,
+    sessions: u32,
+    net: &mut N,
+    room: Room<D>,
+) -> (Result<Hosted, Ended>, Vec<D>)
+    requires auction { house.terms ≡ auction.now.terms }
+    requires passes { AreAllOf house.desks passes.items }
+    requires new { AllByRecursion (IsNewPass house) passes.items }
+    requires doors { length doors.items ≡ length passes.items }
+    requires fresh { AllByRecursion (λ door. N.Door.Door.faults door ≡ 0) doors.items }
+    requires sessions { (1 ≤ sessions) × (sessions ≤ 10000) }
+    requires room { IsRoom (length house.desks) (length doors.items) room }
+    ensures { (before : _) → IfTold before (N.told net.old) (GivesDoors N.Door.Door.told (length doors.items) doors.items)
+        → HouseOutcome D.tells D.moments D.faults N.Door.Door.told N.Door.Door.faults N.Door.Link.Link.told N.Door.Link.Link.faults auction.now (length doors.items) sessions house.desks result.0 result.1.items before (N.told net.new) (N.faults net.old) (N.faults net.new) }
+{
+    match serve(rt, alloc, auction, house, passes, doors, sessions) {
+        Ok(served) => {
+            let Served { books, doors } = served;
+            close_served(books, doors, net, room)
+        }
+        Err(not_served) => {
+            let NotServed {
+                house,
+                passes,
+                doors,
+            } = not_served;
+            close_doors(net, doors);
+            (Err(Ended::NoMemory), close_house(house, passes, room))
+        }
+    }
+}
+
+/// Serves a house at doors of the net and closes it.
+fn host_house<T: Threads + Wait + Sync, D: Disk + Send, N: Net>(
+    rt: &T,
+    alloc: Global,
+    auction: &Auction,
+    house: House<D>,
+    passes: Vec<HousePass<D>>,
+    address: &str,
+    doors: u32,
+    sessions: u32,
+    net: &mut N,
+    room: Room<D>,
+) -> (Result<Hosted, Ended>, Vec<D>)
+    requires auction { house.terms ≡ auction.now.terms }
+    requires passes { AreAllOf house.desks passes.items }
+    requires new { AllByRecursion (IsNewPass house) passes.items }
+    requires doors { length passes.items ≡ doors }
+    requires sessions { (1 ≤ sessions) × (sessions ≤ 10000) }
+    requires room { IsRoom (length house.desks) doors room }
+    ensures { HouseOutcome D.tells D.moments D.faults N.Door.Door.told N.Door.Door.faults N.Door.Link.Link.told N.Door.Link.Link.faults auction.now doors sessions house.desks result.0 result.1.items (N.told net.old) (N.told net.new) (N.faults net.old) (N.faults net.new) }
+{
+    match net.doors(alloc, address, doors) {
+        Ok(doors) => host_doors(
+            rt, alloc, auction, house, passes, doors, sessions, net, room,
+        ),
+        Err(refusal) => (Err(net_end(refusal)), close_house(house, passes, room)),
+    }
+}
+
+/// Opens a house on the disks of its journals, serves it at doors of the net, and closes it. The disks come back in order.
+pub(crate) fn host<T: Threads + Wait + Sync, D: Disk + Send, N: Net>(
+    rt: &T,
+    alloc: Global,
+    auction: &Auction,
+    disks: Vec<D>,
+    address: &str,
+    doors: u32,
+    sessions: u32,
+    net: &mut N,
+) -> (Result<Hosted, Ended>, Vec<D>)
+    requires disks { length disks.items ≡ auction.now.terms.bidders + 1 }
+    requires doors { (1 ≤ doors) × (doors ≤ 64) }
+    requires sessions { (1 ≤ sessions) × (sessions ≤ 10000) }
+    ensures { HostOutcome D.tells D.moments D.faults N.Door.Door.told N.Door.Door.faults N.Door.Link.Link.told N.Door.Link.Link.faults auction.now doors sessions disks.items result.0 result.1.items (N.told net.old) (N.told net.new) (N.faults net.old) (N.faults net.new) }
+{
+    let Ok(room) = reserve(alloc, disks.len(), doors as usize) else {
+        return (Err(Ended::NoMemory), disks);
+    };
+    match House::open(alloc, auction, disks, doors) {
+        Ok((house, passes)) => host_house(
+            rt, alloc, auction, house, passes, address, doors, sessions, net, room,
+        ),
+        Err(not_open) => {
+            let NotOpen {
+                disks,
+                clock,
+                fault,
+            } = not_open;
+            release(room);
+            (Err(end_at(Unread { clock, fault })), disks)
+        }
+    }
+}
+
+/// Lets go of room that was not used.
+fn release<D>(room: Room<D>)
+    requires { length room.disks.items ≡ 0 }
+{
+    let Room {
+        clocks: _,
+        ends: _,
+        disks,
+    } = room;
+    disks.destroy_empty();
+}
