@@ -1,0 +1,2 @@
+mod Still
+mod Readied
