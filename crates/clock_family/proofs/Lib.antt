@@ -8,3 +8,4 @@ pub mod Closed
 pub mod Sending
 pub mod Deals
 pub mod Openings
+pub mod Still

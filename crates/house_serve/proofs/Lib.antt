@@ -8,6 +8,5 @@ mod Leading
 mod Bridging
 mod Joining
 mod Closing
-mod Still
 mod Running
 mod Seating

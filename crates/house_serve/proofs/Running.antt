@@ -12,7 +12,7 @@ use Rattle.house_serve.specs.Houses.{DoorRun, IsRun, IsServed}
 use Rattle.house_serve.specs.declared.counters.Counter.{Counter}
 use Rattle.house_serve.specs.declared.houses.DoorLog.{DoorLog}
 use Rattle.house_serve.proofs.Closing.{joins}
-use Rattle.house_serve.proofs.Still.{AreStill, all_still_of}
+use Rattle.clock_family.proofs.Still.{AreStill, all_still_of}
 
 module _ {R L : Type 0} (told : R → Option (DoorLinks L)) (faults : R → ℕ) (link_told : L → Option LinkBytes) (link_faults : L → ℕ) (auction : Auction) (sessions : ℕ) where
   abbrev pub Was : Counter HousePassOf R → Counter HousePassOf R → Type 0

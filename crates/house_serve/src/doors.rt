@@ -5,7 +5,7 @@ ghost use Rattle.session.specs.Asking.{IsHallOf};
 ghost use Rattle.house_serve.specs.Doors.{IsDoor};
 
 use crate::ends::SessionEnd;
-use crate::serving::serve_link;
+use crate::serving::serve_hall;
 use auction_file::Auction;
 use house_io::Door;
 use session::Hall;
@@ -37,7 +37,7 @@ pub fn serve_door<H: Hall, R: Door, T: Wait>(
         let Ok(mut link) = door.accept() else {
             return true;
         };
-        let end = serve_link(rt, alloc, auction, hall, &mut link);
+        let end = serve_hall(rt, alloc, auction, hall, &mut link);
         door.hang_up(link);
         ends.push_reserved(end);
     }

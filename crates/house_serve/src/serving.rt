@@ -73,12 +73,12 @@ fn pull_once<H: Hall, L: Link, T: Wait>(
     }
 }
 
-/// Serves a session over a link, from its first byte to its end. Each frame is answered before the next is read.
+/// Serves a session over a link, from its first byte to its end, and asks this hall. Each frame is answered before the next is read.
 ///
 /// The end is that of the bytes: `Quit` or `BadToken` by the last frame, `Wire` by a fault in the next frame's place, `Closed` at the
 /// end of input, `Spent` where as many bytes were taken as one session may. `LinkFault` comes only where a call on the link failed,
 /// and `NoMemory` where memory ran out.
-pub fn serve_link<H: Hall, L: Link, T: Wait>(
+pub fn serve_hall<H: Hall, L: Link, T: Wait>(
     rt: &T,
     alloc: Global,
     auction: &Auction,

@@ -1,7 +1,7 @@
 //! Sessions over links in memory, and the doors at which they come in.
 use auction_file::{Auction, MOST_BYTES, read};
 use house_io::{Link, ListLink, SureLink};
-use house_serve::{SessionEnd, serve_link};
+use house_serve::{SessionEnd, serve_hall};
 use report_wire::{WireFault, WireKind};
 use session::ListHall;
 use std::alloc::Global;
@@ -77,7 +77,7 @@ fn serve<L: Link, T: Wait + Abort>(
 ) -> Result<SessionEnd, Fail> {
     let auction = auction(rt, alloc)?;
     let mut hall = ListHall::open(alloc, &auction.terms)?;
-    Ok(serve_link(rt, alloc, &auction, &mut hall, link))
+    Ok(serve_hall(rt, alloc, &auction, &mut hall, link))
 }
 
 fn serves<T: Wait + Abort>(rt: &T, alloc: Global, case: &Case) -> Result<bool, Fail> {

@@ -1,5 +1,5 @@
 -- What stays of the passes of a house, but for what they have seen and made, is enough for them to be all of its passes.
-use Rattle.std.proofs.Common.{◌≡◌, ℕ, zero, suc, ◌+◌, ◌<◌, ◌≤◌, List, [], ◌∷◌, ◌++◌, length, map, take, drop, get_or, None, refl, sym, ◌∙◌, ap, subst, arith}
+use Rattle.std.proofs.Common.{◌≡◌, ℕ, zero, suc, ◌+◌, ◌<◌, List, [], ◌∷◌, ◌++◌, length, map, take, drop, get_or, set, None, refl, sym, ◌∙◌, ap, subst, arith}
 use Rattle.std.specs.List.{AllByRecursion, AllZip}
 use Rattle.std.proofs.lemmas.List.{map-append, length-map}
 use Rattle.clock_book.specs.declared.entries.Entry.{Entry}
@@ -90,3 +90,13 @@ all_still_of desks olds news h all = record {
   columns = λ k d below. all_of (get_or desks k d) (column k olds) (column k news) (column_still k olds news h) (all.columns k d below);
   room = room_still olds news h ∙ all.room ∙ sym (count_still olds news h);
 }
+
+same_all : (ps : List HousePassOf) → AreStill ps ps
+same_all [] = tt
+same_all (p ∷ ps) = (refl, same_all ps)
+
+-- one pass of a list is replaced by what became of it
+pub set_still : (ps : List HousePassOf) (k : ℕ) (old new : HousePassOf) → old ≡ get_or ps k old → k < length ps → all_still new ≡ all_still old → AreStill ps (set ps k new)
+set_still [] k old new here below e = absurd (omega (arith, below))
+set_still (p ∷ ps) zero old new here below e = (e ∙ ap all_still here, same_all ps)
+set_still (p ∷ ps) (suc k) old new here below e = (refl, set_still ps k old new here (omega (arith, below)) e)
