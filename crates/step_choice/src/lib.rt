@@ -33,6 +33,9 @@ fn comes_before(goods: &Goods, excess: &Excess, set: u8, other: u8) -> bool
     requires other { other < 64 }
     ensures { result ≡ is_lt (set_cmp (excess_in excess.now.0) (length goods.now) set other) }
 {
+    if excess.0[set as usize] < excess.0[other as usize] {
+        return false;
+    }
     compare_sets(goods, excess, set, other).is_lt()
 }
 
