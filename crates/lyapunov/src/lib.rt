@@ -4,13 +4,14 @@
 //! by just this excess.
 #![tactic(auto)]
 
-ghost use Rattle.std.specs.Prelude.{◌≡◌, ◌≤◌, ℕ, [], List, length, pos, ◌-ℤ◌};
+ghost use Rattle.std.specs.Prelude.{◌≡◌, ◌≤◌, ◌<◌, ◌+◌, ◌^◌, ℕ, [], List, length, slice_index, pos, ◌-ℤ◌};
 ghost use Rattle.std.specs.List.{AllByRecursion};
+ghost use Rattle.lot_base.specs.Goods.{quantity_in};
 ghost use Rattle.lyapunov.specs.Excesses.{IsExcessOf, IsAdded, IsSmall, HasRoom};
 
 pub mod laws;
 
-use lot_base::{Excess, GoodSet, Goods, LeastTable};
+use lot_base::{Excess, Goods, LeastTable};
 
 /// The excess where nobody demands anything: each set lacks its whole supply.
 pub fn opening(goods: &Goods) -> Excess
@@ -18,10 +19,36 @@ pub fn opening(goods: &Goods) -> Excess
     ensures room { HasRoom result.0 }
 {
     let mut excess = Excess([0; 64]);
+    let units = units_of(goods);
     for set in 0..goods.set_count() {
-        excess.0[set as usize] = lack_of(goods.units(GoodSet(set)));
+        excess.0[set as usize] = lack_of(units[set as usize]);
     }
     excess
+}
+
+/// The units of each set of goods. The sets with a good are those of the goods before it, with its supply more.
+fn units_of(goods: &Goods) -> [u32; 64]
+    ensures { (set : ℕ) → set < 2 ^ length goods.now → slice_index result set ≡ quantity_in goods.now set }
+{
+    let mut units = [0u32; 64];
+    let mut sets = 1;
+    for good in 0..goods.count() {
+        add_good(&mut units, sets, goods.supply(good));
+        sets *= 2;
+    }
+    units
+}
+
+/// Fills in as many sets again as there are, each with so many units more.
+fn add_good(units: &mut [u32; 64], sets: usize, more: u16)
+    requires few { sets ≤ 32 }
+    requires small { (set : ℕ) → set < sets → slice_index units.old set + more < 2 ^ 32 }
+    ensures before { (set : ℕ) → set < sets → slice_index units.new set ≡ slice_index units.old set }
+    ensures more { (set : ℕ) → set < sets → slice_index units.new (sets + set) ≡ slice_index units.old set + more }
+{
+    for set in 0..sets {
+        units[sets + set] = units[set] + more as u32;
+    }
 }
 
 /// The excess of a set of which nobody demands anything.

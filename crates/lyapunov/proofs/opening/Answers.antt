@@ -13,7 +13,7 @@ loop-set-preserved c =
     record {
       size = length-set c.loop-set.excess.0 c.loop-set.set _ ∙ c.loop-set.invariant.size;
       before = entry-set c.loop-set.excess.0 c.loop-set.set (to_z w64 (of_z w64 c.lack_of.result)) (λ k. pos 0 -ℤ pos (quantity_in c.args.goods.now k)) (omega arith)
-          (lack ∙ c.lack_of.ensures ∙ ap (λ n. pos 0 -ℤ pos n) c.units.ensures) c.loop-set.invariant.before;
+          (lack ∙ c.lack_of.ensures ∙ ap (λ n. pos 0 -ℤ pos n) (c.units_of-units.ensures c.loop-set.set (omega (arith, c.loop-set-test.true, c.set_count-set-end.ensures.value)))) c.loop-set.invariant.before;
       behind = λ k behind. let apart : k ≢ c.loop-set.set = omega arith in get_or-set_other c.loop-set.excess.0 c.loop-set.set k _ (pos 0) apart ∙ c.loop-set.invariant.behind k (omega arith);
     }
 
