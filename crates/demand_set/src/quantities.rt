@@ -18,7 +18,9 @@ impl Demand {
         ensures falls { AreFalls goods.now self.now result.0 }
     {
         let _count = goods.count();
-        LeastTable(least_of(&self.quantities, self.goods))
+        let mut table = LeastTable([0; 64]);
+        least_of(&self.quantities, self.goods, &mut table.0);
+        table
     }
 
     /// The greatest quantity on each set of the goods, in one pass over the bundles.
@@ -28,18 +30,21 @@ impl Demand {
         ensures rises { AreRises goods.now self.now result.0 }
     {
         let _count = goods.count();
-        LeastTable(greatest_of(&self.quantities, self.goods))
+        let mut table = LeastTable([0; 64]);
+        greatest_of(&self.quantities, self.goods, &mut table.0);
+        table
     }
 }
 
-/// The least quantity on each set of so many goods.
-fn least_of(quantities: &[u16], goods: u8) -> [u32; 64]
+/// Writes the least quantity on each set of so many goods where zeros stand.
+fn least_of(quantities: &[u16], goods: u8, into: &mut [u32; 64])
     requires some_good { 1 ≤ goods }
     requires few_goods { goods ≤ 6 }
     requires some { 1 ≤ length (bundles_of goods quantities.now) }
     requires whole { length quantities.now % goods ≡ 0 }
     requires short { AllByRecursion IsShort (bundles_of goods quantities.now) }
-    ensures { IsTable goods (least (bundles_of goods quantities.now)) result }
+    requires blank { (set : ℕ) → slice_index into.old set ≡ 0 }
+    ensures { IsTable goods (least (bundles_of goods quantities.now)) into.new }
 {
     let size = goods as usize;
     let rows = rows_of(goods);
@@ -51,17 +56,18 @@ fn least_of(quantities: &[u16], goods: u8) -> [u32; 64]
         keep_least(&mut table, rows, &halves);
         rest = others;
     }
-    widened(&table, goods)
+    widen(&table, goods, into);
 }
 
-/// The greatest quantity on each set of so many goods.
-fn greatest_of(quantities: &[u16], goods: u8) -> [u32; 64]
+/// Writes the greatest quantity on each set of so many goods where zeros stand.
+fn greatest_of(quantities: &[u16], goods: u8, into: &mut [u32; 64])
     requires some_good { 1 ≤ goods }
     requires few_goods { goods ≤ 6 }
     requires some { 1 ≤ length (bundles_of goods quantities.now) }
     requires whole { length quantities.now % goods ≡ 0 }
     requires short { AllByRecursion IsShort (bundles_of goods quantities.now) }
-    ensures { IsTable goods (greatest (bundles_of goods quantities.now)) result }
+    requires blank { (set : ℕ) → slice_index into.old set ≡ 0 }
+    ensures { IsTable goods (greatest (bundles_of goods quantities.now)) into.new }
 {
     let size = goods as usize;
     let rows = rows_of(goods);
@@ -73,7 +79,7 @@ fn greatest_of(quantities: &[u16], goods: u8) -> [u32; 64]
         keep_greatest(&mut table, rows, &halves);
         rest = others;
     }
-    widened(&table, goods)
+    widen(&table, goods, into);
 }
 
 /// How many rows of eight sets so many goods have: one for each set of the goods from 3 on.
@@ -170,14 +176,30 @@ fn keep_greatest_row(table: &mut [u16; 64], row: usize, sums: &[u16; 8], more: u
     }
 }
 
-/// The numbers of the sets of so many goods, and 0 behind them.
-fn widened(table: &[u16; 64], goods: u8) -> [u32; 64]
-    requires { goods ≤ 6 }
-    ensures { CopiesSets goods table.now result }
+/// Writes the numbers of the sets of so many goods where zeros stand.
+fn widen(table: &[u16; 64], goods: u8, wide: &mut [u32; 64])
+    requires few { goods ≤ 6 }
+    requires blank { (set : ℕ) → slice_index wide.old set ≡ 0 }
+    ensures { CopiesSets goods table.now wide.new }
 {
-    let mut wide = [0u32; 64];
-    for set in 0..1usize << goods {
+    for set in 0..sets_of(goods) {
         wide[set] = table[set] as u32;
     }
-    wide
+}
+
+/// How many sets so many goods have.
+fn sets_of(goods: u8) -> usize
+    requires { goods ≤ 6 }
+    ensures sets { result ≡ 2 ^ goods }
+    ensures few { result ≤ 64 }
+{
+    match goods {
+        0 => 1,
+        1 => 2,
+        2 => 4,
+        3 => 8,
+        4 => 16,
+        5 => 32,
+        _ => 64,
+    }
 }

@@ -4,6 +4,7 @@ use Rattle.lot_base.specs.Demands.{IsTable, least}
 use Rattle.demand_set.specs.Reading.{bundles_of}
 use Rattle.demand_set.specs.Sums.{IsShort}
 use Rattle.demand_set.proofs.Sums.{all-short}
+use Rattle.demand_set.proofs.Tables.{get_or-blank}
 use Rattle.demand_set.proofs.Slopes.{falls}
 use Rattle.demand_set.proofs.PackedForm.{goods-packed}
 use Rattle.demand_set.proofs.reading.Demand.least_table.Goals as goal
@@ -14,16 +15,19 @@ least_of-requires-clause-short c =
     let V : List (List ℕ) → Type 0 = λ v. AllByRecursion IsShort v in
     subst S (sym c.deref.ensures.value) (subst V (sym c.self.view_is) (all-short c.args.goods.now c.args.self.now c.count-count.ensures.supply.small c.requires.in_box))
 
+pub least_of-requires-clause-blank : goal.least_of-requires-clause-blank
+least_of-requires-clause-blank c = λ set. get_or-blank 64 set
+
 pub returns-clause-table : goal.returns-clause-table
 returns-clause-table c =
     let size = goods-packed c.args.goods.now c.self.inside.goods c.self.inside.quantities.items c.args.self.now c.self.invariant c.self.view_is c.requires in
     let same : bundles_of c.self.inside.goods c.deref.result.now ≡ c.args.self.now = ap (bundles_of c.self.inside.goods) c.deref.ensures.value ∙ c.self.view_is in
-    let T : List (List ℕ) → Type 0 = λ v. IsTable c.self.inside.goods (least v) c.least_of.result in
-    let G : ℕ → Type 0 = λ n. IsTable n (least c.args.self.now) c.least_of.result in
+    let T : List (List ℕ) → Type 0 = λ v. IsTable c.self.inside.goods (least v) c.least_of.new.into in
+    let G : ℕ → Type 0 = λ n. IsTable n (least c.args.self.now) c.least_of.new.into in
     subst G size (subst T same c.least_of.ensures)
 
 pub returns-clause-falls : goal.returns-clause-falls
 returns-clause-falls c =
     let size = goods-packed c.args.goods.now c.self.inside.goods c.self.inside.quantities.items c.args.self.now c.self.invariant c.self.view_is c.requires in
     let same : bundles_of c.self.inside.goods c.deref.result.now ≡ c.args.self.now = ap (bundles_of c.self.inside.goods) c.deref.ensures.value ∙ c.self.view_is in
-    falls c.args.goods.now c.args.self.now (bundles_of c.self.inside.goods c.deref.result.now) c.self.inside.goods c.least_of.result size same c.least_of.ensures
+    falls c.args.goods.now c.args.self.now (bundles_of c.self.inside.goods c.deref.result.now) c.self.inside.goods c.least_of.new.into size same c.least_of.ensures
