@@ -1,5 +1,6 @@
 //! A clock.
 ghost use Rattle.std.specs.Prelude.{◌≡◌, ◌+◌, ◌-◌, ◌<◌, ◌≤◌, ◌++◌, [], ◌∷◌, ℕ, List, length, max, slice_get, Some, OnOk, OnErr, IfOk, IfErr, IfSome, IsTrue, option_copied};
+ghost use Rattle.lyapunov.specs.Excesses.{IsExcessOf};
 
 use crate::packing::Past;
 use crate::rounds::{find_demand, member_count, missing_in, prices_along};
@@ -7,7 +8,7 @@ use crate::standing::Standing;
 use credit_book::Account;
 use demand_set::{Demand, Report};
 use lot_base::limits::MOST_BIDDERS;
-use lot_base::{Excess, LeastTable, NoMemory, Phase, Prices, Terms};
+use lot_base::{Excess, Goods, LeastTable, NoMemory, Phase, Prices, Terms};
 use std::alloc::Global;
 use std::marker::Model;
 
@@ -181,6 +182,10 @@ impl Clock {
         self.past.push(&report, 2 * MOST_BIDDERS as usize);
         let _in_room = self.present.push(report);
         self.left -= 1;
+        if self.left > 0 {
+            self.phase = Phase::Running;
+            return;
+        }
         let standing = Standing::next(
             &self.terms,
             self.steps,
@@ -199,7 +204,7 @@ impl Clock {
         self.past.raise(set);
         self.left = self.present.len() as u8;
         self.present.clear();
-        self.excess = lyapunov::opening(&goods);
+        reopen(&goods, &mut self.excess);
     }
 
     /// How many reports were applied. Where there is one more to be taken, they are below the most.
@@ -310,4 +315,11 @@ impl Clock {
     {
         find_demand(&self.present, self.steps + 1, bidder)
     }
+}
+
+/// Makes the excess that of a round without reports.
+fn reopen(goods: &Goods, excess: &mut Excess)
+    ensures { IsExcessOf goods.now [] excess.new.0 }
+{
+    *excess = lyapunov::opening(goods);
 }

@@ -1,6 +1,5 @@
-use Rattle.std.proofs.Common.{◌≡◌, ◌≤◌, ◌+◌, ◌*◌, length, arith}
+use Rattle.std.proofs.Common.{◌≤◌, ◌+◌, ◌*◌, arith}
 use Rattle.std.proofs.Math.Nat.{mul-le-mul}
-use Rattle.clock.specs.Reports.{members}
 use Rattle.clock.proofs.Totals.{members-few}
 use Rattle.clock.proofs.rounds.most_reports.Goals as goal
 
