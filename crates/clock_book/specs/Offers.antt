@@ -69,3 +69,8 @@ OfferLeaves owner old r answer new before after =
     ((answer ≡ answers.DiskFault) × (new ≡ marked old) × AtEach (IsEither owner old.clock.reports old.pending) before after)
     ⊎ ((mid : BookState) × IsMended old mid × Answers owner answer mid r new
     × ((between : Moments) × AtEach (IsEither owner old.clock.reports old.pending) before between × AtEach (IsEither owner mid.clock.reports (Some r)) between after))
+
+-- The count of a disk's faults over an offer: it never falls, and with any answer but DiskFault it is as before.
+abbrev pub CountsOffer : ℕ → ℕ → Offered → Type 0
+CountsOffer before now answers.DiskFault = before ≤ now
+CountsOffer before now answer = now ≡ before

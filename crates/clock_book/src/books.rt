@@ -1,7 +1,7 @@
 //! A clock book.
 ghost use Rattle.std.specs.Prelude.{◌≡◌, ◌<◌, ◌≤◌, ◌%◌, ◌^◌, ◌↔◌, length, IsTrue, IsSome, OnOk, OnErr, Some, None};
 ghost use Rattle.lot_base.specs.Demands.{IsDemand};
-ghost use Rattle.house_io.specs.Faults.{Rose};
+ghost use Rattle.house_io.specs.Faults.{HasCause, Rose};
 ghost use Rattle.house_io.specs.Moments.{AtEach, Leaves};
 ghost use Rattle.clock.specs.declared.judging.Judgement.TheVariants.{Take};
 ghost use Rattle.clock.specs.declared.judging.Offered.TheVariants.{DiskFault};
@@ -52,10 +52,9 @@ impl<D: Disk> ClockBook<D> {
     fn settle_pending(&mut self, alloc: Global) -> Result<(), Failed>
         ensures mended { OnOk result (IsMended self.old.state self.new.state) }
         ensures failed { OnErr result (IsSome self.old.state.pending × (self.new.state ≡ marked self.old.state)) }
-        ensures cause { OnErr result (Rose (D.faults self.old.disk) (D.faults self.new.disk)) }
+        ensures cause { HasCause (D.faults self.old.disk) (D.faults self.new.disk) result }
         ensures origin { self.new.origin ≡ self.old.origin }
         ensures tells { IsTrue (D.tells self.new.disk) → IsTrue (D.tells self.old.disk) }
-        ensures faults { D.faults self.old.disk ≤ D.faults self.new.disk }
         ensures moments { IsTrue (D.tells self.new.disk)
             → AtEach (IsEither (owner_in self.old.origin) self.old.state.clock.reports self.old.state.pending) (D.moments self.old.disk) (D.moments self.new.disk) }
     {
@@ -80,7 +79,7 @@ impl<D: Disk> ClockBook<D> {
 }
 
 impl<D: Disk> ClockBook<D> {
-    ghost use Rattle.clock_book.specs.Offers.{Answers};
+    ghost use Rattle.clock_book.specs.Offers.{Answers, CountsOffer};
 
     /// Appends a report that the clock takes next, and applies it once it is on the disk.
     fn append_and_apply(&mut self, alloc: Global, report: Report) -> Offered
@@ -91,7 +90,7 @@ impl<D: Disk> ClockBook<D> {
         ensures cause { result ≡ DiskFault → Rose (D.faults self.old.disk) (D.faults self.new.disk) }
         ensures origin { self.new.origin ≡ self.old.origin }
         ensures tells { IsTrue (D.tells self.new.disk) → IsTrue (D.tells self.old.disk) }
-        ensures faults { D.faults self.old.disk ≤ D.faults self.new.disk }
+        ensures faults { CountsOffer (D.faults self.old.disk) (D.faults self.new.disk) result }
         ensures moments { IsTrue (D.tells self.new.disk)
             → AtEach (IsEither (owner_in self.old.origin) self.old.state.clock.reports (Some report)) (D.moments self.old.disk) (D.moments self.new.disk) }
     {
@@ -118,7 +117,7 @@ impl<D: Disk> ClockBook<D> {
 impl<D: Disk> ClockBook<D> {
     ghost use Rattle.clock.specs.Standing.{last_round, phase_of, prices_of};
     ghost use Rattle.clock_book.specs.Books.{IsKept};
-    ghost use Rattle.clock_book.specs.Offers.{Answers, IsOffer, OfferLeaves};
+    ghost use Rattle.clock_book.specs.Offers.{Answers, IsOffer, OfferLeaves, CountsOffer};
 
     /// Judges a report behind those of the clock, where nothing is pending, and appends one that is to be taken.
     fn judge_and_append(&mut self, alloc: Global, report: Report) -> Offered
@@ -128,7 +127,7 @@ impl<D: Disk> ClockBook<D> {
         ensures cause { result ≡ DiskFault → Rose (D.faults self.old.disk) (D.faults self.new.disk) }
         ensures origin { self.new.origin ≡ self.old.origin }
         ensures tells { IsTrue (D.tells self.new.disk) → IsTrue (D.tells self.old.disk) }
-        ensures faults { D.faults self.old.disk ≤ D.faults self.new.disk }
+        ensures faults { CountsOffer (D.faults self.old.disk) (D.faults self.new.disk) result }
         ensures moments { IsTrue (D.tells self.new.disk)
             → AtEach (IsEither (owner_in self.old.origin) self.old.state.clock.reports (Some report)) (D.moments self.old.disk) (D.moments self.new.disk) }
     {
@@ -147,7 +146,7 @@ impl<D: Disk> ClockBook<D> {
         ensures cause { result ≡ DiskFault → Rose (D.faults self.old.disk) (D.faults self.new.disk) }
         ensures origin { self.new.origin ≡ self.old.origin }
         ensures tells { IsTrue (D.tells self.new.disk) → IsTrue (D.tells self.old.disk) }
-        ensures faults { D.faults self.old.disk ≤ D.faults self.new.disk }
+        ensures faults { CountsOffer (D.faults self.old.disk) (D.faults self.new.disk) result }
         ensures moments { IsTrue (D.tells self.new.disk)
             → OfferLeaves (owner_in self.old.origin) self.old.state report result self.new.state (D.moments self.old.disk) (D.moments self.new.disk) }
     {
@@ -165,7 +164,7 @@ impl<D: Disk> ClockBook<D> {
         ensures cause { result ≡ DiskFault → Rose (D.faults self.old.disk) (D.faults self.new.disk) }
         ensures origin { self.new.origin ≡ self.old.origin }
         ensures tells { IsTrue (D.tells self.new.disk) → IsTrue (D.tells self.old.disk) }
-        ensures faults { D.faults self.old.disk ≤ D.faults self.new.disk }
+        ensures faults { CountsOffer (D.faults self.old.disk) (D.faults self.new.disk) result }
         // What a crash may leave at any moment of the call, and once it is answered.
         ensures moments { IsTrue (D.tells self.new.disk)
             → OfferLeaves (owner_in self.old.origin) self.old.state (record { bidder = bidder; round = round; demand = demand }) result self.new.state (D.moments self.old.disk) (D.moments self.new.disk) }

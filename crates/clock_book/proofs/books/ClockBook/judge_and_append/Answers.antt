@@ -1,4 +1,4 @@
-use Rattle.std.proofs.Common.{◌∙◌, sym, ap, refl, arith}
+use Rattle.std.proofs.Common.{◌∙◌, sym, ap, refl}
 use Rattle.clock.specs.Judging.{judgement_of}
 use Rattle.clock_book.specs.Past.{owner_in}
 use Rattle.clock_book.proofs.Mending.{kept-rest}
@@ -17,6 +17,6 @@ returns-in_default g c =
       cause = λ e. absurd (cc e);
       origin = refl;
       tells = λ t. t;
-      faults = omega arith;
+      faults = refl;
       moments = λ t. kept-rest (owner_in b.origin) b.state.clock.reports b.state.pending c.args.report (g.D.Disk.moments b.disk) c.requires.settled (c.clock-clock.ensures.kept.stands t);
     }

@@ -1,8 +1,8 @@
-use Rattle.std.proofs.Common.{Some, inr, subst}
+use Rattle.std.proofs.Common.{ℕ, Some, inr, subst}
 use Rattle.house_io.specs.Moments.{AtEach}
 use Rattle.clock_book.specs.declared.origins.Origin.{Origin}
 use Rattle.clock_book.specs.Past.{owner_in, IsEither}
-use Rattle.clock_book.specs.Offers.{Answers}
+use Rattle.clock_book.specs.Offers.{Answers, CountsOffer}
 use Rattle.clock_book.proofs.books.ClockBook.mend_and_answer.Goals as goal
 
 pub returns-in-Ok-clause-answer : goal.returns-in-Ok-clause-answer
@@ -22,3 +22,7 @@ returns-in-Ok-clause-moments g c t =
       subst A c.settle_pending.ensures.origin c.judge_and_append.ensures.answer,
       (g.D.Disk.moments mid.disk, c.settle_pending.ensures.moments (c.judge_and_append.ensures.tells t), subst P c.settle_pending.ensures.origin (c.judge_and_append.ensures.moments t)),
     )
+
+pub returns-in-Ok-clause-faults : goal.returns-in-Ok-clause-faults
+returns-in-Ok-clause-faults g c =
+    subst (λ (n : ℕ). CountsOffer n (g.D.Disk.faults c.judge_and_append.new.self.disk) c.judge_and_append.result) c.in-Ok.ensures.cause.steady c.judge_and_append.ensures.faults
