@@ -4,7 +4,7 @@ ghost use Rattle.std.specs.Prelude.{◌≡◌, IfOk};
 use clock::{Judgement, Offered};
 use clock_book::{ClockBook, Unopened};
 use demand_set::Demand;
-use house_io::ListDisk;
+use house_io::{Fill, ListDisk};
 use lot_base::{Goods, Prices, Terms};
 use std::alloc::Global;
 use std::test::Fail;
@@ -226,32 +226,76 @@ fn taken_of(alloc: Global, stand: &mut Stand) -> Result<u64, Fail> {
     Ok(taken)
 }
 
-/// Whether each of the four reports is answered `Taken` or `Again`.
-fn all_stand(alloc: Global, stand: &mut Stand) -> Result<bool, Fail> {
-    let mut all = true;
+/// Whether the four reports are answered `Again`, as many as these, and `Taken` from then on.
+fn goes_on_behind(alloc: Global, stand: &mut Stand, found: u64) -> Result<bool, Fail> {
+    let mut left = found;
+    let mut as_wanted = true;
     for line in four() {
-        let answer = stand.offer(alloc, line)?;
-        all = all && (answer == Offered::Taken || answer == Offered::Again);
+        let wanted = if left > 0 {
+            Offered::Again
+        } else {
+            Offered::Taken
+        };
+        left = left.saturating_sub(1);
+        as_wanted = stand.offer(alloc, line)? == wanted && as_wanted;
     }
-    Ok(all)
+    Ok(as_wanted)
 }
 
-/// Where the calls fail from this one on: whether the file, opened anew, has every report that was taken and at most one more, and
-/// takes the others.
-fn keeps_what_was_taken(alloc: Global, first: u64) -> Result<bool, Fail> {
+/// What a crash may leave in the ranges that were written since the last good sync.
+const FILLS: [Fill; 4] = [Fill::Old, Fill::New, Fill::Byte(0), Fill::Byte(0xa5)];
+
+/// The four reports, offered to a book whose disk fails from some call on.
+#[derive(Drop)]
+struct Stopped {
+    /// How many were answered `Taken`.
+    taken: u64,
+    /// The disk then.
+    disk: ListDisk,
+}
+
+/// Where the calls fail from this one on.
+fn stopped_at(alloc: Global, first: u64) -> Result<Stopped, Fail> {
     let mut stand = stand_with(alloc, plain_terms()?, first, 40)?;
     let taken = taken_of(alloc, &mut stand)?;
-    let file = bytes_of(alloc, stand)?;
-    let mut again = reopened(alloc, &file)?;
+    Ok(Stopped {
+        taken,
+        disk: stand.into_disk(),
+    })
+}
+
+/// A book on what a crash may leave of a disk.
+fn opened_behind_a_crash(alloc: Global, disk: &ListDisk, fill: Fill) -> Result<Stand, Fail> {
+    let image = disk.image(alloc, fill)?;
+    reopened(alloc, &image)
+}
+
+/// Whether what a crash may leave, opened anew, has every report that was taken and at most the one in hand, and takes the others.
+fn keeps_what_was_taken(alloc: Global, first: u64, fill: Fill) -> Result<bool, Fail> {
+    let Stopped { taken, disk } = stopped_at(alloc, first)?;
+    let mut again = opened_behind_a_crash(alloc, &disk, fill)?;
     let found = again.entries();
-    let all = all_stand(alloc, &mut again)?;
-    Ok(all && again.entries() == 4 && taken <= found && found <= taken.saturating_add(1))
+    let goes_on = goes_on_behind(alloc, &mut again, found)?;
+    Ok(goes_on && again.entries() == 4 && taken <= found && found <= taken.saturating_add(1))
+}
+
+/// How many reports are answered `Taken` where the calls fail from this one on.
+fn taken_until(alloc: Global, first: u64) -> Result<u64, Fail> {
+    let Stopped { taken, disk: _ } = stopped_at(alloc, first)?;
+    Ok(taken)
 }
 
 #[test]
-fn each_stop_leaves_what_was_taken(rt: HostRuntime) -> Result<(), Fail> {
-    for stop in 1..=4 * APPEND + 1 {
-        assert!(rt; keeps_what_was_taken(rt.alloc(), OPENING + stop)?);
+fn each_crash_behind_a_stop_leaves_what_was_taken(rt: HostRuntime) -> Result<(), Fail> {
+    // The first call that no run makes.
+    let end = OPENING + 4 * APPEND + 1;
+    for first in OPENING + 1..=end {
+        for fill in FILLS {
+            let kept = keeps_what_was_taken(rt.alloc(), first, fill)?;
+            assert!(rt; kept, "call {first} {fill:?}");
+        }
     }
+    assert_eq!(rt; taken_until(rt.alloc(), end - 1)?, 3);
+    assert_eq!(rt; taken_until(rt.alloc(), end)?, 4);
     Ok(())
 }
