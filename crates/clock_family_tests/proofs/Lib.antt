@@ -1,2 +1,1 @@
-mod Still
 mod Readied

@@ -7,7 +7,7 @@ use Rattle.house_io.specs.Moments.{Moments}
 use Rattle.clock_family.specs.Turns.{AreOf}
 use Rattle.clock_family.specs.Houses.{HouseOf, HousePassOf, IsNewPass, IsOpened, all_still}
 use Rattle.clock_family.proofs.Rows.{all-set}
-use Rattle.clock_family_tests.proofs.Still.{set_still, all_still_of}
+use Rattle.clock_family.proofs.Still.{set_still, all_still_of}
 use Rattle.clock_family_tests.specs.Ready.{IsReady}
 
 module _ {D : Type 0} where

@@ -1,5 +1,0 @@
-use Rattle.clock_family_tests.proofs.Readied.{ready-opened}
-use Rattle.clock_family_tests.proofs.tests.five_answers.Goals as goal
-
-pub offer_five-requires : goal.offer_five-requires
-offer_five-requires g c = ready-opened _ _ _ c.args.auction.now.terms c.args.auction.now.digest c.in_ok-disks.disks.items c.in-Ok.house c.in-Ok.passes.items c.in-Ok.ensures.opened
