@@ -1,0 +1,9 @@
+pub mod Lists
+pub mod Alike
+pub mod Following
+pub mod Matching
+pub mod Left
+pub mod Opening
+pub mod Offering
+pub mod Outcomes
+pub mod Texts

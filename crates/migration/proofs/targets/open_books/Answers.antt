@@ -1,0 +1,50 @@
+use Rattle.std.proofs.Common.{◌≡◌, ◌∙◌, ◌++◌, ◌<◌, [], ◌∷◌, length, reverse, ap, sym, subst, arith, rules, length-append, length-drop}
+use Rattle.std.proofs.lemmas.List.{length-reverse}
+use Rattle.migration.specs.Targets.{AreOpen, disks_of}
+use Rattle.migration.proofs.Lists.{taken-next}
+use Rattle.migration.proofs.Opening.{open-more, not-opened}
+use Rattle.migration.proofs.targets.open_books.Goals as goal
+
+pub unwrap-disk-requires : goal.unwrap-disk-requires
+unwrap-disk-requires g c =
+    let i = c.loop-clock.invariant in
+    let some : 0 < length c.loop-clock.rest.items = omega (arith, ap length i.rest, length-reverse c.loop-clock.rest.items, length-drop c.loop-clock.clock c.args.disks.items, c.loop-clock-test.true, c.requires) in
+    search rules
+
+pub close_books-disks-requires : goal.close_books-disks-requires
+close_books-disks-requires g c =
+    let i = c.loop-clock.invariant in
+    let is : c.loop-clock.rest.items ≡ c.pop.new.self.items ++ c.unwrap-disk.result ∷ [] = search rules in
+    let all = length-append c.pop.new.self.items (c.unwrap-disk.result ∷ []) in
+    let back = length-append c.pop.new.self.items (c.in-Err.field-0.disk ∷ []) in
+    omega (arith, i.room, i.count, ap length i.rest, length-reverse c.loop-clock.rest.items, length-drop c.loop-clock.clock c.args.disks.items, c.loop-clock-test.true, c.requires, ap length is, all, back, ap length c.push_reserved-in-Err.ensures.items, c.pop.ensures.capacity, c.push_reserved-in-Err.ensures.capacity)
+
+pub returns-in-Err-clause-err : goal.returns-in-Err-clause-err
+returns-in-Err-clause-err g c =
+    let i = c.loop-clock.invariant in
+    let is : c.loop-clock.rest.items ≡ c.pop.new.self.items ++ c.unwrap-disk.result ∷ [] = search rules in
+    let next = taken-next c.args.disks.items c.loop-clock.rest.items c.pop.new.self.items c.loop-clock.clock c.unwrap-disk.result is i.rest in
+    not-opened g.D.Disk.tells g.D.Disk.moments g.D.Disk.faults c.args.terms.now c.args.digest.now c.args.disks.items c.pop.new.self.items c.loop-clock.books.items c.loop-clock.clock c.unwrap-disk.result c.in-Err.field-0.disk c.in-Err.field-0.fault
+    i.are i.count next c.in-Err.ensures.err c.close_books-disks.result.items (c.close_books-disks.ensures ∙ ap (λ l. disks_of c.loop-clock.books.items ++ reverse l) c.push_reserved-in-Err.ensures.items)
+
+pub loop-clock-preserved : goal.loop-clock-preserved
+loop-clock-preserved g c =
+    let i = c.loop-clock.invariant in
+    let is : c.loop-clock.rest.items ≡ c.pop.new.self.items ++ c.unwrap-disk.result ∷ [] = search rules in
+    let next = taken-next c.args.disks.items c.loop-clock.rest.items c.pop.new.self.items c.loop-clock.clock c.unwrap-disk.result is i.rest in
+    let more = length-append c.loop-clock.books.items (c.in-Ok-open.book ∷ []) in
+    record {
+      are = subst (λ l. AreOpen g.D.Disk.tells g.D.Disk.moments g.D.Disk.faults c.args.terms.now c.args.digest.now c.args.disks.items l) (sym c.push_reserved.ensures.items)
+          (open-more g.D.Disk.tells g.D.Disk.moments g.D.Disk.faults c.args.terms.now c.args.digest.now c.args.disks.items c.pop.new.self.items c.loop-clock.books.items c.loop-clock.clock c.unwrap-disk.result c.in-Ok-open.book i.are i.count next c.in-Ok-open.ensures.ok);
+      count = omega (arith, ap length c.push_reserved.ensures.items, more, i.count);
+      rest = next.rest;
+      room = omega (arith, i.room, c.pop.ensures.capacity);
+      space = omega (arith, i.space, c.push_reserved.ensures.capacity);
+    }
+
+pub returns-clause-room : goal.returns-clause-room
+returns-clause-room g c =
+    let i = c.loop-clock.invariant in (
+      omega (arith, ap length i.rest, length-reverse c.loop-clock.rest.items, length-drop c.loop-clock.clock c.args.disks.items, c.loop-clock-test.false, c.requires),
+      i.room,
+    )

@@ -1,0 +1,86 @@
+-- What a move of journals answers, and what it leaves.
+use Rattle.std.specs.Prelude.{◌≡◌, ◌⊎◌, ℕ, ◌<◌, ◌≤◌, Bool, IsTrue, List, length, take, slice_get, slice_index_or, Some, Result, Ok, Err, OnOk, IfErr}
+use Rattle.lot_base.specs.declared.auction_terms.Terms.{Terms}
+use Rattle.lot_base.specs.declared.limits.TheConstants.{GREATEST_FILE}
+use Rattle.demand_set.specs.declared.reports.Report.{Report}
+use Rattle.house_io.specs.Faults.{Rose}
+use Rattle.house_io.specs.Moments.{Moments}
+use Rattle.clock.specs.Reports.{ClockHistory}
+use Rattle.recovery.specs.Journaled.{Owner, owner_of}
+use Rattle.clock_book.specs.declared.faults.OpenFault.{OpenFault}
+use Rattle.clock_book.specs.declared.faults.OpenFault.TheVariants as why
+use Rattle.clock_book.specs.Opening.{IsOpening, ReadsClock, CountsFaults}
+use Rattle.clock_book.specs.Offers.{record_end}
+use Rattle.migration.specs.declared.faults.MoveFault.{MoveFault}
+use Rattle.migration.specs.declared.faults.MoveFault.TheVariants.{NotOpened, NotFront, Full, DiskFault, NoMemory}
+use Rattle.migration.specs.Moving.{LeavesTarget, IsFront, IsMoved, IsNoFrontAt}
+
+-- a front of the reports, whose next record would end behind the limit
+pub record IsFullAt (needed : ℕ) (owner : Owner) (reports : List Report) : Type 0 where
+  pub count : ℕ
+  pub report : Report
+  pub next : slice_get reports count ≡ Some report
+  pub needed_is : needed ≡ record_end owner (take count reports) report
+  pub beyond : GREATEST_FILE < needed
+
+-- whether the answer tells of a fault of this clock's disk
+abbrev pub TellsFaultOf : ℕ → Result (Unit {0}) MoveFault → Type 0
+TellsFaultOf k (Err (NotOpened clock why.DiskFault)) = clock ≡ k
+TellsFaultOf k (Err (DiskFault clock)) = clock ≡ k
+TellsFaultOf k answer = ⊥
+
+module _ {D : Type 0} (tells : D → Bool) (moments : D → Moments) (faults : D → ℕ) (terms : Terms) (digest : List ℕ) (clocks : List ClockHistory) (old new : List D) where
+  -- the reports of a clock that are moved
+  abbrev reports_at : ℕ → ClockHistory → List Report
+  reports_at k c = (slice_index_or clocks k c).reports
+
+  -- the target of the clock stood for a legal history
+  abbrev pub WasOpen : ℕ → D → Type 0
+  WasOpen k d = IsTrue (tells (slice_index_or new k d)) → (c : ClockHistory) × IsOpening (owner_of terms k digest) (moments (slice_index_or old k d)).now.read (Ok c)
+
+  -- the target of the clock stood for a front of its reports
+  abbrev pub WasFront : ℕ → D → ClockHistory → Type 0
+  WasFront k d c = IsTrue (tells (slice_index_or new k d)) → IsFront (owner_of terms k digest) (reports_at k c) (moments (slice_index_or old k d)).now.read
+
+  -- The book of this clock was not opened, for this fault, and those of the smaller ones were.
+  pub record IsNotOpened (clock : ℕ) (fault : OpenFault) : Type 0 where
+    pub within : clock < length old
+    pub before : (k : ℕ) (d : D) → k < clock → WasOpen k d
+    pub refused : (d : D) → IsTrue (tells (slice_index_or new clock d)) → ReadsClock (owner_of terms clock digest) (moments (slice_index_or old clock d)).now.read (Err fault)
+    pub counts : (d : D) → CountsFaults {T = ℕ} (faults (slice_index_or old clock d)) (faults (slice_index_or new clock d)) (Err fault)
+
+  -- All books were opened, and this clock's is the first that has no front: its report of this number is the first that differs.
+  pub record IsNotFront (clock number : ℕ) : Type 0 where
+    pub within : clock < length old
+    pub opened : (k : ℕ) (d : D) → k < length old → WasOpen k d
+    pub before : (k : ℕ) (d : D) (c : ClockHistory) → k < clock → WasFront k d c
+    pub differs : (d : D) (x : ClockHistory) → IsTrue (tells (slice_index_or new clock d))
+        → (c : ClockHistory) × IsOpening (owner_of terms clock digest) (moments (slice_index_or old clock d)).now.read (Ok c) × IsNoFrontAt number c.reports (reports_at clock x)
+
+  -- the journal of this clock has no room for its reports
+  pub record IsFull (clock needed : ℕ) : Type 0 where
+    pub within : clock < length old
+    pub full : (c : ClockHistory) → IsFullAt needed (owner_of terms clock digest) (reports_at clock c)
+
+  -- the disk of this clock failed
+  pub record HasFailed (clock : ℕ) : Type 0 where
+    pub within : clock < length old
+    pub rose : (d : D) → Rose (faults (slice_index_or old clock d)) (faults (slice_index_or new clock d))
+
+  -- why the journals were not moved
+  abbrev pub HasMoveCause : MoveFault → Type 0
+  HasMoveCause (NotOpened clock fault) = IsNotOpened clock fault
+  HasMoveCause (NotFront clock number) = IsNotFront clock number
+  HasMoveCause (Full clock needed) = IsFull clock needed
+  HasMoveCause (DiskFault clock) = HasFailed clock
+  HasMoveCause NoMemory = Unit {0}
+
+  -- The whole. The disks come back in order.
+  pub record Moves (answer : Result (Unit {0}) MoveFault) : Type 0 where
+    pub count : length new ≡ length old
+    pub left : (k : ℕ) (d : D) (c : ClockHistory) → k < length old → IsTrue (tells (slice_index_or new k d)) → LeavesTarget (owner_of terms k digest) (reports_at k c) (moments (slice_index_or old k d)) (moments (slice_index_or new k d))
+    pub told : (k : ℕ) (d : D) → k < length old → IsTrue (tells (slice_index_or new k d)) → IsTrue (tells (slice_index_or old k d))
+    pub counts : (k : ℕ) (d : D) → k < length old → (faults (slice_index_or new k d) ≡ faults (slice_index_or old k d))
+        ⊎ (TellsFaultOf k answer × (faults (slice_index_or old k d) ≤ faults (slice_index_or new k d)))
+    pub moved : OnOk answer ((k : ℕ) (d : D) (c : ClockHistory) → k < length old → IsTrue (tells (slice_index_or new k d)) → IsMoved (owner_of terms k digest) (reports_at k c) (moments (slice_index_or old k d)) (moments (slice_index_or new k d)))
+    pub cause : IfErr answer HasMoveCause
