@@ -6,25 +6,30 @@ use Rattle.house_io.specs.Shelves.{NamedFile, IfTells}
 use Rattle.auction_file.specs.AuctionFile.{auction_of}
 use Rattle.auction_file.specs.declared.faults.AuctionFault.{AuctionFault}
 use Rattle.house_run.specs.Causes.{IsBadAuction, IsBadLog, JournalFailed, MayEnd}
-use Rattle.house_run.specs.Commands.{Command, Spells, needs_of}
+use Rattle.house_run.specs.Commands.{needs_of}
+use Rattle.command_line.specs.Commands.{Command, Spells}
 use Rattle.settlement.specs.declared.outcome.Settlement.{Settlement}
 use Rattle.settlement.specs.declared.outcome.Settlement.TheVariants as settlement
 use Rattle.house_run.specs.Journals.{IsBadJournal}
 use Rattle.house_run.specs.Outcomes.{Settles, SettlesAs}
 use Rattle.house_run.specs.Ends.{AreGood, AreGoodJournals, AreGoodValues, IsJournalIn, MayOpen, CommandEnds, IsDoneOrNoMemory, IsGoodAuction, IsGoodLog, NothingFailed, RunEnds, Wrote, WroteLine, as_seen}
-use Rattle.house_run.specs.Logs.{IsFaultyAt}
-use Rattle.house_run.specs.Needs.{Has, Log, Needs, journal_name}
+use Rattle.report_log.specs.Logs.{IsFaultyAt, log_limit}
+use Rattle.house_run.specs.MoveEnds.{EndsMoving, HasMove}
+use Rattle.house_run.specs.Moves.{AreGoodTargets, AreOtherTerms, IsFull, IsNotPrefix}
+use Rattle.house_run.specs.Needs.{Has, Log, Moving, Needs, journal_name}
 use Rattle.house_run.specs.NetEnds.{Ends, EndsOnNet}
 use Rattle.house_run.specs.Nets.{NetSeen}
-use Rattle.house_run.specs.Seen.{Outside, ShelfSeen, SinkSeen, IsTooLong, auction_limit, content, log_limit, values_limit}
+use Rattle.house_run.specs.Seen.{Outside, ShelfSeen, SinkSeen, IsTooLong, auction_limit, content, values_limit}
 use Rattle.house_run.specs.declared.ends.Ended.{Ended}
 use Rattle.house_run.specs.declared.ends.Ended.TheVariants as how
 use Rattle.house_run.specs.declared.ends.File.TheVariants as which
+use Rattle.house_run.proofs.Framing.{has}
 use Rattle.house_run.proofs.GoodJournals.{IsOther, no-other, not-bad, other-halted, other-no-award, other-open, read-told, says-told}
 use Rattle.house_run.specs.Markets.{IsBadValues}
 use Rattle.house_run.proofs.GoodMarkets.{good-values, not-without}
-use Rattle.house_run.proofs.LogBytes.{no-fault}
-use Rattle.house_run.proofs.Once.{spelled-once}
+use Rattle.house_run.proofs.GoodTargets.{bad-target, no-room, not-front, other-terms}
+use Rattle.report_log.proofs.LogBytes.{no-fault}
+use Rattle.command_line.proofs.Once.{spelled-once}
 
 still : (before now : ℕ) → now ≡ before → before < 2 ^ 64 - 1 → Rose before now → ⊥
 still before now e room rose = omega arith
@@ -99,7 +104,7 @@ ended-well needs seen net sink files how.WriteFault may told good quiet = absurd
 ended-well needs seen net sink files how.ReadFault may told good quiet = absurd (no-failure needs files seen net sink may.name quiet (inl may.source) may.failed)
 ended-well needs seen net sink files (how.DiskFault clock) may told good quiet = absurd (
     let disk = journal-failed needs.auction needs.journals clock files seen.shelf told may in
-    no-failure needs files seen net sink disk.name quiet (inr disk.journal) disk.failed)
+    no-failure needs files seen net sink disk.name quiet (inr (inl disk.journal)) disk.failed)
 ended-well needs seen net sink files (how.BadJournal clock fault) may told good quiet = absurd (
     let both = both-of-two needs.auction needs.journals (λ a j. IsBadJournal a j clock fault seen.shelf) (λ a j. AreGoodJournals needs.settles files a j) may good.journals in
     not-bad needs.settles seen.shelf files both.one both.other clock fault told both.first both.second)
@@ -131,6 +136,10 @@ ended-well needs seen net sink files (how.Refused code detail value) may told go
 ended-well needs seen net sink files (how.LooksSpent clock) may told good quiet = absurd may
 ended-well needs seen net sink files how.BadReply may told good quiet = absurd may
 ended-well needs seen net sink files (how.NoBidder bidder) may told good quiet = absurd may
+ended-well needs seen net sink files how.OtherTerms may told good quiet = absurd may
+ended-well needs seen net sink files (how.NotPrefix clock place) may told good quiet = absurd may
+ended-well needs seen net sink files (how.TargetFull clock needed) may told good quiet = absurd may
+ended-well needs seen net sink files (how.BadTarget clock fault) may told good quiet = absurd may
 
 -- nor does the net end it
 net-well : (needs : Needs) (seen : Outside) (net : NetSeen) (sink : SinkSeen) (files : List NamedFile) (end : Ended) → EndsOnNet needs seen.shelf net end → NothingFailed needs files seen net sink → ⊥
@@ -154,11 +163,86 @@ net-well needs seen net sink files (how.TooLong file) ends quiet = absurd ends
 net-well needs seen net sink files (how.BadValues fault) ends quiet = absurd ends
 net-well needs seen net sink files (how.NotSubstitutes bidder x y good) ends quiet = absurd ends
 net-well needs seen net sink files (how.BadLog place) ends quiet = absurd ends
+net-well needs seen net sink files how.OtherTerms ends quiet = absurd ends
+net-well needs seen net sink files (how.NotPrefix clock place) ends quiet = absurd ends
+net-well needs seen net sink files (how.TargetFull clock needed) ends quiet = absurd ends
+net-well needs seen net sink files (how.BadTarget clock fault) ends quiet = absurd ends
+
+-- what is needed for moving journals has both
+record BothOfMove (needs : Needs) (P Q : List ℕ → List ℕ → Moving → Type 0) : Type 0 where
+  pub auction : List ℕ
+  pub journals : List ℕ
+  pub moving : Moving
+  pub auction_is : needs.auction ≡ Some auction
+  pub journals_is : needs.journals ≡ Some journals
+  pub moving_is : needs.moving ≡ Some moving
+  pub first : P auction journals moving
+  pub second : Q auction journals moving
+
+both-of-move : (needs : Needs) (P Q : List ℕ → List ℕ → Moving → Type 0) → HasMove needs P → IfSome needs.auction (λ a. IfSome needs.journals (λ j. IfSome needs.moving (Q a j))) → BothOfMove needs P Q
+both-of-move needs P Q p q = of needs.auction needs.journals needs.moving refl refl refl p q
+  where
+    of : (auction journals : Option (List ℕ)) (moving : Option Moving) → needs.auction ≡ auction → needs.journals ≡ journals → needs.moving ≡ moving → Has auction (λ a. Has journals (λ j. Has moving (P a j)))
+        → IfSome auction (λ a. IfSome journals (λ j. IfSome moving (Q a j))) → BothOfMove needs P Q
+    of None journals moving a j m p q = absurd p
+    of (Some auction) None moving a j m p q = absurd p
+    of (Some auction) (Some journals) None a j m p q = absurd p
+    of (Some auction) (Some journals) (Some moving) a j m p q = record { auction = auction; journals = journals; moving = moving; auction_is = a; journals_is = j; moving_is = m; first = p; second = q }
+
+-- nor does moving journals
+moves-well : (needs : Needs) (seen : Outside) (net : NetSeen) (sink : SinkSeen) (files : List NamedFile) (end : Ended) → EndsMoving needs seen.shelf end → seen.shelf.files ≡ Some files → AreGood needs files → NothingFailed needs files seen net sink → ⊥
+moves-well needs seen net sink files (how.BadAuction fault) ends told good quiet =
+    let both = both-of-move needs (λ a j m. IsBadAuction m.auction fault seen.shelf) (AreGoodTargets files) ends good.targets in
+    good-auction both.moving.auction fault seen.shelf files told both.first (record { short = both.second.short; listing = both.second.second; read = both.second.second_says })
+moves-well needs seen net sink files (how.TooLong which.Auction) ends told good quiet =
+    let both = both-of-move needs (λ a j m. IsTooLong seen.shelf m.auction auction_limit) (AreGoodTargets files) ends good.targets in
+    not-long seen.shelf files both.moving.auction auction_limit told both.first both.second.short
+moves-well needs seen net sink files (how.DiskFault clock) ends told good quiet =
+    let both = both-of-move needs (λ a j m. JournalFailed m.auction m.journals clock seen.shelf) (AreGoodTargets files) ends good.targets in
+    let m = both.moving in
+    let name = journal_name m.journals clock in
+    let journal : IsJournalIn files m.auction m.journals name =
+    record { listing = both.first.listing; says = says-told seen.shelf files m.auction both.first.listing told both.first.auction_is; clock = clock; clock_is = both.first.clock_is; name_is = refl } in
+    no-failure needs files seen net sink name quiet (inr (inr (has needs.moving m (λ x. IsJournalIn files x.auction x.journals name) both.moving_is journal))) both.first.failed
+moves-well needs seen net sink files how.OtherTerms ends told good quiet =
+    let both = both-of-move needs (λ a j m. AreOtherTerms seen.shelf a m.auction) (AreGoodTargets files) ends good.targets in
+    other-terms seen.shelf files told both.auction both.journals both.moving both.first both.second
+moves-well needs seen net sink files (how.NotPrefix clock number) ends told good quiet =
+    let both = both-of-move needs (λ a j m. IsNotPrefix clock number seen.shelf a j m.auction m.journals) (AreGoodTargets files) ends good.targets in
+    not-front seen.shelf files told both.auction both.journals both.moving clock number both.first both.second
+moves-well needs seen net sink files (how.TargetFull clock needed) ends told good quiet =
+    let both = both-of-move needs (λ a j m. IsFull clock needed seen.shelf a j m.auction) (AreGoodTargets files) ends good.targets in
+    no-room seen.shelf files told both.auction both.journals both.moving clock needed both.first both.second
+moves-well needs seen net sink files (how.BadTarget clock fault) ends told good quiet =
+    let both = both-of-move needs (λ a j m. IsBadJournal m.auction m.journals clock fault seen.shelf) (AreGoodTargets files) ends good.targets in
+    let J : Option (List ℕ) → Option (List ℕ) → Type 0 = λ o u. IfSome o (λ a. IfSome u (λ j. AreGoodJournals needs.settles files a j)) in
+    let journals : AreGoodJournals needs.settles files both.auction both.journals = subst (J (Some both.auction)) both.journals_is (subst (λ o. J o needs.journals) both.auction_is good.journals) in
+    bad-target seen.shelf files told both.auction both.journals both.moving clock fault needs.settles both.first journals both.second
+moves-well needs seen net sink files (how.TooLong which.Log) ends told good quiet = ends
+moves-well needs seen net sink files (how.TooLong which.Values) ends told good quiet = ends
+moves-well needs seen net sink files how.Done ends told good quiet = ends
+moves-well needs seen net sink files how.NoMemory ends told good quiet = ends
+moves-well needs seen net sink files how.Usage ends told good quiet = ends
+moves-well needs seen net sink files how.ReadFault ends told good quiet = ends
+moves-well needs seen net sink files how.WriteFault ends told good quiet = ends
+moves-well needs seen net sink files how.NetFault ends told good quiet = ends
+moves-well needs seen net sink files (how.BadJournal clock fault) ends told good quiet = ends
+moves-well needs seen net sink files (how.Open clock round missing) ends told good quiet = ends
+moves-well needs seen net sink files (how.NoAward clock) ends told good quiet = ends
+moves-well needs seen net sink files (how.Halted clock units) ends told good quiet = ends
+moves-well needs seen net sink files (how.BadValues fault) ends told good quiet = ends
+moves-well needs seen net sink files (how.NotSubstitutes bidder x y units) ends told good quiet = ends
+moves-well needs seen net sink files (how.BadLog place) ends told good quiet = ends
+moves-well needs seen net sink files (how.Refused code detail value) ends told good quiet = ends
+moves-well needs seen net sink files (how.LooksSpent clock) ends told good quiet = ends
+moves-well needs seen net sink files how.BadReply ends told good quiet = ends
+moves-well needs seen net sink files (how.NoBidder bidder) ends told good quiet = ends
 
 any-end : (needs : Needs) (seen : Outside) (net : NetSeen) (sink : SinkSeen) (files : List NamedFile) (end : Ended) → Ends needs seen net end → seen.shelf.files ≡ Some files → AreGood needs files
     → NothingFailed needs files seen net sink → IsDoneOrNoMemory end
 any-end needs seen net sink files end (inl may) told good quiet = ended-well needs seen net sink files end may told good quiet
-any-end needs seen net sink files end (inr ends) told good quiet = absurd (net-well needs seen net sink files end ends quiet)
+any-end needs seen net sink files end (inr (inl ends)) told good quiet = absurd (net-well needs seen net sink files end ends quiet)
+any-end needs seen net sink files end (inr (inr ends)) told good quiet = absurd (moves-well needs seen net sink files end ends told good quiet)
 
 -- what was written whole answers as it should, and nothing else was written where the sink did not fail
 delivered : (sink : SinkSeen) (end answer : Ended) (text : List ℕ) → Wrote sink end text answer → IsDoneOrNoMemory end → sink.faults ≡ sink.faults_before → sink.faults_before < 2 ^ 64 - 1 → IsDoneOrNoMemory answer

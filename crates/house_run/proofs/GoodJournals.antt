@@ -20,7 +20,7 @@ use Rattle.house_run.specs.Needs.{journal_name}
 use Rattle.house_run.specs.Outcomes.{HaveClosed, SettlesAs}
 use Rattle.house_run.specs.Seen.{ShelfSeen, IsAuctionAt, IsRead, auction_limit, content}
 use Rattle.clock_book.proofs.OneAnswer.{one-answer}
-use Rattle.house_run.proofs.Once.{terms-same}
+use Rattle.command_line.proofs.Once.{terms-same}
 
 -- what was read of a file that is told is the file
 pub read-told : (shelf : ShelfSeen) (files : List NamedFile) (name : List ℕ) (limit : ℕ) (read : List ℕ) → IsRead shelf name limit read → shelf.files ≡ Some files → read ≡ content files name
@@ -56,7 +56,7 @@ same-lists (suc n) a files terms digest journals (c ∷ cs) (d ∷ ds) ce de all
     λ i. head i ∷ tail i
 
 -- terms of the same listing are the same
-listed-once : (one other : Listing) (t u : Terms) → one ≡ other → IsTermsOf one t → IsTermsOf other u → t ≡ u
+pub listed-once : (one other : Listing) (t u : Terms) → one ≡ other → IsTermsOf one t → IsTermsOf other u → t ≡ u
 listed-once one other t u e is it =
     terms-same t u (is.goods_are ∙ ap (λ (l : Listing). l.supply) e ∙ sym it.goods_are) (is.bidders_are ∙ ap (λ (l : Listing). length l.bidder_names) e ∙ sym it.bidders_are)
     (is.ceiling_is ∙ ap (λ (l : Listing). l.ceiling) e ∙ sym it.ceiling_is) (is.version_is ∙ ap (λ (l : Listing). l.version) e ∙ sym it.version_is) (is.opening_is ∙ ap (λ (l : Listing). l.opening) e ∙ sym it.opening_is)

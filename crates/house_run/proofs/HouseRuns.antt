@@ -114,6 +114,10 @@ module _ {D : Type 0} (tells : D → Bool) (moments : D → Moments) (faults : D
   house-end old disks told_before told_after counted_before counted (how.LooksSpent clock) cause = absurd cause
   house-end old disks told_before told_after counted_before counted how.BadReply cause = absurd cause
   house-end old disks told_before told_after counted_before counted (how.NoBidder bidder) cause = absurd cause
+  house-end old disks told_before told_after counted_before counted how.OtherTerms cause = absurd cause
+  house-end old disks told_before told_after counted_before counted (how.NotPrefix clock place) cause = absurd cause
+  house-end old disks told_before told_after counted_before counted (how.TargetFull clock needed) cause = absurd cause
+  house-end old disks told_before told_after counted_before counted (how.BadTarget clock fault) cause = absurd cause
 
   refused-host : {N : Type 0} (fault : OpenFault) (old disks : List D) (clock : ℕ) (told : Option N) (counted : ℕ) → IsNotOpen tells moments faults terms digest old disks clock fault
       → HostEnd {N = N} tells moments faults terms digest old disks told told counted counted (end_at clock fault)

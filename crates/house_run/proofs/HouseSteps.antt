@@ -139,7 +139,7 @@ house-ends (why.NotAcceptable number judgement) auction journals seen terms dige
 
 -- settling
 
-each-terms : (files : Option (List NamedFile)) (terms : Terms) (digest journals : List ℕ) (cs : List ClockHistory) → AllByRecursion (IsFromJournal files terms digest journals) cs → AllByRecursion (λ (c : ClockHistory). c.terms ≡ terms) cs
+pub each-terms : (files : Option (List NamedFile)) (terms : Terms) (digest journals : List ℕ) (cs : List ClockHistory) → AllByRecursion (IsFromJournal files terms digest journals) cs → AllByRecursion (λ (c : ClockHistory). c.terms ≡ terms) cs
 each-terms files terms digest journals [] all = tt
 each-terms files terms digest journals (c ∷ cs) all = (terms-are (owner_of terms c.number digest) c all.0.history, each-terms files terms digest journals cs all.1)
 
@@ -172,6 +172,10 @@ settled-end (how.Refused code detail value) auction journals seen terms cs are i
 settled-end (how.LooksSpent clock) auction journals seen terms cs are is = absurd is
 settled-end how.BadReply auction journals seen terms cs are is = absurd is
 settled-end (how.NoBidder bidder) auction journals seen terms cs are is = absurd is
+settled-end how.OtherTerms auction journals seen terms cs are is = absurd is
+settled-end (how.NotPrefix clock place) auction journals seen terms cs are is = absurd is
+settled-end (how.TargetFull clock needed) auction journals seen terms cs are is = absurd is
+settled-end (how.BadTarget clock fault) auction journals seen terms cs are is = absurd is
 
 -- the settlement of clocks that a call was lent
 pub settled-by : (terms : Terms) (cs ds : List ClockOf) (s t : Settlement) → ds ≡ cs → s ≡ t → IsOutcomeOf (histories ds) s

@@ -99,6 +99,27 @@ more-from files terms digest journals clock cs c are is = record {
   each = all-more (IsFromJournal files terms digest journals) cs c are.each (read-from files terms digest journals clock c is);
 }
 
+-- the history of one clock, and the histories of the first clocks
+
+pub record OneRead (files : Option (List NamedFile)) (terms : Terms) (digest journals : List ℕ) (clock : ℕ) : Type 0 where
+  pub history : ClockHistory
+  pub read : IsReadAt files terms digest (journal_name journals clock) clock history
+
+pub record FirstRead (files : Option (List NamedFile)) (terms : Terms) (digest journals : List ℕ) (clocks : ℕ) : Type 0 where
+  pub found : List ClockHistory
+  pub are : AreFromJournals files terms digest journals clocks found
+
+pub first-read : (files : Option (List NamedFile)) (terms : Terms) (digest journals : List ℕ) (clocks : ℕ) → ((k : ℕ) → k < clocks → OneRead files terms digest journals k) → FirstRead files terms digest journals clocks
+first-read files terms digest journals zero each = record { found = []; are = record { numbers = refl; each = tt } }
+first-read files terms digest journals (suc n) each =
+    let before = first-read files terms digest journals n (λ k below. each k (omega arith)) in
+    let last = each n (omega arith) in
+    let e : n + 1 ≡ suc n = omega arith in
+    record {
+      found = before.found ++ last.history ∷ [];
+      are = subst (λ (m : ℕ). AreFromJournals files terms digest journals m (before.found ++ last.history ∷ [])) e (more-from files terms digest journals n before.found last.history before.are last.read);
+    }
+
 -- names and files, clock by clock
 
 pub one-more : (journals : List ℕ) (clocks : ℕ) (before between after : List (List ℕ)) → between ≡ with_names (first_journals journals clocks) before → after ≡ with_name (journal_name journals clocks) between

@@ -22,7 +22,8 @@ use Rattle.house_run.specs.Ends.{ShelfAnswer}
 use Rattle.house_run.specs.Frame.{Frame, KeepsFiles, OpensSources, RisesAmong}
 use Rattle.house_run.specs.Markets.{HasTerms, HasValues, IsBadValues, IsMarketAt, TriesAs, market_bidders}
 use Rattle.house_run.specs.MakeCommand.{make_needs}
-use Rattle.house_run.specs.Needs.{Bidding, Has, IsJournal, IsSource, Needs, sources, with_names}
+use Rattle.house_run.specs.Needs.{Has, IsJournal, IsSource, Needs, sources, with_names}
+use Rattle.command_line.specs.Parts.{Bidding}
 use Rattle.house_run.specs.Seen.{Outside, ShelfSeen, IsAuctionAt, IsTooLong, values_limit}
 use Rattle.house_run.specs.Steps.{EndsAtValues, EndsSo, IsSteady, IsTrialEnd, LeavesSo, OnlyReads, OpensOnly, StopsBidding, end_by}
 use Rattle.house_run.specs.BidCommand.{bid_needs}
@@ -117,7 +118,7 @@ pub values-ends : (end : Ended) (needs : Needs) (auction values : List ℕ) (see
     → HasTerms seen.shelf auction terms → OnlyReads values (later seen.shelf files faults names) → EndsAtValues terms values (later seen.shelf files faults names) end → LeavesSo needs seen end
 values-ends how.ReadFault needs auction values seen terms files faults names two known has_terms reads ends =
     let P : ℕ → Type 0 = λ before. Rose before (seen.shelf.faults values) in
-    let source : IsSource needs values = inr (inr (has needs.values values (λ v. values ≡ v) two.values_are refl)) in
+    let source : IsSource needs values = inr (inr (inl (has needs.values values (λ v. values ≡ v) two.values_are refl))) in
     record {
       cause = record { name = values; source = source; failed = subst P (known.steady values) ends };
       frame = market-frame needs auction values seen terms files faults names how.ReadFault two known reads (one-counts (Tells needs how.ReadFault) values (later seen.shelf files faults names) reads.counts source);
@@ -162,12 +163,16 @@ values-ends (how.Refused code detail value) needs auction values seen terms file
 values-ends (how.LooksSpent clock) needs auction values seen terms files faults names two known has_terms reads ends = absurd ends
 values-ends how.BadReply needs auction values seen terms files faults names two known has_terms reads ends = absurd ends
 values-ends (how.NoBidder bidder) needs auction values seen terms files faults names two known has_terms reads ends = absurd ends
+values-ends how.OtherTerms needs auction values seen terms files faults names two known has_terms reads ends = absurd ends
+values-ends (how.NotPrefix clock place) needs auction values seen terms files faults names two known has_terms reads ends = absurd ends
+values-ends (how.TargetFull clock needed) needs auction values seen terms files faults names two known has_terms reads ends = absurd ends
+values-ends (how.BadTarget clock refusal) needs auction values seen terms files faults names two known has_terms reads ends = absurd ends
 
 -- the auction that was read has too few bidders
 pub no-bidder : (auction values : List ℕ) (b : Bidding) (seen : Outside) (bidder : ℕ) (terms : Terms) (listing : Listing) → b.bidder ≡ bidder → OnlyReads auction seen.shelf → IsSteady seen.shelf → IsAuctionAt seen.shelf auction listing → IsTermsOf listing terms
     → terms.bidders < bidder → StopsBidding auction values b seen (how.NoBidder bidder)
 no-bidder auction values b seen bidder terms listing same reads steady is are few = record {
-  cause = λ net. inr (record { listing = listing; auction_is = is; bidder_is = sym same; above = (let e = are.bidders_are in omega arith) });
+  cause = λ net. inr (inl (record { listing = listing; auction_is = is; bidder_is = sym same; above = (let e = are.bidders_are in omega arith) }));
   frame = auction-frame (bid_needs auction values b) auction values seen (how.NoBidder bidder) (bid-two auction values b) reads (steady-counts (Tells (bid_needs auction values b) (how.NoBidder bidder)) seen.shelf steady);
 }
 
@@ -193,6 +198,10 @@ trial-ends (how.Refused code detail value) auction values seen terms valuations 
 trial-ends (how.LooksSpent clock) auction values seen terms valuations market ends = absurd ends
 trial-ends how.BadReply auction values seen terms valuations market ends = absurd ends
 trial-ends (how.NoBidder bidder) auction values seen terms valuations market ends = absurd ends
+trial-ends how.OtherTerms auction values seen terms valuations market ends = absurd ends
+trial-ends (how.NotPrefix clock place) auction values seen terms valuations market ends = absurd ends
+trial-ends (how.TargetFull clock needed) auction values seen terms valuations market ends = absurd ends
+trial-ends (how.BadTarget clock refusal) auction values seen terms valuations market ends = absurd ends
 
 pub make-ends : (end : Ended) (number : ℕ) (seen : Outside) (terms : Terms) (valuations : List (List ℕ)) → IsMade number terms valuations → IsTrialEnd terms valuations end → MayEnd (make_needs number) seen end
 make-ends how.NoMemory number seen terms valuations made ends = tt
@@ -215,6 +224,10 @@ make-ends (how.Refused code detail value) number seen terms valuations made ends
 make-ends (how.LooksSpent clock) number seen terms valuations made ends = absurd ends
 make-ends how.BadReply number seen terms valuations made ends = absurd ends
 make-ends (how.NoBidder bidder) number seen terms valuations made ends = absurd ends
+make-ends how.OtherTerms number seen terms valuations made ends = absurd ends
+make-ends (how.NotPrefix clock place) number seen terms valuations made ends = absurd ends
+make-ends (how.TargetFull clock needed) number seen terms valuations made ends = absurd ends
+make-ends (how.BadTarget clock refusal) number seen terms valuations made ends = absurd ends
 
 -- a command that opens no file leaves all as it was
 pub nothing-opened : (needs : Needs) (seen : Outside) (end : Ended) → seen.shelf.files ≡ seen.shelf.files_before → seen.shelf.faults ≡ seen.shelf.faults_before → seen.shelf.opened ≡ seen.shelf.opened_before → Frame needs end seen

@@ -3,7 +3,7 @@ use Rattle.std.proofs.Common.{◌≡◌, ◌≢◌, ◌∙◌, ◌<◌, ◌≤�
 use Rattle.std.specs.Prelude.{◌⊎◌}
 use Rattle.clock.specs.Reports.{histories}
 use Rattle.house_io.specs.Faults.{Rose}
-use Rattle.house_io.specs.Shelves.{NamedFile, IfTells, IfWasTold, ChangesNone, moments_at, with_name}
+use Rattle.house_io.specs.Shelves.{NamedFile, IfTells, IfWasTold, ChangesNone, file_of, moments_at, with_name}
 use Rattle.auction_file.specs.AuctionFile.{Listing}
 use Rattle.auction_file.specs.Listing.{listing_of}
 use Rattle.auction_file.specs.declared.listing.Auction.{Auction}
@@ -11,13 +11,14 @@ use Rattle.recovery.specs.Journaled.{owner_of}
 use Rattle.clock_book.specs.declared.faults.OpenFault.{OpenFault}
 use Rattle.house_run.specs.Causes.{Tells}
 use Rattle.house_run.specs.ClockRuns.{ClockRun, IsJournalRun, LeavesJournal}
-use Rattle.house_run.specs.Commands.{Serve}
+use Rattle.command_line.specs.Commands.{Serve}
 use Rattle.house_run.specs.Disks.{IsJournalBelow, KeepsOthers}
 use Rattle.house_run.specs.Ends.{JobAnswer}
 use Rattle.house_run.specs.Found.{as_found, found, told_first}
 use Rattle.house_run.specs.Frame.{RisesAmong}
 use Rattle.house_run.specs.Journals.{IsFirstRefused}
-use Rattle.house_run.specs.Needs.{IsJournal, Serving, first_journals, journal_name, with_names}
+use Rattle.house_run.specs.Needs.{IsJournal, first_journals, journal_name, with_names}
+use Rattle.command_line.specs.Parts.{Serving}
 use Rattle.house_run.specs.NetEnds.{Ends, NetFrame}
 use Rattle.house_run.specs.Nets.{NetSeen, IsNetUntouched}
 use Rattle.house_run.specs.Seen.{Outside, ShelfSeen, IsAuctionAt, content}
@@ -32,6 +33,7 @@ use Rattle.house_run.proofs.DiskSteps.{Keeps, some-of}
 use Rattle.house_run.proofs.Framing.{opens-one}
 use Rattle.house_run.proofs.HouseSteps.{terms-of}
 use Rattle.house_run.proofs.JournalSteps.{later}
+use Rattle.house_run.proofs.Rereading.{auction-reads, reads-first}
 use Rattle.house_run.proofs.ServeSteps.{tells-map}
 
 -- files that were not changed up to here
@@ -51,20 +53,12 @@ told-firsts P a None (Some c) same kept = absurd kept
 told-firsts P a (Some b) (Some c) same kept = sym same
 
 auction-found : (P : List ℕ → Type 0) (auction : List ℕ) (listing : Listing) (first shelf : ShelfSeen) → first.files_before ≡ shelf.files_before → ChangesNone shelf.files_before first.files → Keeps P first.files shelf.files → IsAuctionAt first auction listing → IsAuctionAt (found shelf) auction listing
-auction-found P auction listing first shelf e same kept is = record {
-  read = is.read;
-  is_read = record { whole = whole shelf.files_before first.files shelf.files same kept is.is_read.whole; short = is.is_read.short; bytes = is.is_read.bytes };
-  says = is.says;
-}
-  where
-    whole : (a b c : Option (List NamedFile)) → ChangesNone a b → Keeps P b c → IfTells b (λ files. is.read ≡ content files auction) → IfTells (told_first a c) (λ files. is.read ≡ content files auction)
-    whole a b None same kept told = tt
-    whole a None (Some c) same kept told = absurd kept
-    whole a (Some b) (Some c) same kept told = subst (λ (o : Option (List NamedFile)). IfTells o (λ files. is.read ≡ content files auction)) (sym same) told
+auction-found P auction listing first shelf e same kept is =
+    auction-reads first (found shelf) auction listing (reads-first (λ before after. (name : List ℕ) → (P name → ⊥) → file_of after name ≡ file_of before name) shelf.files_before first.files shelf.files same kept) is
 
 -- the auction was refused
 
-found-same : (seen : Outside) → ChangesNone seen.shelf.files_before seen.shelf.files → as_found seen ≡ seen
+pub found-same : (seen : Outside) → ChangesNone seen.shelf.files_before seen.shelf.files → as_found seen ≡ seen
 found-same seen same = λ i. record {
   shelf = record {
     files_before = seen.shelf.files_before;
@@ -164,7 +158,7 @@ module _ (auction journals : List ℕ) (s : Serving) (value : Auction) (seen : O
             clock_is = few;
             first = subst (λ (o : Option (List NamedFile)). IsFirstRefused o value.terms value.digest journals clock fault) (told-firsts (IsJournalBelow journals (value.terms.bidders + 1)) seen.shelf.files_before files seen.shelf.files r.read not.keeps.others) bad;
           })
-      of how.NetFault cause = inr (inr tt, cause.0)
+      of how.NetFault cause = inr (inl (inr tt, cause.0))
       of how.NoMemory cause = inl tt
       of how.Done cause = absurd cause
       of how.Usage cause = absurd cause
@@ -182,6 +176,10 @@ module _ (auction journals : List ℕ) (s : Serving) (value : Auction) (seen : O
       of (how.LooksSpent clock) cause = absurd cause
       of how.BadReply cause = absurd cause
       of (how.NoBidder bidder) cause = absurd cause
+      of how.OtherTerms cause = absurd cause
+      of (how.NotPrefix clock place) cause = absurd cause
+      of (how.TargetFull clock needed) cause = absurd cause
+      of (how.BadTarget clock fault) cause = absurd cause
 
 -- the net
 
@@ -224,6 +222,10 @@ net-left auction journals s value shelf (how.Refused code detail most) net cause
 net-left auction journals s value shelf (how.LooksSpent clock) net cause = absurd cause
 net-left auction journals s value shelf how.BadReply net cause = absurd cause
 net-left auction journals s value shelf (how.NoBidder bidder) net cause = absurd cause
+net-left auction journals s value shelf how.OtherTerms net cause = absurd cause
+net-left auction journals s value shelf (how.NotPrefix clock place) net cause = absurd cause
+net-left auction journals s value shelf (how.TargetFull clock needed) net cause = absurd cause
+net-left auction journals s value shelf (how.BadTarget clock fault) net cause = absurd cause
 
 -- journals that were served are left as said
 pub served-leaves : (value : Auction) (journals : List ℕ) (s : Serving) (shelf : ShelfSeen) (net : NetSeen) (hosted : Hosted) → JournalsServed value journals s shelf net hosted → LeavesAll value journals shelf

@@ -28,8 +28,9 @@ use Rattle.house_run.specs.DoorsSeen.{DoorSeen, LinkSeen, door_seen, link_seen, 
 use Rattle.house_run.specs.Frame.{RisesAmong}
 use Rattle.house_run.specs.Found.{told_first}
 use Rattle.house_run.specs.Hosting.{DoorsRan, DoorsServed, HostEnd, HostOutcome, IsSameNet, LeavesDisk}
-use Rattle.house_run.specs.Journals.{AreFromJournals, IsFirstRefused, IsReadAt, IsRefusal}
-use Rattle.house_run.specs.Needs.{Serving, first_journals, journal_name, with_names}
+use Rattle.house_run.specs.Journals.{IsFirstRefused, IsRefusal}
+use Rattle.house_run.specs.Needs.{first_journals, journal_name, with_names}
+use Rattle.command_line.specs.Parts.{Serving}
 use Rattle.house_run.specs.Nets.{DoorView, NetSeen, NetView, IsNetUntouched, door_view, net_view}
 use Rattle.house_run.specs.Seen.{ShelfSeen, content}
 use Rattle.house_run.specs.Serving.{ClocksRan, DoorsServing, JoinAll, JournalsNotServed, JournalsServed, KeepsJournals, LeavesAll, NotServing, ServesAt, ServesJournals, view_of}
@@ -41,7 +42,7 @@ use Rattle.house_run.proofs.ClockRunning.{was-told}
 use Rattle.house_run.proofs.DiskSteps.{Keeps, between, keeps-itself, keeps-then, some-of}
 use Rattle.house_run.proofs.Framing.{content-now}
 use Rattle.house_run.proofs.GivingSteps.{map-map}
-use Rattle.house_run.proofs.JournalSteps.{more-from}
+use Rattle.house_run.proofs.JournalSteps.{OneRead, first-read}
 use Rattle.house_run.proofs.RunsSeen.{all-seen, run_seen, told-by, turns-seen}
 
 -- the net, as a contract of a run sees it
@@ -133,7 +134,7 @@ journal-moments tells moments journals Q old disks (Some a) (Some b) (Some c) P 
     let now : moments (get_or disks k d) ≡ moments_at c (journal_name journals k) = sym (ap (λ o. unwrap_or o (opened [])) there.1) in
     subst (λ (m : Moments). Q k m (moments_at c (journal_name journals k))) here.1 (subst (λ (m : Moments). Q k (moments (get_or old k d)) m) now (holds k d below there.0))
 
-below-all : (journals : List ℕ) (n m : ℕ) (name : List ℕ) → n ≤ m → IsJournalBelow journals n name → IsJournalBelow journals m name
+pub below-all : (journals : List ℕ) (n m : ℕ) (name : List ℕ) → n ≤ m → IsJournalBelow journals n name → IsJournalBelow journals m name
 below-all journals n m name more b = (b.0, (let l = b.1 in omega arith), b.2)
 
 -- nothing was done, for want of memory
@@ -224,7 +225,7 @@ tells-map None (Some c) P Q of told = absurd told
 tells-map (Some a) (Some c) P Q of told = of a c told
 
 -- what was found of a file that a disk stood for
-told-content : {D : Type 0} (tells : D → Bool) (moments : D → Moments) (name : List ℕ) (Q : List ℕ → Type 0) (old new : D) (a b c : Option (List NamedFile)) (P R : List ℕ → Type 0) → Keeps P a b → Keeps R b c
+pub told-content : {D : Type 0} (tells : D → Bool) (moments : D → Moments) (name : List ℕ) (Q : List ℕ → Type 0) (old new : D) (a b c : Option (List NamedFile)) (P R : List ℕ → Type 0) → Keeps P a b → Keeps R b c
     → IfTells b (λ now. IfWasTold a (StandsAs tells moments name old)) → IfTells c (IsLeftBy tells moments name new) → (IsTrue (tells new) → Q (moments old).now.read) → IfTells (told_first a c) (λ files. Q (content files name))
 told-content tells moments name Q old new a b None P R first second stand left holds = tt
 told-content tells moments name Q old new a None (Some c) P R first second stand left holds = absurd second
@@ -233,16 +234,11 @@ told-content tells moments name Q old new (Some a) (Some b) (Some c) P R first s
     let read : content a name ≡ (moments old).now.read = content-now (file_of a name) ∙ ap (λ (m : Moments). m.now.read) (sym stand.1) in
     subst Q (sym read) (holds left.0)
 
-reads-opening : (owner : Owner) (file : List ℕ) (fault : OpenFault) → IsRefusal fault → ReadsClock owner file (Err fault) → IsOpening owner file (Err fault)
+pub reads-opening : (owner : Owner) (file : List ℕ) (fault : OpenFault) → IsRefusal fault → ReadsClock owner file (Err fault) → IsOpening owner file (Err fault)
 reads-opening owner file (why.Broken broken) refusal reads = reads
 reads-opening owner file (why.NotAcceptable number judgement) refusal reads = reads
 reads-opening owner file why.DiskFault refusal reads = absurd refusal
 reads-opening owner file why.NoMemory refusal reads = absurd refusal
-
--- the histories of the clocks before one that was refused
-record Earlier (files : Option (List NamedFile)) (terms : Terms) (digest journals : List ℕ) (clocks : ℕ) : Type 0 where
-  histories_in : List ClockHistory
-  are : AreFromJournals files terms digest journals clocks histories_in
 
 module _ {D : Type 0} (tells : D → Bool) (moments : D → Moments) (faults : D → ℕ) (terms : Terms) (digest journals : List ℕ) (old disks : List D) (shelf : ShelfSeen) (files : Option (List NamedFile)) (counts : List ℕ → ℕ) (names : List (List ℕ))
     (are : AreOpen tells moments faults journals old (between shelf.files_before files shelf.faults_before counts shelf.opened_before names))
@@ -250,30 +246,30 @@ module _ {D : Type 0} (tells : D → Bool) (moments : D → Moments) (faults : D
   abbrev first-files : Option (List NamedFile)
   first-files = told_first shelf.files_before shelf.files
 
-  earlier-of : (clock : ℕ) (fault : OpenFault) → IsNotOpen tells moments faults terms digest old disks clock fault → (n : ℕ) → n ≤ clock → Earlier first-files terms digest journals n
-  earlier-of clock fault not zero few = record { histories_in = []; are = record { numbers = refl; each = tt } }
-  earlier-of clock fault not (suc n) few =
-      let before = earlier-of clock fault not n (omega arith) in
+  -- the history of a clock before one that was refused
+  earlier-of : (clock : ℕ) (fault : OpenFault) → IsNotOpen tells moments faults terms digest old disks clock fault → (n : ℕ) → n < clock → OneRead first-files terms digest journals n
+  earlier-of clock fault not n few =
       let w = not.within in
       let d = some-of old n (omega arith) in
       let was = not.before n d (omega arith) in
       let history = was.first.state.clock in
       let owner = owner_of terms n digest in
-      let read : IsReadAt first-files terms digest (journal_name journals n) n history = record {
-        history = was.opens.history;
-        in_file = told-content tells moments (journal_name journals n) (λ file. StandsForHistory owner history file) (get_or old n d) (get_or disks n d) shelf.files_before files shelf.files (IsJournalBelow journals (length old)) (IsJournalBelow journals (length disks))
-            are.others given.others (are.stand n d (omega arith)) (given.left n d (let c = not.count in omega arith)) (λ told. was.opens.read (was-told tells moments faults owner (get_or old n d) (get_or disks n d) was told));
-      } in
-      let e : n + 1 ≡ suc n = omega arith in
-      record { histories_in = before.histories_in ++ history ∷ []; are = subst (λ (m : ℕ). AreFromJournals first-files terms digest journals m (before.histories_in ++ history ∷ [])) e (more-from first-files terms digest journals n before.histories_in history before.are read) }
+      record {
+        history = history;
+        read = record {
+          history = was.opens.history;
+          in_file = told-content tells moments (journal_name journals n) (λ file. StandsForHistory owner history file) (get_or old n d) (get_or disks n d) shelf.files_before files shelf.files (IsJournalBelow journals (length old)) (IsJournalBelow journals (length disks))
+              are.others given.others (are.stand n d (omega arith)) (given.left n d (let c = not.count in omega arith)) (λ told. was.opens.read (was-told tells moments faults owner (get_or old n d) (get_or disks n d) was told));
+        };
+      }
 
   pub first-refused : (clock : ℕ) (fault : OpenFault) → IsNotOpen tells moments faults terms digest old disks clock fault → IsRefusal fault → IsFirstRefused first-files terms digest journals clock fault
   first-refused clock fault not refusal =
-      let before = earlier-of clock fault not clock (omega arith) in
+      let before = first-read first-files terms digest journals clock (earlier-of clock fault not) in
       let w = not.within in
       let d = some-of old clock w in
       record {
-        earlier = before.histories_in;
+        earlier = before.found;
         from_journals = before.are;
         refused = record {
           refusal = refusal;
@@ -359,3 +355,7 @@ module _ {D R L M : Type 0} (tells : D → Bool) (moments : D → Moments) (disk
       cause (how.LooksSpent clock) ended = absurd ended
       cause how.BadReply ended = absurd ended
       cause (how.NoBidder bidder) ended = absurd ended
+      cause how.OtherTerms ended = absurd ended
+      cause (how.NotPrefix clock place) ended = absurd ended
+      cause (how.TargetFull clock needed) ended = absurd ended
+      cause (how.BadTarget clock fault) ended = absurd ended

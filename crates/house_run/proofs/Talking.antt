@@ -17,11 +17,11 @@ use Rattle.bidder_agent.specs.Talks.{Agrees, HasCauseOf, Part}
 use Rattle.bidder_agent.specs.declared.agents.AgentEnd.{AgentEnd}
 use Rattle.bidder_agent.specs.declared.agents.AgentEnd.TheVariants as agent
 use Rattle.bidder_agent.specs.declared.agents.Seen.{Seen}
-use Rattle.house_run.specs.BidCommand.{IsPlayable, bid_needs, look_line}
-use Rattle.house_run.specs.Commands.{Bid}
+use Rattle.house_run.specs.BidCommand.{bid_needs, look_line}
+use Rattle.command_line.specs.Parts.{IsPlayable, Bidding}
+use Rattle.command_line.specs.Commands.{Bid}
 use Rattle.house_run.specs.Dialling.{IsDialled, PlaysIn, TalksOn, part_in}
 use Rattle.house_run.specs.Ends.{JobAnswer}
-use Rattle.house_run.specs.Needs.{Bidding}
 use Rattle.house_run.specs.NetEnds.{Ends, NetFrame}
 use Rattle.house_run.specs.Nets.{NetSeen, NetView, net_view}
 use Rattle.house_run.specs.Seen.{Outside}
@@ -117,10 +117,10 @@ stopped agent.LinkFault net p before after between fresh faults lists agrees ste
 -- how a bid ends whose talk gave no looks
 pub bid-ends : (end : Ended) (auction values : List ℕ) (b : Bidding) (seen : Outside) (net : NetSeen) (p : Part) → PlaysIn seen.shelf auction values b p → IsTalkEnd net p end → Ends (bid_needs auction values b) seen net end
 bid-ends how.NoMemory auction values b seen net p plays ends = inl tt
-bid-ends how.NetFault auction values b seen net p plays ends = inr (inl tt, ends)
-bid-ends (how.Refused code detail value) auction values b seen net p plays ends = inr (record { part = p; plays = plays; talks = ends })
-bid-ends (how.LooksSpent clock) auction values b seen net p plays ends = inr (record { part = p; plays = plays; talks = ends })
-bid-ends how.BadReply auction values b seen net p plays ends = inr (record { part = p; plays = plays; talks = ends })
+bid-ends how.NetFault auction values b seen net p plays ends = inr (inl (inl tt, ends))
+bid-ends (how.Refused code detail value) auction values b seen net p plays ends = inr (inl (record { part = p; plays = plays; talks = ends }))
+bid-ends (how.LooksSpent clock) auction values b seen net p plays ends = inr (inl (record { part = p; plays = plays; talks = ends }))
+bid-ends how.BadReply auction values b seen net p plays ends = inr (inl (record { part = p; plays = plays; talks = ends }))
 bid-ends how.Done auction values b seen net p plays ends = absurd ends
 bid-ends how.Usage auction values b seen net p plays ends = absurd ends
 bid-ends how.ReadFault auction values b seen net p plays ends = absurd ends
@@ -136,6 +136,10 @@ bid-ends (how.NotSubstitutes bidder x y good) auction values b seen net p plays 
 bid-ends (how.TooLong file) auction values b seen net p plays ends = absurd ends
 bid-ends (how.BadLog place) auction values b seen net p plays ends = absurd ends
 bid-ends (how.NoBidder bidder) auction values b seen net p plays ends = absurd ends
+bid-ends how.OtherTerms auction values b seen net p plays ends = absurd ends
+bid-ends (how.NotPrefix clock place) auction values b seen net p plays ends = absurd ends
+bid-ends (how.TargetFull clock needed) auction values b seen net p plays ends = absurd ends
+bid-ends (how.BadTarget clock refusal) auction values b seen net p plays ends = absurd ends
 
 -- what a bid leaves of the net
 pub bid-leaves : (auction values : List ℕ) (b : Bidding) (end : Ended) (net : NetSeen) → NetCounts end net → NetFrame (bid_needs auction values b) end net

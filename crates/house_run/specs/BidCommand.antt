@@ -8,15 +8,10 @@ use Rattle.bidder_agent.specs.Talks.{Part}
 use Rattle.bidder_agent.specs.declared.agents.Seen.{Seen}
 use Rattle.bidder_agent.specs.declared.agents.SeenLook.{SeenLook}
 use Rattle.house_run.specs.Dialling.{PlaysIn, TalksOn}
-use Rattle.house_run.specs.Needs.{Bidding, Needs, nothing_needed}
+use Rattle.house_run.specs.Needs.{Needs, nothing_needed}
+use Rattle.command_line.specs.Parts.{Bidding}
 use Rattle.house_run.specs.Nets.{NetSeen}
 use Rattle.house_run.specs.Seen.{ShelfSeen}
-
--- a part that an agent can take
-pub record IsPlayable (b : Bidding) : Type 0 where
-  pub from_one : 1 ≤ b.bidder
-  pub token : IsRange 1 64 (length b.token)
-  pub looks : 1 ≤ b.looks
 
 abbrev pub bid_needs : List ℕ → List ℕ → Bidding → Needs
 bid_needs auction values b = record nothing_needed { auction = Some auction; values = Some values; bid = Some b }

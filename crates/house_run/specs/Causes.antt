@@ -8,11 +8,11 @@ use Rattle.auction_file.specs.declared.faults.AuctionFault.{AuctionFault}
 use Rattle.auction_file.specs.declared.faults.AuctionFault.TheVariants as refused
 use Rattle.settlement.specs.declared.outcome.Settlement.TheVariants as settlement
 use Rattle.house_run.specs.Journals.{IsBadJournal}
-use Rattle.house_run.specs.Logs.{IsFaultyAt}
+use Rattle.report_log.specs.Logs.{IsFaultyAt, log_limit}
 use Rattle.house_run.specs.Markets.{IsBadValues, IsNotSubstitutesAt, IsNotSubstitutesOf}
 use Rattle.house_run.specs.Needs.{Log, Needs, Has, IsSource, journal_name}
 use Rattle.house_run.specs.Outcomes.{Settles}
-use Rattle.house_run.specs.Seen.{Outside, ShelfSeen, IsAuctionAt, IsRead, IsTooLong, auction_limit, log_limit, values_limit}
+use Rattle.house_run.specs.Seen.{Outside, ShelfSeen, IsAuctionAt, IsRead, IsTooLong, auction_limit, values_limit}
 use Rattle.house_run.specs.Status.{number_of, record_of, refusal_number, values_number}
 use Rattle.house_run.specs.declared.ends.Ended.{Ended}
 use Rattle.house_run.specs.declared.ends.Ended.TheVariants as how
@@ -44,6 +44,11 @@ line_of (how.Refused code detail value) = line (codes "refused" ∷ codes "code"
 line_of (how.LooksSpent clock) = line (codes "looks" ∷ codes "spent" ∷ codes "clock" ∷ decimal clock ∷ [])
 line_of how.BadReply = codes "bad reply\n"
 line_of (how.NoBidder bidder) = line (codes "no" ∷ codes "bidder" ∷ decimal bidder ∷ [])
+line_of how.OtherTerms = codes "other terms\n"
+line_of (how.NotPrefix clock number) = line (codes "not" ∷ codes "prefix" ∷ codes "clock" ∷ decimal clock ∷ codes "record" ∷ decimal number ∷ [])
+line_of (how.TargetFull clock needed) = line (codes "target" ∷ codes "full" ∷ codes "clock" ∷ decimal clock ∷ codes "needed" ∷ decimal needed ∷ [])
+line_of (how.BadTarget clock fault) =
+    line (codes "bad" ∷ codes "target" ∷ codes "clock" ∷ decimal clock ∷ codes "record" ∷ decimal (record_of fault) ∷ codes "fault" ∷ decimal (refusal_number fault) ∷ [])
 
 -- the line of the end has a number, so that it takes memory
 abbrev pub HasNumber : Ended → Type 0
@@ -54,6 +59,7 @@ HasNumber how.ReadFault = ⊥
 HasNumber how.WriteFault = ⊥
 HasNumber how.NetFault = ⊥
 HasNumber how.BadReply = ⊥
+HasNumber how.OtherTerms = ⊥
 HasNumber (how.TooLong file) = ⊥
 HasNumber end = ⊤
 
@@ -85,7 +91,7 @@ pub record IsBadLog (log : Log) (place : ℕ) (shelf : ShelfSeen) : Type 0 where
   pub faulty : IsFaultyAt log.terms read place
 
 -- When a job may end so without a text, by what it found on the shelf. Usage and a write fault are no ends of a job, want of memory is free,
--- and the ends by the net stand in a table of their own.
+-- and the ends by the net, and those of moving journals, stand in tables of their own.
 abbrev pub MayEnd : Needs → Outside → Ended → Type 0
 MayEnd needs seen how.Done = ⊥
 MayEnd needs seen how.NoMemory = ⊤
@@ -110,6 +116,10 @@ MayEnd needs seen (how.Refused code detail value) = ⊥
 MayEnd needs seen (how.LooksSpent clock) = ⊥
 MayEnd needs seen how.BadReply = ⊥
 MayEnd needs seen (how.NoBidder bidder) = ⊥
+MayEnd needs seen how.OtherTerms = ⊥
+MayEnd needs seen (how.NotPrefix clock number) = ⊥
+MayEnd needs seen (how.TargetFull clock needed) = ⊥
+MayEnd needs seen (how.BadTarget clock fault) = ⊥
 
 -- the names whose faults the end tells; a fault under any other name is told by none
 abbrev pub Tells : Needs → Ended → List ℕ → Type 0

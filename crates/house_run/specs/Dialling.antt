@@ -12,7 +12,7 @@ use Rattle.bidder_agent.specs.Talks.{Agrees, Part}
 use Rattle.bidder_agent.specs.declared.agents.AgentEnd.{AgentEnd}
 use Rattle.bidder_agent.specs.declared.agents.Seen.{Seen}
 use Rattle.house_run.specs.Markets.{IsMarketAt, market_bidders}
-use Rattle.house_run.specs.Needs.{Bidding}
+use Rattle.command_line.specs.Parts.{Bidding}
 use Rattle.house_run.specs.Nets.{NetSeen, NetView}
 use Rattle.house_run.specs.Seen.{ShelfSeen, IsAuctionAt}
 

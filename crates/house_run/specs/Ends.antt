@@ -8,13 +8,16 @@ use Rattle.house_io.specs.Shelves.{NamedFile}
 use Rattle.lot_base.specs.declared.auction_terms.Terms.{Terms}
 use Rattle.auction_file.specs.AuctionFile.{Listing, auction_of}
 use Rattle.house_run.specs.Causes.{HasNumber, MayEnd, line_of}
-use Rattle.house_run.specs.Commands.{Command, IsDone, IsNoCommand, MayBeCommand, Serve, Spells, needs_of}
+use Rattle.house_run.specs.Commands.{IsDone, needs_of}
+use Rattle.command_line.specs.Commands.{Command, IsNoCommand, MayBeCommand, Migrate, Serve, Spells}
 use Rattle.house_run.specs.Found.{as_found}
 use Rattle.house_run.specs.Frame.{Frame}
+use Rattle.house_run.specs.MigrateCommand.{MigrateFrame}
+use Rattle.house_run.specs.Moves.{AreGoodTargets}
 use Rattle.house_run.specs.ServeCommand.{ServeFrame}
 use Rattle.house_run.specs.NetEnds.{Ends, EndsOnNet, NetFrame}
 use Rattle.house_run.specs.Nets.{NetSeen, IsNetUntouched}
-use Rattle.house_run.specs.Logs.{IsLogOf}
+use Rattle.report_log.specs.Logs.{IsLogOf, log_limit}
 use Rattle.house_run.specs.Journals.{AreFromJournals, IsTermsOf}
 use Rattle.lot_base.specs.Economy.{AllStrongSubstitutes}
 use Rattle.clock.specs.Reports.{ClockHistory, all_bidders}
@@ -24,7 +27,7 @@ use Rattle.trial.specs.Making.{made_supply, made_values}
 use Rattle.house_run.specs.Markets.{market_bidders}
 use Rattle.house_run.specs.Needs.{Has, IsSource, Needs, journal_name}
 use Rattle.house_run.specs.Outcomes.{HaveClosed}
-use Rattle.house_run.specs.Seen.{Outside, ShelfSeen, SinkSeen, auction_limit, content, log_limit, values_limit}
+use Rattle.house_run.specs.Seen.{Outside, ShelfSeen, SinkSeen, auction_limit, content, values_limit}
 use Rattle.house_run.specs.declared.ends.Ended.{Ended}
 use Rattle.house_run.specs.declared.ends.Ended.TheVariants as how
 
@@ -39,9 +42,11 @@ abbrev pub end_of : Result (Vec ℕ Global) Ended → Ended
 end_of (Ok text) = how.Done
 end_of (Err end) = end
 
--- what the causes of a command's ends speak of: a serve writes to its journals, so they speak of the files that it found
+-- what the causes of a command's ends speak of: a serve writes to its journals, and a migration to its targets, so they speak of the files
+-- that it found
 abbrev pub as_seen : Command → Outside → Outside
 as_seen (Serve auction journals s) seen = as_found seen
+as_seen (Migrate old journals new target) seen = as_found seen
 as_seen command seen = seen
 
 abbrev pub JobAnswer : Command → Outside → NetSeen → Result (Vec ℕ Global) Ended → Type 0
@@ -56,6 +61,7 @@ ShelfAnswer Done needs seen (Err end) = MayEnd needs seen end
 -- what a job that ended so leaves of the shelf
 abbrev pub CommandFrame : Command → Ended → Outside → Type 0
 CommandFrame (Serve auction journals s) end seen = ServeFrame auction journals s end seen
+CommandFrame (Migrate old journals new target) end seen = MigrateFrame old journals new target end seen
 CommandFrame command end seen = Frame (needs_of command) end seen
 
 -- The text was appended, and the answer is the job's end; or the sink's count rose, a front of the text was appended, and the
@@ -129,7 +135,9 @@ pub record IsJournalIn (files : List NamedFile) (auction journals name : List �
 
 -- a name that the command may open, where the files are these
 abbrev pub MayOpen : Needs → List NamedFile → List ℕ → Type 0
-MayOpen needs files name = IsSource needs name ⊎ Has needs.auction (λ auction. Has needs.journals (λ journals. IsJournalIn files auction journals name))
+MayOpen needs files name =
+    IsSource needs name
+    ⊎ (Has needs.auction (λ auction. Has needs.journals (λ journals. IsJournalIn files auction journals name)) ⊎ Has needs.moving (λ m. IsJournalIn files m.auction m.journals name))
 
 -- No call failed on the sink, on the net or under a name that the command may open, and none of these counts stands at its last value. What
 -- was found on the net ends no job.
@@ -186,6 +194,7 @@ pub record AreGood (needs : Needs) (files : List NamedFile) : Type 0 where
   pub journals : IfSome needs.auction (λ auction. IfSome needs.journals (λ journals. AreGoodJournals needs.settles files auction journals))
   pub values : IfSome needs.auction (λ auction. IfSome needs.values (λ values. AreGoodValues (needs.bid ≡ None) files auction values))
   pub number : IfSome needs.number IsGoodNumber
+  pub targets : IfSome needs.auction (λ auction. IfSome needs.journals (λ journals. IfSome needs.moving (AreGoodTargets files auction journals)))
 
 -- the answer is Done, or memory ran out
 abbrev pub IsDoneOrNoMemory : Ended → Type 0

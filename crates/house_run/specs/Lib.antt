@@ -1,10 +1,3 @@
-pub mod Numerals
-pub mod Words
-pub mod Positionals
-pub mod Arguments
-pub mod Entries
-pub mod Logs
-pub mod Pieces
 pub mod Texts
 pub mod ServeTexts
 pub mod Status
@@ -16,6 +9,8 @@ pub mod Outcomes
 pub mod Markets
 pub mod Causes
 pub mod Dialling
+pub mod Moves
+pub mod MoveEnds
 pub mod NetEnds
 pub mod BidCommand
 pub mod Reading
@@ -35,8 +30,8 @@ pub mod SettleCommand
 pub mod TrialCommand
 pub mod MakeCommand
 pub mod ServeCommand
-pub mod NetWords
+pub mod MigrateCommand
+pub mod MovingJournals
 pub mod Commands
-pub mod CommandView
-pub mod Givens
 pub mod Ends
+pub mod MoveSteps

@@ -15,17 +15,9 @@ use Rattle.settlement.specs.declared.outcome.Outcome.{Outcome}
 use Rattle.outcome_text.specs.Lines.{line}
 use Rattle.outcome_text.specs.Plain.{plain_text}
 use Rattle.trial.specs.Making.{IsMade}
-use Rattle.house_run.specs.Arguments.{AreArguments, IsNumberOption}
+use Rattle.command_line.specs.Arguments.{AreArguments, IsNumberOption}
 use Rattle.house_run.specs.Markets.{TriesAs}
 use Rattle.house_run.specs.Needs.{Needs, nothing_needed}
-
-pub record IsMakeWords (number workers : ℕ) (words : List (List ℕ)) : Type 0 where
-  pub behind : List (List ℕ)
-  pub options : List (List ℕ)
-  pub words_are : words ≡ codes "make" ∷ behind
-  pub arguments : AreArguments (codes "make") behind (decimal number ∷ []) options
-  pub few : number < 2 ^ 32
-  pub workers_are : IsNumberOption (codes "--workers=") 1 64 1 workers options
 
 abbrev pub make_needs : ℕ → Needs
 make_needs number = record nothing_needed { number = Some number }

@@ -4,25 +4,17 @@ use Rattle.std.specs.Prelude.{◌≡◌, ◌⊎◌, ℕ, zero, suc, ◌/◌, ◌
 use Rattle.house_io.specs.Shelves.{with_name}
 use Rattle.lot_base.specs.declared.limits.TheConstants.{MOST_BIDDERS}
 use Rattle.lot_base.specs.declared.auction_terms.Terms.{Terms}
+use Rattle.command_line.specs.Parts.{Bidding, Serving}
 
 -- a log, and the terms on which it is judged
 pub record Log : Type 0 where
   pub terms : Terms
   pub name : List ℕ
 
--- the part of a bidder in an auction, and where he dials
-pub record Bidding : Type 0 where
-  pub bidder : ℕ
-  pub token : List ℕ
-  pub address : List ℕ
-  -- how many equal looks at a clock, in a row, are borne
-  pub looks : ℕ
-
--- where an auction is served: at so many doors on an address, for so many sessions at each
-pub record Serving : Type 0 where
-  pub address : List ℕ
-  pub doors : ℕ
-  pub sessions : ℕ
+-- where the journals of an auction are moved: another file of it, and what the names of the journals there begin with
+pub record Moving : Type 0 where
+  pub auction : List ℕ
+  pub journals : List ℕ
 
 pub record Needs : Type 0 where
   -- the name of the auction file
@@ -38,9 +30,11 @@ pub record Needs : Type 0 where
   pub number : Option ℕ
   pub bid : Option Bidding
   pub serve : Option Serving
+  -- where the journals are moved
+  pub moving : Option Moving
 
 abbrev pub nothing_needed : Needs
-nothing_needed = record { auction = None; log = None; journals = None; settles = false; values = None; number = None; bid = None; serve = None }
+nothing_needed = record { auction = None; log = None; journals = None; settles = false; values = None; number = None; bid = None; serve = None; moving = None }
 
 -- it is needed, and it has P
 abbrev pub Has : {A : Type 0} → Option A → (A → Type 0) → Type 0
@@ -71,7 +65,9 @@ list_of (Some a) = a ∷ []
 
 -- the files that are read from front to end, in the order in which they are
 abbrev pub sources : Needs → List (List ℕ)
-sources needs = list_of needs.auction ++ (list_of (option_map (λ log. log.name) needs.log) ++ list_of needs.values)
+sources needs = list_of needs.auction ++ (list_of (option_map (λ log. log.name) needs.log) ++ (list_of needs.values ++ list_of (option_map (λ moving. moving.auction) needs.moving)))
 
 abbrev pub IsSource : Needs → List ℕ → Type 0
-IsSource needs name = Has needs.auction (λ auction. name ≡ auction) ⊎ (Has needs.log (λ log. name ≡ log.name) ⊎ Has needs.values (λ values. name ≡ values))
+IsSource needs name =
+    Has needs.auction (λ auction. name ≡ auction)
+    ⊎ (Has needs.log (λ log. name ≡ log.name) ⊎ (Has needs.values (λ values. name ≡ values) ⊎ Has needs.moving (λ moving. name ≡ moving.auction)))

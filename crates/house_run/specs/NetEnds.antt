@@ -6,7 +6,9 @@ use Rattle.bidder_agent.specs.declared.agents.AgentEnd.{AgentEnd}
 use Rattle.bidder_agent.specs.declared.agents.AgentEnd.TheVariants as agent
 use Rattle.house_run.specs.Causes.{MayEnd}
 use Rattle.house_run.specs.Dialling.{IsNoBidder, PlaysIn, TalksOn}
-use Rattle.house_run.specs.Needs.{Bidding, Has, Needs}
+use Rattle.house_run.specs.MoveEnds.{EndsMoving}
+use Rattle.house_run.specs.Needs.{Has, Needs}
+use Rattle.command_line.specs.Parts.{Bidding}
 use Rattle.house_run.specs.Nets.{NetSeen, IsNetUntouched}
 use Rattle.house_run.specs.Seen.{Outside, ShelfSeen}
 use Rattle.house_run.specs.declared.ends.Ended.{Ended}
@@ -36,7 +38,7 @@ EndsOnNet needs shelf net end = ⊥
 
 -- when a job may end so
 abbrev pub Ends : Needs → Outside → NetSeen → Ended → Type 0
-Ends needs seen net end = MayEnd needs seen end ⊎ EndsOnNet needs seen.shelf net end
+Ends needs seen net end = MayEnd needs seen end ⊎ (EndsOnNet needs seen.shelf net end ⊎ EndsMoving needs seen.shelf end)
 
 -- A job that ended so passed over no fault of the net that its end does not tell, and a command that does not go to the net left it as it was.
 pub record NetFrame (needs : Needs) (end : Ended) (net : NetSeen) : Type 0 where

@@ -1,9 +1,8 @@
 -- What a contract sees of the outside in one call, and what was read of it.
 use Rattle.std.specs.Prelude.{◌≡◌, ◌≤◌, ◌<◌, ℕ, List, [], length, Option, Ok, unwrap_or}
 use Rattle.house_io.specs.Shelves.{NamedFile, IfTells, bytes_of}
-use Rattle.lot_base.specs.declared.limits.TheConstants.{GREATEST_FILE}
 use Rattle.auction_file.specs.AuctionFile.{Listing, auction_of}
-use Rattle.house_run.specs.Logs.{AreBytes}
+use Rattle.report_log.specs.Logs.{AreBytes}
 
 -- the shelf of a call: its files, where they are told, the counts of faults by name, and the names that it has opened, as the
 -- call began and as it ended
@@ -47,10 +46,7 @@ sink_seen written faults before after = record {
   faults = faults after;
 }
 
--- the greatest number of bytes of a log, and of an auction file
-abbrev pub log_limit : ℕ
-log_limit = GREATEST_FILE
-
+-- the greatest number of bytes of an auction file
 abbrev pub auction_limit : ℕ
 auction_limit = 65536
 

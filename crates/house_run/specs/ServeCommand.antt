@@ -10,19 +10,13 @@ use Rattle.house_run.specs.Disks.{KeepsOthers}
 use Rattle.house_run.specs.DoorsSeen.{DoorSeen, LinkSeen}
 use Rattle.house_run.specs.Found.{found}
 use Rattle.house_run.specs.Frame.{OpensInOrder, RisesAmong}
-use Rattle.house_run.specs.Needs.{IsJournal, Needs, Serving, nothing_needed}
+use Rattle.house_run.specs.Needs.{IsJournal, Needs, nothing_needed}
+use Rattle.command_line.specs.Parts.{Serving}
 use Rattle.house_run.specs.Nets.{NetSeen}
 use Rattle.house_run.specs.Seen.{IsAuctionAt, Outside, ShelfSeen}
 use Rattle.house_run.specs.ServeTexts.{serve_text}
 use Rattle.house_run.specs.Serving.{ClocksRan, DoorsServing, JoinAll, LeavesAll}
 use Rattle.house_run.specs.declared.ends.Ended.{Ended}
-
--- so many doors and sessions can be served
-pub record IsServable (s : Serving) : Type 0 where
-  pub some_door : 1 ≤ s.doors
-  pub few_doors : s.doors ≤ 64
-  pub some_session : 1 ≤ s.sessions
-  pub few_sessions : s.sessions ≤ 10000
 
 abbrev pub serve_needs : List ℕ → List ℕ → Serving → Needs
 serve_needs auction journals s = record nothing_needed { auction = Some auction; journals = Some journals; serve = Some s }

@@ -15,7 +15,8 @@ use Rattle.house_run.specs.Found.{told_first}
 use Rattle.house_run.specs.Frame.{RisesAmong}
 use Rattle.house_run.specs.Hosting.{HouseEnd}
 use Rattle.house_run.specs.Journals.{IsFirstRefused}
-use Rattle.house_run.specs.Needs.{Serving, first_journals, journal_name, with_names}
+use Rattle.house_run.specs.Needs.{first_journals, journal_name, with_names}
+use Rattle.command_line.specs.Parts.{Serving}
 use Rattle.house_run.specs.Nets.{DoorView, NetSeen, NetView, IsNetUntouched, door_view}
 use Rattle.house_run.specs.Seen.{ShelfSeen}
 use Rattle.house_run.specs.declared.ends.Ended.{Ended}

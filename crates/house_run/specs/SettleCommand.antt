@@ -2,17 +2,10 @@
 use Rattle.std.specs.Prelude.{◌≡◌, ℕ, Bool, true, List, [], ◌∷◌, Some, codes}
 use Rattle.settlement.specs.declared.outcome.Outcome.{Outcome}
 use Rattle.settlement.specs.declared.outcome.Settlement.TheVariants.{Settled}
-use Rattle.house_run.specs.Arguments.{AreArguments, HasFlag}
+use Rattle.command_line.specs.Arguments.{AreArguments, HasFlag}
 use Rattle.house_run.specs.Needs.{Needs, nothing_needed}
 use Rattle.house_run.specs.Outcomes.{SettlesAs, text_of_outcome}
 use Rattle.house_run.specs.Seen.{ShelfSeen}
-
-pub record IsSettle (auction journals : List ℕ) (json : Bool) (words : List (List ℕ)) : Type 0 where
-  pub behind : List (List ℕ)
-  pub options : List (List ℕ)
-  pub words_are : words ≡ codes "settle" ∷ behind
-  pub arguments : AreArguments (codes "settle") behind (auction ∷ journals ∷ []) options
-  pub json_is : HasFlag (codes "--json") options json
 
 abbrev pub settle_needs : List ℕ → List ℕ → Needs
 settle_needs auction journals = record nothing_needed { auction = Some auction; journals = Some journals; settles = true }

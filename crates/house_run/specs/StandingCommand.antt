@@ -7,12 +7,7 @@ use Rattle.house_run.specs.Journals.{AreHistories}
 use Rattle.house_run.specs.Needs.{Needs, nothing_needed}
 use Rattle.house_run.specs.Seen.{ShelfSeen}
 use Rattle.house_run.specs.Texts.{standing_of}
-use Rattle.house_run.specs.Words.{IsPlainWord}
-
-pub record IsStanding (auction journals : List ℕ) (words : List (List ℕ)) : Type 0 where
-  pub words_are : words ≡ codes "standing" ∷ auction ∷ journals ∷ []
-  pub auction_is : IsPlainWord auction
-  pub journals_are : IsPlainWord journals
+use Rattle.command_line.specs.Words.{IsPlainWord}
 
 abbrev pub standing_needs : List ℕ → List ℕ → Needs
 standing_needs auction journals = record nothing_needed { auction = Some auction; journals = Some journals }

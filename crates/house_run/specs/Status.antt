@@ -32,6 +32,10 @@ status_of (how.Refused code detail value) = 16
 status_of (how.LooksSpent clock) = 17
 status_of how.BadReply = 18
 status_of (how.NoBidder bidder) = 19
+status_of how.OtherTerms = 20
+status_of (how.NotPrefix clock number) = 21
+status_of (how.TargetFull clock needed) = 22
+status_of (how.BadTarget clock fault) = 23
 
 -- want of memory has no line, and no number
 abbrev pub number_of : AuctionFault → ℕ

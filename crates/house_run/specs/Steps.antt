@@ -31,7 +31,7 @@ use Rattle.bidder_agent.specs.declared.agents.Seen.{Seen}
 use Rattle.house_run.specs.BidCommand.{bid_needs}
 use Rattle.house_run.specs.Dialling.{TalksOn}
 use Rattle.house_run.specs.NetEnds.{Ends}
-use Rattle.house_run.specs.Needs.{Bidding}
+use Rattle.command_line.specs.Parts.{Bidding}
 use Rattle.house_run.specs.Nets.{NetSeen}
 
 -- no name was opened but this one

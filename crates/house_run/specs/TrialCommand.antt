@@ -4,17 +4,10 @@ use Rattle.std.specs.Prelude.{◌≡◌, ℕ, List, [], ◌∷◌, Some, codes}
 use Rattle.lot_base.specs.declared.auction_terms.Terms.{Terms}
 use Rattle.settlement.specs.declared.outcome.Outcome.{Outcome}
 use Rattle.outcome_text.specs.Plain.{plain_text}
-use Rattle.house_run.specs.Arguments.{AreArguments, IsNumberOption}
+use Rattle.command_line.specs.Arguments.{AreArguments, IsNumberOption}
 use Rattle.house_run.specs.Markets.{IsMarketAt, TriesAs}
 use Rattle.house_run.specs.Needs.{Needs, nothing_needed}
 use Rattle.house_run.specs.Seen.{ShelfSeen}
-
-pub record IsTrialWords (auction values : List ℕ) (workers : ℕ) (words : List (List ℕ)) : Type 0 where
-  pub behind : List (List ℕ)
-  pub options : List (List ℕ)
-  pub words_are : words ≡ codes "trial" ∷ behind
-  pub arguments : AreArguments (codes "trial") behind (auction ∷ values ∷ []) options
-  pub workers_are : IsNumberOption (codes "--workers=") 1 64 1 workers options
 
 abbrev pub trial_needs : List ℕ → List ℕ → Needs
 trial_needs auction values = record nothing_needed { auction = Some auction; values = Some values }

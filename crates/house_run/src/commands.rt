@@ -1,6 +1,7 @@
-//! The commands: a line each here and in `words.rt`, and a file each for their jobs.
-ghost use Rattle.house_run.specs.CommandView.{command_as};
-ghost use Rattle.house_run.specs.Commands.{IsReady, needs_of};
+//! The commands: a line each here and in crate `command_line`, and a file each for their jobs.
+ghost use Rattle.command_line.specs.CommandView.{command_as};
+ghost use Rattle.house_run.specs.Commands.{needs_of};
+ghost use Rattle.command_line.specs.Commands.{IsReady};
 ghost use Rattle.house_run.specs.Ends.{CommandFrame, JobAnswer, end_of};
 ghost use Rattle.house_run.specs.NetEnds.{NetFrame};
 ghost use Rattle.house_run.specs.Nets.{net_seen};
@@ -10,15 +11,14 @@ mod bid;
 mod check;
 mod fold;
 mod make;
+mod migrate;
 mod serve;
 mod settle;
 pub(crate) mod standing;
 mod trials;
 
-use crate::dialling::Bidding;
 use crate::ends::Ended;
-use crate::serving_journals::Serving;
-use crate::words::CommandWords;
+use command_line::CommandWords;
 use house_io::{Net, Shelf};
 use std::alloc::Global;
 use std::sync::Wait;
@@ -57,32 +57,18 @@ pub(crate) fn job<T: Threads + Wait + Sync, H: Shelf, N: Net>(
         CommandWords::Serve {
             auction,
             journals,
-            address,
-            doors,
-            sessions,
-        } => {
-            let serving = Serving {
-                address,
-                doors: *doors,
-                sessions: *sessions,
-            };
-            serve::job(rt, alloc, auction, journals, &serving, shelf, net)
-        }
+            serving,
+        } => serve::job(rt, alloc, auction, journals, serving, shelf, net),
         CommandWords::Bid {
             auction,
             values,
-            bidder,
-            token,
-            address,
-            looks,
-        } => {
-            let bidding = Bidding {
-                bidder: *bidder,
-                token,
-                address,
-                looks: *looks,
-            };
-            bid::job(alloc, auction, values, &bidding, shelf, net)
-        }
+            bidding,
+        } => bid::job(alloc, auction, values, bidding, shelf, net),
+        CommandWords::Migrate {
+            old,
+            journals,
+            new,
+            target,
+        } => migrate::job(alloc, old, journals, new, target, shelf),
     }
 }

@@ -57,6 +57,7 @@ fn plain_line(ended: &Ended) -> Option<&'static [u8]>
         Ended::ReadFault => Some(b"read fault\n"),
         Ended::NetFault => Some(b"net fault\n"),
         Ended::BadReply => Some(b"bad reply\n"),
+        Ended::OtherTerms => Some(b"other terms\n"),
         Ended::TooLong(File::Auction) => Some(b"too long auction\n"),
         Ended::TooLong(File::Log) => Some(b"too long log\n"),
         Ended::TooLong(File::Values) => Some(b"too long values\n"),
@@ -71,7 +72,10 @@ fn plain_line(ended: &Ended) -> Option<&'static [u8]>
         | Ended::BadLog(_)
         | Ended::Refused { .. }
         | Ended::LooksSpent(_)
-        | Ended::NoBidder(_) => None,
+        | Ended::NoBidder(_)
+        | Ended::NotPrefix { .. }
+        | Ended::TargetFull { .. }
+        | Ended::BadTarget { .. } => None,
     }
 }
 
@@ -103,6 +107,9 @@ fn numbered_line(alloc: Global, ended: &Ended) -> Result<String, AllocError>
         } => refused_line(alloc, *code, *detail, *value),
         Ended::LooksSpent(clock) => looks_spent_line(alloc, *clock),
         Ended::NoBidder(bidder) => no_bidder_line(alloc, *bidder),
+        Ended::NotPrefix { clock, number } => not_prefix_line(alloc, *clock, *number),
+        Ended::TargetFull { clock, needed } => target_full_line(alloc, *clock, *needed),
+        Ended::BadTarget { clock, fault } => bad_target_line(alloc, *clock, fault),
         Ended::Done
         | Ended::NoMemory
         | Ended::Usage
@@ -110,6 +117,7 @@ fn numbered_line(alloc: Global, ended: &Ended) -> Result<String, AllocError>
         | Ended::WriteFault
         | Ended::NetFault
         | Ended::BadReply
+        | Ended::OtherTerms
         | Ended::TooLong(_) => unreachable!(),
     }
 }
@@ -184,6 +192,29 @@ fn no_bidder_line(alloc: Global, bidder: u8) -> Result<String, AllocError>
     ensures { IfOk result (λ line. string_bytes line ≡ line_of (how.NoBidder bidder)) }
 {
     let line = format!(in alloc; "no bidder {bidder}\n")?;
+    Ok(line)
+}
+
+fn not_prefix_line(alloc: Global, clock: u8, number: u32) -> Result<String, AllocError>
+    ensures { IfOk result (λ line. string_bytes line ≡ line_of (how.NotPrefix clock number)) }
+{
+    let line = format!(in alloc; "not prefix clock {clock} record {number}\n")?;
+    Ok(line)
+}
+
+fn target_full_line(alloc: Global, clock: u8, needed: u64) -> Result<String, AllocError>
+    ensures { IfOk result (λ line. string_bytes line ≡ line_of (how.TargetFull clock needed)) }
+{
+    let line = format!(in alloc; "target full clock {clock} needed {needed}\n")?;
+    Ok(line)
+}
+
+fn bad_target_line(alloc: Global, clock: u8, fault: &OpenFault) -> Result<String, AllocError>
+    ensures { IfOk result (λ line. string_bytes line ≡ line_of (how.BadTarget clock fault.now)) }
+{
+    let record = record_of(fault);
+    let number = refusal_number(fault);
+    let line = format!(in alloc; "bad target clock {clock} record {record} fault {number}\n")?;
     Ok(line)
 }
 

@@ -2,8 +2,8 @@
 ghost use Rattle.std.specs.Prelude.{◌≡◌, ◌≤◌, IfOk, IfErr, Ok, length};
 ghost use Rattle.bidder_agent.specs.Talks.{Agrees, HasCauseOf};
 ghost use Rattle.trial.specs.Trials.{AreValuationsOf};
-ghost use Rattle.house_run.specs.BidCommand.{IsPlayable};
-ghost use Rattle.house_run.specs.CommandView.{bidding_as};
+ghost use Rattle.command_line.specs.Parts.{IsPlayable};
+ghost use Rattle.command_line.specs.CommandView.{bidding_as};
 ghost use Rattle.house_run.specs.Dialling.{TalksOn, part_in};
 ghost use Rattle.house_run.specs.Nets.{net_seen};
 ghost use Rattle.house_run.specs.Steps.{IsTalkEnd, NetCounts, ended_by, talk_end};
@@ -11,17 +11,9 @@ ghost use Rattle.house_run.specs.Steps.{IsTalkEnd, NetCounts, ended_by, talk_end
 use crate::ends::Ended;
 use crate::markets::Bidders;
 use bidder_agent::{AgentEnd, Seen, Wants, agree};
+use command_line::Bidding;
 use house_io::{Link, Net, Refusal};
 use std::alloc::Global;
-
-/// Which bidder's part is taken, with which token, where a link is dialled, and how many equal looks at a clock in a row are borne.
-#[derive(Clone, Copy)]
-pub(crate) struct Bidding<'a> {
-    pub bidder: u8,
-    pub token: &'a str,
-    pub address: &'a str,
-    pub looks: u32,
-}
 
 /// Dials a link, takes the bidder's part over it, and hangs it up.
 pub(crate) fn talk<N: Net>(

@@ -81,6 +81,23 @@ pub enum Ended {
     BadReply,
     /// The auction has no bidder of this number.
     NoBidder(u8),
+    /// The auction can't go on under the other file: its terms, names or tokens differ, or a good does not open at 0.
+    OtherTerms,
+    /// The target of this clock, the first such one, is no front of its journal: this is the first record that differs or is too many.
+    NotPrefix {
+        clock: u8,
+        number: u32,
+    },
+    /// The next record of this clock's target would end behind the limit of a file.
+    TargetFull {
+        clock: u8,
+        needed: u64,
+    },
+    /// This clock's target is refused, the first one that is.
+    BadTarget {
+        clock: u8,
+        fault: OpenFault,
+    },
 }
 
 impl Ended {
@@ -109,6 +126,10 @@ impl Ended {
             Ended::LooksSpent(_) => 17,
             Ended::BadReply => 18,
             Ended::NoBidder(_) => 19,
+            Ended::OtherTerms => 20,
+            Ended::NotPrefix { .. } => 21,
+            Ended::TargetFull { .. } => 22,
+            Ended::BadTarget { .. } => 23,
         }
     }
 }

@@ -3,7 +3,7 @@ ghost use Rattle.std.specs.Prelude.{◌≡◌, ◌≤◌, ◌<◌, ℕ, List, le
 ghost use Rattle.house_io.specs.Faults.{Rose};
 ghost use Rattle.house_io.specs.Shelves.{IfTells, with_name};
 ghost use Rattle.auction_file.specs.Listing.{listing_of};
-ghost use Rattle.house_run.specs.Logs.{AreBytes};
+ghost use Rattle.report_log.specs.Logs.{AreBytes};
 ghost use Rattle.house_run.specs.Reading.{IsAuctionOf};
 ghost use Rattle.house_run.specs.Seen.{IsAuctionAt, content, outside, shelf_seen};
 ghost use Rattle.house_run.specs.Markets.{HasValues};

@@ -7,7 +7,7 @@ ghost use Rattle.house_run.specs.Frame.{Frame};
 ghost use Rattle.house_run.specs.Markets.{IsMarketAt, TriesAs, market_bidders};
 ghost use Rattle.house_run.specs.Seen.{outside, shelf_seen};
 ghost use Rattle.house_run.specs.BidCommand.{bid_needs};
-ghost use Rattle.house_run.specs.Needs.{Bidding};
+ghost use Rattle.command_line.specs.Parts.{Bidding};
 ghost use Rattle.house_run.specs.Steps.{IsTrialEnd, LeavesSo, StopsBidding, end_by};
 ghost use Rattle.house_run.specs.TrialCommand.{trial_needs};
 ghost use Rattle.house_run.specs.declared.ends.Ended.{Ended as End};

@@ -1,19 +1,19 @@
 //! The top call.
 ghost use Rattle.std.specs.Prelude.{◌≡◌, ℕ, All, List, Some};
 ghost use Rattle.house_io.specs.Shelves.{NamedFile};
-ghost use Rattle.house_run.specs.Words.{IsPlainWord, words_of};
-ghost use Rattle.house_run.specs.CommandView.{command_as};
-ghost use Rattle.house_run.specs.Commands.{Command, IsJoined, IsParted, IsReady, Spells, needs_of};
+ghost use Rattle.command_line.specs.Words.{IsPlainWord, words_of};
+ghost use Rattle.command_line.specs.CommandView.{command_as};
+ghost use Rattle.house_run.specs.Commands.{needs_of};
+ghost use Rattle.command_line.specs.Commands.{Command, IsJoined, IsParted, IsReady, Spells};
 ghost use Rattle.house_run.specs.Ends.{RunEnds, CommandEnds, NothingFailed, AreGood, IsDoneOrNoMemory, as_seen};
 ghost use Rattle.house_run.specs.Nets.{net_seen};
-ghost use Rattle.house_run.specs.Positionals.{texts};
+ghost use Rattle.command_line.specs.Positionals.{texts};
 ghost use Rattle.house_run.specs.Seen.{outside, sink_seen};
 
-use crate::arguments::{Joined, Parted, join_words, part_words};
 use crate::commands::job;
 use crate::delivery::{answer_usage, deliver, deliver_line};
 use crate::ends::Ended;
-use crate::words::{CommandWords, read_words};
+use command_line::{CommandWords, Joined, Parted, join_words, part_words, read_words};
 use house_io::{Net, Shelf, Sink};
 use lot_base::NoMemory;
 use std::alloc::Global;

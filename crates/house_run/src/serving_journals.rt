@@ -1,9 +1,9 @@
 //! Serving an auction on the journals of its clocks.
 ghost use Rattle.std.specs.Prelude.{◌≡◌, ◌≤◌};
-ghost use Rattle.house_run.specs.CommandView.{serving_as};
+ghost use Rattle.command_line.specs.CommandView.{serving_as};
 ghost use Rattle.house_run.specs.Nets.{net_seen};
 ghost use Rattle.house_run.specs.Seen.{shelf_seen};
-ghost use Rattle.house_run.specs.ServeCommand.{IsServable};
+ghost use Rattle.command_line.specs.Parts.{IsServable};
 ghost use Rattle.house_run.specs.Serving.{ServesJournals};
 
 use crate::disks::{close_journals, journal_names, open_journals};
@@ -11,18 +11,11 @@ use crate::ends::Ended;
 use crate::hosting::{Hosted, host};
 use crate::house::end_at;
 use auction_file::Auction;
+use command_line::Serving;
 use house_io::{Net, Shelf};
 use std::alloc::Global;
 use std::sync::Wait;
 use std::thread::Threads;
-
-/// Where an auction is served: at so many doors on an address, for so many sessions at each.
-#[derive(Clone, Copy)]
-pub(crate) struct Serving<'a> {
-    pub address: &'a str,
-    pub doors: u32,
-    pub sessions: u32,
-}
 
 /// Opens the journals of an auction's clocks, serves the auction on them, and gives them back.
 pub(crate) fn serve_journals<T: Threads + Wait + Sync, H: Shelf, N: Net>(

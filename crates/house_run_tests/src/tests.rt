@@ -145,6 +145,21 @@ fn ends_have_their_numbers(rt: HostRuntime) {
         (Ended::LooksSpent(0), 17),
         (Ended::BadReply, 18),
         (Ended::NoBidder(3), 19),
+        (Ended::OtherTerms, 20),
+        (
+            Ended::NotPrefix {
+                clock: 0,
+                number: 1,
+            },
+            21,
+        ),
+        (
+            Ended::TargetFull {
+                clock: 0,
+                needed: 67_108_865,
+            },
+            22,
+        ),
     ] {
         assert_eq!(rt; ended.status(), status, "{ended:?}");
     }

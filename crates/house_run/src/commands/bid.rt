@@ -1,19 +1,21 @@
 //! The command `bid`: an agent takes the part of a bidder over a link.
 ghost use Rattle.std.specs.Prelude.{◌≡◌, IfOk};
 ghost use Rattle.std.specs.List.{flat_map};
-ghost use Rattle.house_run.specs.BidCommand.{IsPlayable, bid_needs, look_line};
-ghost use Rattle.house_run.specs.CommandView.{bidding_as};
-ghost use Rattle.house_run.specs.Commands.{Bid};
+ghost use Rattle.house_run.specs.BidCommand.{bid_needs, look_line};
+ghost use Rattle.command_line.specs.Parts.{IsPlayable};
+ghost use Rattle.command_line.specs.CommandView.{bidding_as};
+ghost use Rattle.command_line.specs.Commands.{Bid};
 ghost use Rattle.house_run.specs.Ends.{JobAnswer, end_of};
 ghost use Rattle.house_run.specs.Frame.{Frame};
 ghost use Rattle.house_run.specs.NetEnds.{NetFrame};
 ghost use Rattle.house_run.specs.Nets.{net_seen};
 ghost use Rattle.house_run.specs.Seen.{outside};
 
-use crate::dialling::{Bidding, talk};
+use crate::dialling::talk;
 use crate::ends::Ended;
 use crate::markets::read_bidders;
 use bidder_agent::SeenLook;
+use command_line::Bidding;
 use house_io::{Net, Shelf};
 use lot_base::NoMemory;
 use outcome_text::write_standing;

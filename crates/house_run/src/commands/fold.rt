@@ -6,10 +6,11 @@ ghost use Rattle.house_run.specs.Frame.{Frame};
 ghost use Rattle.house_run.specs.Seen.{outside};
 
 use crate::ends::{Ended, File};
-use crate::pieces::{LogFault, read_log};
+use crate::logs::read_log;
 use house_io::Shelf;
 use lot_base::{NoMemory, Terms};
 use outcome_text::write_standing;
+use report_log::LogFault;
 use std::alloc::Global;
 
 /// The standing line of the clock of all bidders after a log, or why there is none.

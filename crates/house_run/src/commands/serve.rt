@@ -1,16 +1,18 @@
 //! The command `serve`: an auction is served to its bidders.
-ghost use Rattle.house_run.specs.Commands.{Serve};
+ghost use Rattle.command_line.specs.Commands.{Serve};
 ghost use Rattle.house_run.specs.Ends.{CommandFrame, JobAnswer, end_of};
 ghost use Rattle.house_run.specs.NetEnds.{NetFrame};
 ghost use Rattle.house_run.specs.Nets.{net_seen};
 ghost use Rattle.house_run.specs.Seen.{outside};
-ghost use Rattle.house_run.specs.ServeCommand.{IsServable, serve_needs};
-ghost use Rattle.house_run.specs.CommandView.{serving_as};
+ghost use Rattle.house_run.specs.ServeCommand.{serve_needs};
+ghost use Rattle.command_line.specs.Parts.{IsServable};
+ghost use Rattle.command_line.specs.CommandView.{serving_as};
 
 use crate::ends::Ended;
 use crate::files::read_auction;
 use crate::serve_texts::serve_text;
-use crate::serving_journals::{Serving, serve_journals};
+use crate::serving_journals::serve_journals;
+use command_line::Serving;
 use house_io::{Net, Shelf};
 use lot_base::NoMemory;
 use std::alloc::Global;

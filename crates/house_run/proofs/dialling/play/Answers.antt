@@ -1,4 +1,4 @@
-use Rattle.house_run.specs.CommandView.{bidding_as}
+use Rattle.command_line.specs.CommandView.{bidding_as}
 use Rattle.house_run.proofs.Talking.{plays-as}
 use Rattle.house_run.proofs.dialling.play.Goals as goal
 

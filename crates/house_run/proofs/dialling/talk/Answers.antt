@@ -1,6 +1,6 @@
 -- A link is dialled, the part is played over it, and it is hung up.
 use Rattle.std.proofs.Common.{subst, sym}
-use Rattle.house_run.specs.CommandView.{bidding_as}
+use Rattle.command_line.specs.CommandView.{bidding_as}
 use Rattle.house_run.specs.Dialling.{part_in}
 use Rattle.house_run.specs.Nets.{net_seen}
 use Rattle.house_run.specs.Steps.{IsTalkEnd}

@@ -1,5 +1,5 @@
 -- A job that was done has its text written, and another one the line of its end.
-use Rattle.house_run.specs.CommandView.{command_as}
+use Rattle.command_line.specs.CommandView.{command_as}
 use Rattle.house_run.specs.Nets.{net_seen}
 use Rattle.house_run.specs.Seen.{outside}
 use Rattle.house_run.proofs.Telling.{job-done, job-ends}

@@ -1,5 +1,5 @@
 use Rattle.std.proofs.Common.{inr, refl}
-use Rattle.house_run.proofs.PlainWords.{joined-parted, may-be}
+use Rattle.command_line.proofs.PlainWords.{joined-parted, may-be}
 use Rattle.house_run.proofs.runs.run_joined.Goals as goal
 
 pub run_parted-requires-clause-some : goal.run_parted-requires-clause-some

@@ -1,5 +1,5 @@
-use Rattle.house_run.specs.CommandView.{command_as}
-use Rattle.house_run.proofs.PlainWords.{spelled-ready}
+use Rattle.command_line.specs.CommandView.{command_as}
+use Rattle.command_line.proofs.PlainWords.{spelled-ready}
 use Rattle.house_run.proofs.runs.run_parted.Goals as goal
 
 pub run_command-requires-clause-ready : goal.run_command-requires-clause-ready

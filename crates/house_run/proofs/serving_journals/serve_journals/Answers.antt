@@ -2,7 +2,7 @@
 use Rattle.std.proofs.Common.{◌≡◌, ◌∙◌, ◌+◌, ℕ, List, length, ap, subst, sym, option_map}
 use Rattle.std.specs.Prelude.{String}
 use Rattle.std.specs.declared.alloc.Global.{Global}
-use Rattle.house_run.specs.CommandView.{serving_as}
+use Rattle.command_line.specs.CommandView.{serving_as}
 use Rattle.house_run.specs.Disks.{AreNames, AreNotOpen, AreOpened}
 use Rattle.house_run.specs.Nets.{net_seen, net_view}
 use Rattle.house_run.specs.Seen.{shelf_seen}

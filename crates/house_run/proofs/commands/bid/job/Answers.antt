@@ -2,7 +2,7 @@
 use Rattle.std.proofs.Common.{◌∙◌, ap, refl}
 use Rattle.std.specs.List.{flat_map}
 use Rattle.house_run.specs.BidCommand.{look_line}
-use Rattle.house_run.specs.CommandView.{bidding_as}
+use Rattle.command_line.specs.CommandView.{bidding_as}
 use Rattle.house_run.specs.Dialling.{PlaysIn, part_in}
 use Rattle.house_run.specs.Nets.{net_seen}
 use Rattle.house_run.specs.Seen.{outside}

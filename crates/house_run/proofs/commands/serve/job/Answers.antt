@@ -1,7 +1,7 @@
 -- The auction is read, and then served on its journals.
 use Rattle.std.proofs.Common.{◌∙◌, map, refl}
 use Rattle.clock.specs.Reports.{histories}
-use Rattle.house_run.specs.CommandView.{serving_as}
+use Rattle.command_line.specs.CommandView.{serving_as}
 use Rattle.house_run.specs.Nets.{net_seen}
 use Rattle.house_run.specs.Seen.{outside, shelf_seen}
 use Rattle.house_run.specs.ServeTexts.{serve_text}

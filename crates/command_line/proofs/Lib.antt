@@ -1,0 +1,12 @@
+pub mod Decimals
+pub mod Commas
+pub mod Slots
+pub mod Making
+pub mod Walking
+pub mod Taking
+pub mod OptionWords
+pub mod Parting
+pub mod PlainWords
+pub mod CommandKinds
+pub mod NamedWords
+pub mod Once

@@ -1,0 +1,9 @@
+pub mod Numerals
+pub mod Words
+pub mod Positionals
+pub mod Arguments
+pub mod Parts
+pub mod Spellings
+pub mod Commands
+pub mod CommandView
+pub mod Givens

@@ -1,0 +1,449 @@
+//! Reading the words of the command line.
+ghost use Rattle.std.specs.Prelude.{◌≡◌, ◌<◌, ◌≤◌, ◌∷◌, ◌++◌, ◌⊎◌, ◌==◌, false, [], ℕ, List, codes, decimal, map, length, IfOk, IfSome, IfNone, IsSome, IsTrue, Some, ◌↔◌, All, string_bytes};
+ghost use Rattle.std.specs.List.{list_all, slice_split, AllByRecursion};
+ghost use Rattle.command_line.specs.Words.{IsPlainWord, comma_list, words_of};
+ghost use Rattle.clap.specs.Words.{first_value, found_of};
+ghost use Rattle.lot_base.specs.Goods.{IsRange, IsSupply};
+ghost use Rattle.command_line.specs.Givens.{IsBidOf, IsMigrateOf, bid_ids, migrate_ids};
+ghost use Rattle.command_line.specs.Commands.{IsNoCommand, IsParted, Spells};
+ghost use Rattle.command_line.specs.Positionals.{texts};
+ghost use Rattle.command_line.specs.Spellings.{AreTermWords};
+ghost use Rattle.command_line.specs.CommandView.{command_as};
+ghost use Rattle.lot_base.specs.declared.auction_terms.Terms.{Terms as TermsValue};
+
+use crate::arguments::Parted;
+use crate::digits::read_number;
+use crate::options::{flag_of, number_of};
+use crate::positionals::{named_words, word_of};
+use clap::ArgMatches;
+use lot_base::limits::{GREATEST_CEILING, LEAST_CEILING, MOST_BIDDERS, MOST_GOODS};
+use lot_base::{Goods, NoMemory, Terms};
+use std::alloc::Global;
+
+/// A token has at most so many bytes.
+const LONGEST_TOKEN: usize = 64;
+
+/// Where an auction is served: at so many doors on an address, for so many sessions at each.
+#[derive(Clone, Copy)]
+pub struct Serving<'a> {
+    pub address: &'a str,
+    pub doors: u32,
+    pub sessions: u32,
+}
+
+/// The part of a bidder, and where his agent dials.
+#[derive(Clone, Copy)]
+pub struct Bidding<'a> {
+    pub bidder: u8,
+    pub token: &'a str,
+    pub address: &'a str,
+    /// How many equal looks at a clock, in a row, are borne.
+    pub looks: u32,
+}
+
+/// The words of a command.
+#[derive(Clone, Copy)]
+pub enum CommandWords<'a> {
+    /// One clock over a log.
+    Fold {
+        terms: Terms,
+        log: &'a str,
+    },
+    /// What an auction file says.
+    Check {
+        auction: &'a str,
+    },
+    /// How the clocks of an auction stand.
+    Standing {
+        auction: &'a str,
+        journals: &'a str,
+    },
+    /// What the clocks of an auction settle.
+    Settle {
+        auction: &'a str,
+        journals: &'a str,
+        json: bool,
+    },
+    /// What the clocks of an auction settle, told by bidders with valuations.
+    Trial {
+        auction: &'a str,
+        values: &'a str,
+        workers: u32,
+    },
+    /// The same of a market that a number makes.
+    Make {
+        number: u32,
+        workers: u32,
+    },
+    /// An auction is opened to its bidders.
+    Serve {
+        auction: &'a str,
+        journals: &'a str,
+        serving: Serving<'a>,
+    },
+    /// An agent takes the part of a bidder.
+    Bid {
+        auction: &'a str,
+        values: &'a str,
+        bidding: Bidding<'a>,
+    },
+    /// The journals of an auction are carried to another file of it.
+    Migrate {
+        old: &'a str,
+        journals: &'a str,
+        new: &'a str,
+        target: &'a str,
+    },
+}
+
+/// The command that the parted words are, if they are one.
+pub fn read_words<'a>(
+    alloc: Global,
+    parted: &'a Parted,
+) -> Result<Option<CommandWords<'a>>, NoMemory>
+    requires { All (λ word. IsPlainWord word.now) parted.now.plain.items }
+    ensures some { IfOk result (λ o. IfSome o (λ command. (words : List (List ℕ)) → IsParted words parted.entry.now.name.now (texts parted.entry.now.plain.items) (texts parted.entry.now.options.items) → Spells (command_as command) words)) }
+    ensures none { IfOk result (λ o. IfNone o ((words : List (List ℕ)) → IsParted words parted.entry.now.name.now (texts parted.entry.now.plain.items) (texts parted.entry.now.options.items) → IsNoCommand words)) }
+{
+    let plain = parted.plain.as_slice();
+    let options = parted.options.as_slice();
+    match parted.name {
+        "fold" => read_fold(alloc, plain),
+        "check" => read_check(alloc, plain),
+        "standing" => read_standing(alloc, plain),
+        "settle" => read_settle(alloc, plain, options),
+        "trial" => read_trial(alloc, plain, options),
+        "make" => read_make(alloc, plain, options),
+        "serve" => read_serve(alloc, plain, options),
+        "bid" => read_bid(alloc, plain, options),
+        "migrate" => read_migrate(alloc, plain),
+        _ => Ok(None),
+    }
+}
+
+/// The command `fold` of the words behind its name.
+fn read_fold<'a>(alloc: Global, words: &'a [&'a str]) -> Result<Option<CommandWords<'a>>, NoMemory>
+    requires { All (λ word. IsPlainWord word.now) words.now }
+    ensures some { IfOk result (λ o. IfSome o (λ command. Spells (command_as command) (codes "fold" ∷ texts words.entry.now))) }
+    ensures none { IfOk result (λ o. IfNone o (IsNoCommand (codes "fold" ∷ texts words.entry.now))) }
+{
+    let names = ["SUPPLY", "BIDDERS", "CEILING", "LOG"];
+    let matches = match named_words(alloc, "fold", &names, words) {
+        Ok(Some(matches)) => matches,
+        Ok(None) => return Ok(None),
+        Err(NoMemory) => return Err(NoMemory),
+    };
+    let supply = word_of(&matches, "SUPPLY");
+    let bidders = word_of(&matches, "BIDDERS");
+    let ceiling = word_of(&matches, "CEILING");
+    match read_terms(alloc, supply, bidders, ceiling)? {
+        Some(terms) => Ok(Some(CommandWords::Fold {
+            terms,
+            log: word_of(&matches, "LOG"),
+        })),
+        None => Ok(None),
+    }
+}
+
+/// The command `check` of the words behind its name.
+fn read_check<'a>(alloc: Global, words: &'a [&'a str]) -> Result<Option<CommandWords<'a>>, NoMemory>
+    requires { All (λ word. IsPlainWord word.now) words.now }
+    ensures some { IfOk result (λ o. IfSome o (λ command. Spells (command_as command) (codes "check" ∷ texts words.entry.now))) }
+    ensures none { IfOk result (λ o. IfNone o (IsNoCommand (codes "check" ∷ texts words.entry.now))) }
+{
+    match named_words(alloc, "check", &["AUCTION"], words) {
+        Ok(Some(matches)) => Ok(Some(CommandWords::Check {
+            auction: word_of(&matches, "AUCTION"),
+        })),
+        Ok(None) => Ok(None),
+        Err(NoMemory) => Err(NoMemory),
+    }
+}
+
+/// The command `standing` of the words behind its name.
+fn read_standing<'a>(
+    alloc: Global,
+    words: &'a [&'a str],
+) -> Result<Option<CommandWords<'a>>, NoMemory>
+    requires { All (λ word. IsPlainWord word.now) words.now }
+    ensures some { IfOk result (λ o. IfSome o (λ command. Spells (command_as command) (codes "standing" ∷ texts words.entry.now))) }
+    ensures none { IfOk result (λ o. IfNone o (IsNoCommand (codes "standing" ∷ texts words.entry.now))) }
+{
+    match named_words(alloc, "standing", &["AUCTION", "JOURNALS"], words) {
+        Ok(Some(matches)) => Ok(Some(CommandWords::Standing {
+            auction: word_of(&matches, "AUCTION"),
+            journals: word_of(&matches, "JOURNALS"),
+        })),
+        Ok(None) => Ok(None),
+        Err(NoMemory) => Err(NoMemory),
+    }
+}
+
+/// The command `settle` of the plain words and the options behind its name.
+fn read_settle<'a>(
+    alloc: Global,
+    words: &'a [&'a str],
+    options: &[&str],
+) -> Result<Option<CommandWords<'a>>, NoMemory>
+    requires { All (λ word. IsPlainWord word.now) words.now }
+    ensures some { IfOk result (λ o. IfSome o (λ command. (line : List (List ℕ)) → IsParted line (codes "settle") (texts words.entry.now) (texts options.now) → Spells (command_as command) line)) }
+    ensures none { IfOk result (λ o. IfNone o ((line : List (List ℕ)) → IsParted line (codes "settle") (texts words.entry.now) (texts options.now) → IsNoCommand line)) }
+{
+    let json = match flag_of(options, "--json") {
+        Some(json) => json,
+        None => return Ok(None),
+    };
+    match named_words(alloc, "settle", &["AUCTION", "JOURNALS"], words) {
+        Ok(Some(matches)) => Ok(Some(CommandWords::Settle {
+            auction: word_of(&matches, "AUCTION"),
+            journals: word_of(&matches, "JOURNALS"),
+            json,
+        })),
+        Ok(None) => Ok(None),
+        Err(NoMemory) => Err(NoMemory),
+    }
+}
+
+/// The command `trial` of the plain words and the options behind its name.
+fn read_trial<'a>(
+    alloc: Global,
+    words: &'a [&'a str],
+    options: &[&str],
+) -> Result<Option<CommandWords<'a>>, NoMemory>
+    requires { All (λ word. IsPlainWord word.now) words.now }
+    ensures some { IfOk result (λ o. IfSome o (λ command. (line : List (List ℕ)) → IsParted line (codes "trial") (texts words.entry.now) (texts options.now) → Spells (command_as command) line)) }
+    ensures none { IfOk result (λ o. IfNone o ((line : List (List ℕ)) → IsParted line (codes "trial") (texts words.entry.now) (texts options.now) → IsNoCommand line)) }
+{
+    let workers = match number_of(options, "--workers=", 1, 64, 1) {
+        Some(workers) => workers,
+        None => return Ok(None),
+    };
+    match named_words(alloc, "trial", &["AUCTION", "VALUES"], words) {
+        Ok(Some(matches)) => Ok(Some(CommandWords::Trial {
+            auction: word_of(&matches, "AUCTION"),
+            values: word_of(&matches, "VALUES"),
+            workers,
+        })),
+        Ok(None) => Ok(None),
+        Err(NoMemory) => Err(NoMemory),
+    }
+}
+
+/// The command `make` of the plain words and the options behind its name.
+fn read_make<'a>(
+    alloc: Global,
+    words: &'a [&'a str],
+    options: &[&str],
+) -> Result<Option<CommandWords<'a>>, NoMemory>
+    requires { All (λ word. IsPlainWord word.now) words.now }
+    ensures some { IfOk result (λ o. IfSome o (λ command. (line : List (List ℕ)) → IsParted line (codes "make") (texts words.entry.now) (texts options.now) → Spells (command_as command) line)) }
+    ensures none { IfOk result (λ o. IfNone o ((line : List (List ℕ)) → IsParted line (codes "make") (texts words.entry.now) (texts options.now) → IsNoCommand line)) }
+{
+    let workers = match number_of(options, "--workers=", 1, 64, 1) {
+        Some(workers) => workers,
+        None => return Ok(None),
+    };
+    match named_words(alloc, "make", &["NUMBER"], words) {
+        Ok(Some(matches)) => match read_number(word_of(&matches, "NUMBER"), 0, u32::MAX) {
+            Some(number) => Ok(Some(CommandWords::Make { number, workers })),
+            None => Ok(None),
+        },
+        Ok(None) => Ok(None),
+        Err(NoMemory) => Err(NoMemory),
+    }
+}
+
+/// The command `serve` of the plain words and the options behind its name.
+fn read_serve<'a>(
+    alloc: Global,
+    words: &'a [&'a str],
+    options: &[&str],
+) -> Result<Option<CommandWords<'a>>, NoMemory>
+    requires { All (λ word. IsPlainWord word.now) words.now }
+    ensures some { IfOk result (λ o. IfSome o (λ command. (line : List (List ℕ)) → IsParted line (codes "serve") (texts words.entry.now) (texts options.now) → Spells (command_as command) line)) }
+    ensures none { IfOk result (λ o. IfNone o ((line : List (List ℕ)) → IsParted line (codes "serve") (texts words.entry.now) (texts options.now) → IsNoCommand line)) }
+{
+    let doors = match number_of(options, "--doors=", 1, 64, 4) {
+        Some(doors) => doors,
+        None => return Ok(None),
+    };
+    let sessions = match number_of(options, "--sessions=", 1, 10_000, 1) {
+        Some(sessions) => sessions,
+        None => return Ok(None),
+    };
+    match named_words(alloc, "serve", &["AUCTION", "JOURNALS", "ADDRESS"], words) {
+        Ok(Some(matches)) => Ok(Some(CommandWords::Serve {
+            auction: word_of(&matches, "AUCTION"),
+            journals: word_of(&matches, "JOURNALS"),
+            serving: Serving {
+                address: word_of(&matches, "ADDRESS"),
+                doors,
+                sessions,
+            },
+        })),
+        Ok(None) => Ok(None),
+        Err(NoMemory) => Err(NoMemory),
+    }
+}
+
+/// The command `bid` of the plain words and the options behind its name.
+fn read_bid<'a>(
+    alloc: Global,
+    words: &'a [&'a str],
+    options: &[&str],
+) -> Result<Option<CommandWords<'a>>, NoMemory>
+    requires { All (λ word. IsPlainWord word.now) words.now }
+    ensures some { IfOk result (λ o. IfSome o (λ command. (line : List (List ℕ)) → IsParted line (codes "bid") (texts words.entry.now) (texts options.now) → Spells (command_as command) line)) }
+    ensures none { IfOk result (λ o. IfNone o ((line : List (List ℕ)) → IsParted line (codes "bid") (texts words.entry.now) (texts options.now) → IsNoCommand line)) }
+{
+    let looks = match number_of(options, "--looks=", 1, 1_000_000_000, 100_000) {
+        Some(looks) => looks,
+        None => return Ok(None),
+    };
+    let names = ["AUCTION", "VALUES", "BIDDER", "TOKEN", "ADDRESS"];
+    match named_words(alloc, "bid", &names, words) {
+        Ok(Some(matches)) => Ok(bid_of(&matches, looks)),
+        Ok(None) => Ok(None),
+        Err(NoMemory) => Err(NoMemory),
+    }
+}
+
+/// The command `bid` of its words, if the bidder is one of 1 to 12 and the token has 1 to 64 bytes.
+fn bid_of<'a>(matches: &ArgMatches<'a>, looks: u32) -> Option<CommandWords<'a>>
+    requires { AllByRecursion (λ id. IsSome (first_value (found_of matches.now) id)) bid_ids }
+    ensures some { IfSome result (λ command. IsBidOf (found_of matches.now) looks (command_as command)) }
+    ensures none { IfNone result ((bidder : ℕ) (token : List ℕ) → IsRange 1 12 bidder → IsRange 1 64 (length token) → first_value (found_of matches.now) (codes "BIDDER") ≡ Some (decimal bidder) → first_value (found_of matches.now) (codes "TOKEN") ≡ Some token → ⊥) }
+{
+    let bidder = match read_number(word_of(matches, "BIDDER"), 1, MOST_BIDDERS as u32) {
+        Some(bidder) => bidder as u8,
+        None => return None,
+    };
+    let token = word_of(matches, "TOKEN");
+    if token.is_empty() || token.len() > LONGEST_TOKEN {
+        return None;
+    }
+    Some(CommandWords::Bid {
+        auction: word_of(matches, "AUCTION"),
+        values: word_of(matches, "VALUES"),
+        bidding: Bidding {
+            bidder,
+            token,
+            address: word_of(matches, "ADDRESS"),
+            looks,
+        },
+    })
+}
+
+/// The command `migrate` of the words behind its name.
+fn read_migrate<'a>(
+    alloc: Global,
+    words: &'a [&'a str],
+) -> Result<Option<CommandWords<'a>>, NoMemory>
+    requires { All (λ word. IsPlainWord word.now) words.now }
+    ensures some { IfOk result (λ o. IfSome o (λ command. Spells (command_as command) (codes "migrate" ∷ texts words.entry.now))) }
+    ensures none { IfOk result (λ o. IfNone o (IsNoCommand (codes "migrate" ∷ texts words.entry.now))) }
+{
+    let names = ["OLD", "JOURNALS", "NEW", "TARGET"];
+    match named_words(alloc, "migrate", &names, words) {
+        Ok(Some(matches)) => Ok(migrate_of(&matches)),
+        Ok(None) => Ok(None),
+        Err(NoMemory) => Err(NoMemory),
+    }
+}
+
+/// The command `migrate` of its words, if the journals that are read are not those that are written.
+fn migrate_of<'a>(matches: &ArgMatches<'a>) -> Option<CommandWords<'a>>
+    requires { AllByRecursion (λ id. IsSome (first_value (found_of matches.now) id)) migrate_ids }
+    ensures some { IfSome result (λ command. IsMigrateOf (found_of matches.now) (command_as command)) }
+    ensures none { IfNone result ((word : List ℕ) × (first_value (found_of matches.now) (codes "JOURNALS") ≡ Some word) × (first_value (found_of matches.now) (codes "TARGET") ≡ Some word)) }
+{
+    let journals = word_of(matches, "JOURNALS");
+    let target = word_of(matches, "TARGET");
+    if journals == target {
+        return None;
+    }
+    Some(CommandWords::Migrate {
+        old: word_of(matches, "OLD"),
+        journals,
+        new: word_of(matches, "NEW"),
+        target,
+    })
+}
+
+/// The terms that these words give.
+fn read_terms(
+    alloc: Global,
+    supply: &str,
+    bidders: &str,
+    ceiling: &str,
+) -> Result<Option<Terms>, NoMemory>
+    ensures some { IfOk result (λ o. IfSome o (λ terms. AreTermWords terms supply.now bidders.now ceiling.now)) }
+    ensures none { IfOk result (λ o. IfNone o ((terms : TermsValue) → AreTermWords terms supply.now bidders.now ceiling.now → ⊥)) }
+{
+    match (
+        read_goods(alloc, supply)?,
+        read_number(bidders, 1, MOST_BIDDERS as u32),
+        read_number(ceiling, LEAST_CEILING, GREATEST_CEILING),
+    ) {
+        (Some(goods), Some(bidders), Some(ceiling)) => {
+            match Terms::new(goods, bidders as u8, ceiling) {
+                Ok(terms) => Ok(Some(terms)),
+                Err(_) => Ok(None),
+            }
+        }
+        _ => Ok(None),
+    }
+}
+
+/// The goods whose supplies a word lists, joined by commas.
+fn read_goods(alloc: Global, word: &str) -> Result<Option<Goods>, NoMemory>
+    ensures some { IfOk result (λ o. IfSome o (λ goods. word.now ≡ comma_list goods)) }
+    ensures none { IfOk result (λ o. IfNone o ((supply : List ℕ) → IsSupply supply → word.now ≡ comma_list supply → ⊥)) }
+{
+    match read_supplies(alloc, word)? {
+        None => Ok(None),
+        Some(supplies) => match Goods::new(&supplies) {
+            Ok(goods) => Ok(Some(goods)),
+            Err(_) => Ok(None),
+        },
+    }
+}
+
+/// The supplies that a word lists, joined by commas: at most six numbers from 1 to 2,047.
+fn read_supplies(alloc: Global, word: &str) -> Result<Option<Vec<u16>>, NoMemory>
+    ensures some { IfOk result (λ o. IfSome o (λ v. map decimal v.items ≡ slice_split (λ b. b == 44) word.now)) }
+    ensures small { IfOk result (λ o. IfSome o (λ v. AllByRecursion (λ n. n ≤ 2047) v.items)) }
+    ensures none { IfOk result (λ o. IfNone o ((supply : List ℕ) → IsSupply supply → word.now ≡ comma_list supply → ⊥)) }
+{
+    let mut supplies = Vec::new(alloc);
+    let mut rest = word;
+    while let Some((piece, behind)) = rest.split_once(',') {
+        if !read_supply(&mut supplies, piece)? {
+            return Ok(None);
+        }
+        rest = behind;
+    }
+    if !read_supply(&mut supplies, rest)? {
+        return Ok(None);
+    }
+    Ok(Some(supplies))
+}
+
+/// Adds the supply that a piece of the list is, and says whether it is one and there was room for it.
+fn read_supply(supplies: &mut Vec<u16>, piece: &str) -> Result<bool, NoMemory>
+    requires { AllByRecursion (λ n. n ≤ 2047) supplies.old.items }
+    ensures read { IfOk result (λ b. IsTrue b → (units : ℕ) × (piece.now ≡ decimal units) × (supplies.new.items ≡ supplies.old.items ++ units ∷ [])) }
+    ensures small { IfOk result (λ _. AllByRecursion (λ n. n ≤ 2047) supplies.new.items) }
+    ensures refused { IfOk result (λ b. b ≡ false → (6 ≤ length supplies.old.items) ⊎ ((units : ℕ) → 1 ≤ units → units ≤ 2047 → piece.now ≡ decimal units → ⊥)) }
+{
+    if supplies.len() >= MOST_GOODS {
+        return Ok(false);
+    }
+    match read_number(piece, 1, 2047) {
+        Some(units) => {
+            supplies.push(units as u16)?;
+            Ok(true)
+        }
+        None => Ok(false),
+    }
+}

@@ -1,0 +1,254 @@
+-- The targets of a migration are opened, the reports are moved to them, and they are given back.
+use Rattle.std.proofs.Common.{◌≡◌, ◌∙◌, ◌<◌, ◌≤◌, ◌+◌, ℕ, Bool, IsTrue, List, [], length, get_or, Option, Some, None, Result, Ok, Err, arith, inl, inr, refl, sym, ap, subst}
+use Rattle.std.proofs.lemmas.List.Elements.{All-from_recursion}
+use Rattle.house_io.specs.Faults.{Rose}
+use Rattle.house_io.specs.Moments.{Moments}
+use Rattle.house_io.specs.Shelves.{NamedFile, IfTells, IfWasTold, moments_at}
+use Rattle.lot_base.specs.declared.auction_terms.Terms.{Terms}
+use Rattle.auction_file.specs.declared.listing.Auction.{Auction}
+use Rattle.clock.specs.Reports.{ClockHistory}
+use Rattle.recovery.specs.Journaled.{owner_of}
+use Rattle.clock_book.specs.Opening.{IsOpening, StandsForHistory, history_of}
+use Rattle.clock_book.specs.declared.faults.OpenFault.{OpenFault}
+use Rattle.clock_book.specs.declared.faults.OpenFault.TheVariants as why
+use Rattle.clock_book.proofs.OneAnswer.{one-answer}
+use Rattle.migration.specs.Moving.{IsFront, IsMoved, IsNoFrontAt, LeavesTarget}
+use Rattle.migration.specs.Moves.{HasMoveCause, IsNotFront, IsNotOpened, Moves, TellsFaultOf}
+use Rattle.migration.specs.declared.faults.MoveFault.{MoveFault}
+use Rattle.migration.specs.declared.faults.MoveFault.TheVariants as fault
+use Rattle.house_run.specs.Disks.{AreGivenBack, AreNotOpen, AreOpen, IsJournalBelow, IsNotOpened as IsUnopened, KeepsMoments}
+use Rattle.house_run.specs.Found.{told_first}
+use Rattle.house_run.specs.Frame.{RisesAmong}
+use Rattle.house_run.specs.Journals.{IsFirstRefused, IsRefusal}
+use Rattle.house_run.specs.MigrateCommand.{TellsTarget}
+use Rattle.house_run.specs.MovingJournals.{IsFirstOff, JournalsMoved, JournalsNotMoved, KeepsTargets, NotMoving, move_end}
+use Rattle.house_run.specs.Needs.{journal_name}
+use Rattle.house_run.specs.Seen.{ShelfSeen, content}
+use Rattle.house_run.specs.Status.{end_at}
+use Rattle.house_run.specs.declared.ends.Ended.{Ended}
+use Rattle.house_run.specs.declared.ends.Ended.TheVariants as how
+use Rattle.house_run.proofs.DiskNames.{below-or-not}
+use Rattle.house_run.proofs.DiskSteps.{between, keeps-itself, keeps-then, some-of}
+use Rattle.house_run.proofs.JournalSteps.{OneRead, first-read}
+use Rattle.house_run.proofs.ServeSteps.{below-all, journal-moments, journal-rose, keeps-journals, reads-opening, tells-map, told-content}
+
+-- what the targets are left as, where nothing was done to them
+
+same-targets : (value : Auction) (cs : List ClockHistory) (target : List ℕ) (a c : Option (List NamedFile)) → KeepsMoments a c
+    → IfTells c (λ after. IfWasTold a (λ before. (k : ℕ) (h : ClockHistory) → k ≤ value.terms.bidders
+    → LeavesTarget (owner_of value.terms k value.digest) (get_or cs k h).reports (moments_at before (journal_name target k)) (moments_at after (journal_name target k))))
+same-targets value cs target a None kept = tt
+same-targets value cs target None (Some c) kept = absurd kept
+same-targets value cs target (Some a) (Some c) kept = λ k h few. inl (kept (journal_name target k))
+
+moments-stay : (a : Option (List NamedFile)) → KeepsMoments a a
+moments-stay None = tt
+moments-stay (Some a) = λ name. refl
+
+-- nothing was done, for want of memory
+pub none-moved : (value : Auction) (cs : List ClockHistory) (target : List ℕ) (files : Option (List NamedFile)) (counts : List ℕ → ℕ) (names : List (List ℕ))
+    → JournalsNotMoved value cs target (between files files counts counts names names) how.NoMemory
+none-moved value cs target files counts names = record {
+  keeps = record {
+    others = keeps-itself (IsJournalBelow target (value.terms.bidders + 1)) files;
+    left = same-targets value cs target files files (moments-stay files);
+    counts = record { later = λ s. omega arith; others = λ s not. refl };
+    front = 0;
+    few = omega arith;
+    names = refl;
+  };
+  cause = tt;
+}
+
+-- the targets were not all opened
+pub none-opened : (refusal : OpenFault) (value : Auction) (cs : List ClockHistory) (target : List ℕ) (clock : ℕ) (shelf : ShelfSeen) → AreNotOpen target (value.terms.bidders + 1) clock refusal shelf
+    → JournalsNotMoved value cs target shelf (end_at clock refusal)
+none-opened refusal value cs target clock shelf not = record {
+  keeps = record {
+    others = keeps-then (IsJournalBelow target clock) (λ s. ⊥) (IsJournalBelow target (value.terms.bidders + 1)) shelf.files_before shelf.files shelf.files
+        (λ s b. below-all target clock (value.terms.bidders + 1) s (let w = not.within in omega arith) b) (λ s b. absurd b) not.others (keeps-itself (λ s. ⊥) shelf.files);
+    left = same-targets value cs target shelf.files_before shelf.files not.moments;
+    counts = counts refusal not.cause;
+    front = not.front;
+    few = not.few;
+    names = not.names;
+  };
+  cause = cause refusal not.cause;
+}
+  where
+    counts : (w : OpenFault) → IsUnopened shelf target clock w → RisesAmong (TellsTarget target (end_at clock w)) shelf.faults_before shelf.faults
+    counts why.DiskFault failed = failed.counts
+    counts why.NoMemory steady = record { later = λ s. (let e = steady s in omega arith); others = λ s other. steady s }
+    counts (why.Broken broken) no_such = absurd no_such
+    counts (why.NotAcceptable number judgement) no_such = absurd no_such
+
+    cause : (w : OpenFault) → IsUnopened shelf target clock w → NotMoving value cs target shelf (end_at clock w)
+    cause why.DiskFault failed = ((let w = not.within in omega arith), failed.failed)
+    cause why.NoMemory steady = tt
+    cause (why.Broken broken) no_such = absurd no_such
+    cause (why.NotAcceptable number judgement) no_such = absurd no_such
+
+-- a legal history of a target, where files are told; else the empty one
+
+open-read : (files : Option (List NamedFile)) (terms : Terms) (digest target : List ℕ) (k : ℕ) → k ≤ terms.bidders
+    → IfTells files (λ told. (c : ClockHistory) × StandsForHistory (owner_of terms k digest) c (content told (journal_name target k))) → OneRead files terms digest target k
+open-read None terms digest target k few found = record {
+  history = history_of (owner_of terms k digest) [];
+  read = record { history = record { is = refl; legal = record { number = few; demands = tt; takes = tt } }; in_file = tt };
+}
+open-read (Some files) terms digest target k few found = record { history = found.0; read = record { history = found.1.history; in_file = found.1 } }
+
+-- what is told of each clock is told of all
+all-told : (files : Option (List NamedFile)) (P : ℕ → Type 0) (Q : ℕ → List NamedFile → Type 0) → ((k : ℕ) → P k → IfTells files (Q k)) → IfTells files (λ told. (k : ℕ) → P k → Q k told)
+all-told None P Q each = tt
+all-told (Some files) P Q each = each
+
+-- the answer's fault is told by the end
+tells-fault : (clock : ℕ) (refusal : OpenFault) (target : List ℕ) (k : ℕ) → TellsFaultOf k (Err (fault.NotOpened clock refusal)) → TellsTarget target (move_end (fault.NotOpened clock refusal)) (journal_name target k)
+tells-fault clock why.DiskFault target k same = ap (journal_name target) (sym same)
+tells-fault clock why.NoMemory target k same = absurd same
+tells-fault clock (why.Broken broken) target k same = absurd same
+tells-fault clock (why.NotAcceptable number judgement) target k same = absurd same
+
+tells-move : (w : MoveFault) (target : List ℕ) (k : ℕ) → TellsFaultOf k (Err w) → TellsTarget target (move_end w) (journal_name target k)
+tells-move (fault.NotOpened clock refusal) target k told = tells-fault clock refusal target k told
+tells-move (fault.DiskFault clock) target k same = ap (journal_name target) (sym same)
+tells-move (fault.NotFront clock number) target k told = absurd told
+tells-move (fault.Full clock needed) target k told = absurd told
+tells-move fault.NoMemory target k told = absurd told
+
+module _ {D : Type 0} (tells : D → Bool) (moments : D → Moments) (faults : D → ℕ) (value : Auction) (cs : List ClockHistory) (target : List ℕ) (old disks : List D) (shelf : ShelfSeen) (files : Option (List NamedFile)) (counts : List ℕ → ℕ) (names : List (List ℕ))
+    (long : length old ≡ value.terms.bidders + 1)
+    (are : AreOpen tells moments faults target old (between shelf.files_before files shelf.faults_before counts shelf.opened_before names))
+    (given : AreGivenBack tells moments faults target disks (between files shelf.files counts shelf.faults names shelf.opened)) where
+  abbrev first-files : Option (List NamedFile)
+  first-files = told_first shelf.files_before shelf.files
+
+  -- what holds of the moments of each disk holds of those of its target
+  at-each : (Q : ℕ → ClockHistory → Moments → Moments → Type 0) → length disks ≡ length old
+      → ((k : ℕ) (d : D) (c : ClockHistory) → k < length old → IsTrue (tells (get_or disks k d)) → Q k c (moments (get_or old k d)) (moments (get_or disks k d)))
+      → IfTells shelf.files (λ after. IfWasTold shelf.files_before (λ before. (k : ℕ) (c : ClockHistory) → k ≤ value.terms.bidders → Q k c (moments_at before (journal_name target k)) (moments_at after (journal_name target k))))
+  at-each Q same holds =
+      tells-map shelf.files_before shelf.files (λ x y. (k : ℕ) → k < length old → (c : ClockHistory) → Q k c (moments_at x (journal_name target k)) (moments_at y (journal_name target k)))
+      (λ x y. (k : ℕ) (c : ClockHistory) → k ≤ value.terms.bidders → Q k c (moments_at x (journal_name target k)) (moments_at y (journal_name target k)))
+      (λ x y all k c few. all k (omega arith) c)
+      (journal-moments tells moments target (λ k m n. (c : ClockHistory) → Q k c m n) old disks shelf.files_before files shelf.files (IsJournalBelow target (length old)) (IsJournalBelow target (length disks)) are.others given.others
+      are.stand given.left same (λ k d below told c. holds k d c below told))
+
+  -- what was read of each disk was found of its target
+  found-at : (Q : List ℕ → Type 0) (k : ℕ) (d : D) → k < length old → length disks ≡ length old → (IsTrue (tells (get_or disks k d)) → Q (moments (get_or old k d)).now.read) → IfTells first-files (λ told. Q (content told (journal_name target k)))
+  found-at Q k d below same holds =
+      told-content tells moments (journal_name target k) Q (get_or old k d) (get_or disks k d) shelf.files_before files shelf.files (IsJournalBelow target (length old)) (IsJournalBelow target (length disks))
+      are.others given.others (are.stand k d below) (given.left k d (omega arith)) holds
+
+  fresh-at : (k : ℕ) (d : D) → k < length old → faults (get_or old k d) ≡ 0
+  fresh-at k d below = All-from_recursion (λ (x : D). faults x ≡ 0) old are.fresh k d below
+
+  counts-kept : (answer : Result (Unit {0}) MoveFault) (end : Ended) → Moves tells moments faults value.terms value.digest cs old disks answer → ((k : ℕ) → TellsFaultOf k answer → TellsTarget target end (journal_name target k))
+      → RisesAmong (TellsTarget target end) shelf.faults_before shelf.faults
+  counts-kept answer end moves tell = record {
+    later = λ s. let e = are.steady s in let l = given.counts.later s in omega arith;
+    others = λ s other. elim (below-or-not target (length disks) s) [
+      | inl b ↦ subst Stays (sym b.2) (at b.0 b.1 (λ t. other (subst (TellsTarget target end) (sym b.2) t)))
+      | inr none ↦ given.counts.others s none ∙ are.steady s
+    ];
+  }
+    where
+      Stays : List ℕ → Type 0
+      Stays name = shelf.faults name ≡ shelf.faults_before name
+
+      at : (k : ℕ) → k < length disks → (TellsTarget target end (journal_name target k) → ⊥) → Stays (journal_name target k)
+      at k below quiet =
+          let same = moves.count in
+          let d = some-of disks k below in
+          let fresh = fresh-at k d (omega arith) in
+          let added = given.added k d below in
+          let steady = are.steady (journal_name target k) in
+          elim (moves.counts k d (omega arith)) [
+            | inl e ↦ omega arith
+            | inr told ↦ absurd (quiet (tell k told.0))
+          ]
+
+  targets-kept : (answer : Result (Unit {0}) MoveFault) (end : Ended) → Moves tells moments faults value.terms value.digest cs old disks answer → ((k : ℕ) → TellsFaultOf k answer → TellsTarget target end (journal_name target k))
+      → KeepsTargets value cs target shelf end
+  targets-kept answer end moves tell =
+      let keeps = keeps-journals tells moments faults target old disks shelf files counts names (value.terms.bidders + 1) long moves.count are given in
+      record {
+        others = keeps.others;
+        left = at-each (λ k c m n. LeavesTarget (owner_of value.terms k value.digest) (get_or cs k c).reports m n) moves.count moves.left;
+        counts = counts-kept answer end moves tell;
+        front = keeps.front;
+        few = keeps.few;
+        names = keeps.names;
+      }
+
+  pub journals-moved : (done : Unit {0}) → Moves tells moments faults value.terms value.digest cs old disks (Ok done) → JournalsMoved value cs target shelf
+  journals-moved done moves = record {
+    keeps = targets-kept (Ok done) how.Done moves (λ k told. absurd told);
+    moved = at-each (λ k c m n. IsMoved (owner_of value.terms k value.digest) (get_or cs k c).reports m n) moves.count moves.moved;
+  }
+
+  -- why they were not moved
+
+  failed-at : (clock : ℕ) → clock < length old → length disks ≡ length old → ((d : D) → Rose (faults (get_or old clock d)) (faults (get_or disks clock d))) → NotMoving value cs target shelf (how.DiskFault clock)
+  failed-at clock within same rose =
+      let d = some-of old clock within in
+      ((omega arith), journal-rose tells moments faults target old disks shelf files counts names clock d within same are given (fresh-at clock d within) (rose d))
+
+  open-at : (k : ℕ) (d : D) → k < length old → length disks ≡ length old → (IsTrue (tells (get_or disks k d)) → (c : ClockHistory) × IsOpening (owner_of value.terms k value.digest) (moments (get_or old k d)).now.read (Ok c))
+      → IfTells first-files (λ told. (c : ClockHistory) × StandsForHistory (owner_of value.terms k value.digest) c (content told (journal_name target k)))
+  open-at k d below same holds = found-at (λ file. (c : ClockHistory) × StandsForHistory (owner_of value.terms k value.digest) c file) k d below same holds
+
+  first-refused : (clock : ℕ) (refusal : OpenFault) → length disks ≡ length old → IsNotOpened tells moments faults value.terms value.digest cs old disks clock refusal → IsRefusal refusal
+      → IsFirstRefused first-files value.terms value.digest target clock refusal
+  first-refused clock refusal same not refuses =
+      let w = not.within in
+      let d = some-of old clock w in
+      let before = first-read first-files value.terms value.digest target clock (λ k below.
+      open-read first-files value.terms value.digest target k (omega arith) (open-at k d (omega arith) same (not.before k d below))) in
+      record {
+        earlier = before.found;
+        from_journals = before.are;
+        refused = record {
+          refusal = refuses;
+          in_file = found-at (λ file. IsOpening (owner_of value.terms clock value.digest) file (Err refusal)) clock d w same
+              (λ told. reads-opening (owner_of value.terms clock value.digest) (moments (get_or old clock d)).now.read refusal refuses (not.refused d told));
+        };
+      }
+
+  first-off : (clock number : ℕ) → length disks ≡ length old → IsNotFront tells moments faults value.terms value.digest cs old disks clock number → IsFirstOff value cs target shelf clock number first-files
+  first-off clock number same not =
+      let w = not.within in
+      let d = some-of old clock w in
+      record {
+        within = omega arith;
+        all_open = all-told first-files (λ k. k ≤ value.terms.bidders) (λ k told. (c : ClockHistory) × StandsForHistory (owner_of value.terms k value.digest) c (content told (journal_name target k)))
+            (λ k few. open-at k d (omega arith) same (not.opened k d (omega arith)));
+        earlier = all-told first-files (λ k. k < clock) (λ k told. (c : ClockHistory) → IsFront (owner_of value.terms k value.digest) (get_or cs k c).reports (content told (journal_name target k)))
+            (λ k below. found-at (λ file. (c : ClockHistory) → IsFront (owner_of value.terms k value.digest) (get_or cs k c).reports file) k d (omega arith) same (λ told c. not.before k d c below told));
+        off = found-at (λ file. (c x : ClockHistory) → StandsForHistory (owner_of value.terms clock value.digest) c file → IsNoFrontAt number c.reports (get_or cs clock x).reports) clock d w same (λ told c x stands.
+            let off = not.differs d x told in
+            let one : Ok off.0 ≡ Ok c = one-answer (owner_of value.terms clock value.digest) (moments (get_or old clock d)).now.read (Ok off.0) (Ok c) off.1 stands in
+            let is : off.0 ≡ c = cc in
+            subst (λ (h : ClockHistory). IsNoFrontAt number h.reports (get_or cs clock x).reports) is off.2);
+      }
+
+  not-opened : (clock : ℕ) (refusal : OpenFault) → length disks ≡ length old → IsNotOpened tells moments faults value.terms value.digest cs old disks clock refusal
+      → NotMoving value cs target shelf (move_end (fault.NotOpened clock refusal))
+  not-opened clock why.DiskFault same not = failed-at clock not.within same (λ d. (not.counts d).1)
+  not-opened clock why.NoMemory same not = tt
+  not-opened clock (why.Broken broken) same not = ((let w = not.within in omega arith), first-refused clock (why.Broken broken) same not tt)
+  not-opened clock (why.NotAcceptable number judgement) same not = ((let w = not.within in omega arith), first-refused clock (why.NotAcceptable number judgement) same not tt)
+
+  not-moving : (w : MoveFault) → length disks ≡ length old → HasMoveCause tells moments faults value.terms value.digest cs old disks w → NotMoving value cs target shelf (move_end w)
+  not-moving (fault.NotOpened clock refusal) same cause = not-opened clock refusal same cause
+  not-moving (fault.NotFront clock number) same cause = first-off clock number same cause
+  not-moving (fault.Full clock needed) same cause = ((let w = cause.within in omega arith), cause.full)
+  not-moving (fault.DiskFault clock) same cause = failed-at clock cause.within same cause.rose
+  not-moving fault.NoMemory same cause = tt
+
+  pub journals-not-moved : (w : MoveFault) → Moves tells moments faults value.terms value.digest cs old disks (Err w) → JournalsNotMoved value cs target shelf (move_end w)
+  journals-not-moved w moves = record {
+    keeps = targets-kept (Err w) (move_end w) moves (tells-move w target);
+    cause = not-moving w moves.count moves.cause;
+  }

@@ -1,7 +1,0 @@
-use Rattle.house_run.specs.Positionals.{texts}
-use Rattle.house_run.proofs.OptionWords.{none-then, value-refused}
-use Rattle.house_run.proofs.options.number_of.Goals as goal
-
-pub returns-in-Once-clause-none : goal.returns-in-Once-clause-none
-returns-in-Once-clause-none c =
-    none-then c.read_number.result _ _ (λ none number is. value-refused c.args.front.now c.in-Once.value.now c.args.low c.args.high c.args.default (texts c.args.options.now) c.in-Once.ensures none number is) c.read_number.ensures.none

@@ -1,0 +1,13 @@
+pub mod Numbers
+pub mod FirstEntry
+pub mod PlainPayloads
+pub mod Quantities
+pub mod Payloads
+pub mod Faultless
+pub mod LastRound
+pub mod WrittenEntries
+pub mod ReadEntries
+pub mod TakenEntries
+pub mod WrittenLogs
+pub mod LogBytes
+pub mod PieceReading

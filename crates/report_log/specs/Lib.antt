@@ -1,0 +1,4 @@
+pub mod Entries
+pub mod Logs
+pub mod Pieces
+pub mod Reading
