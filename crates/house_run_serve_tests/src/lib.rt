@@ -1,5 +1,7 @@
-//! Tests of the command `bid` of house_run.
+//! Tests of the command `serve` of house_run, in memory and over TCP.
 #![tactic(auto)]
 
+#[cfg(test)]
+mod talks;
 #[cfg(test)]
 mod tests;

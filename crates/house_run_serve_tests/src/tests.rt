@@ -3,14 +3,14 @@ use house_io::{
     ListDoor, ListNet, Net, SureDoor, SureFile, SureLink, SureNet, SureShelf, SureSink,
 };
 use house_run::run;
+use lot_base::NoMemory;
 use std::alloc::Global;
-use std::process::Abort;
 use std::sync::Wait;
 use std::test::Fail;
 use std::thread::Threads;
 
 /// One unit of one good for two bidders.
-const AUCTION: &str = r#"
+pub(crate) const AUCTION: &str = r#"
 version = 1
 ceiling = 10
 
@@ -59,7 +59,7 @@ const TO_BOB: &[&[u8]] = &[WELCOME, TAKEN_0, TAKEN_1, BYE];
 
 const SERVE: &[&str] = &["serve", "a", "j", "house:1", "--doors", "2", "--sessions=1"];
 
-const SETTLE: &[&str] = &["settle", "a", "j"];
+pub(crate) const SETTLE: &[&str] = &["settle", "a", "j"];
 
 const SERVED: &str = "door 0 session 1 quit
 door 1 session 1 quit
@@ -76,7 +76,7 @@ bidder 2 award 0 debit 0 credit 0 pays 0
 clock 0 steps 0 prices 0
 ";
 
-fn words_of(alloc: Global, words: &[&str]) -> Result<Vec<String>, Fail> {
+fn words_of(alloc: Global, words: &[&str]) -> Result<Vec<String>, NoMemory> {
     let mut copies = Vec::new(alloc);
     for word in words {
         copies.push(String::from_str(alloc, word)?)?;
@@ -92,13 +92,17 @@ fn joined(alloc: Global, pieces: &[&[u8]]) -> Result<Vec<u8>, Fail> {
     Ok(bytes)
 }
 
+pub(crate) fn file_of(alloc: Global, name: &str, text: &str) -> Result<SureFile, NoMemory> {
+    Ok(SureFile {
+        name: String::from_str(alloc, name)?,
+        bytes: String::from_str(alloc, text)?.into_bytes(),
+    })
+}
+
 /// A shelf with the auction, and with no journal.
-fn shelf_of(alloc: Global) -> Result<SureShelf, Fail> {
+pub(crate) fn shelf_of(alloc: Global) -> Result<SureShelf, NoMemory> {
     let mut files = Vec::new(alloc);
-    files.push(SureFile {
-        name: String::from_str(alloc, "a")?,
-        bytes: String::from_str(alloc, AUCTION)?.into_bytes(),
-    })?;
+    files.push(file_of(alloc, "a", AUCTION)?)?;
     Ok(SureShelf::new(alloc, files, 10_000)?)
 }
 
@@ -126,13 +130,13 @@ fn failing_net(alloc: Global) -> Result<ListNet, Fail> {
 }
 
 /// The status that these words end with, and the text that they write.
-fn run_words<N: Net>(
-    rt: &(impl Abort + Threads + Wait + Sync),
+pub(crate) fn run_words<N: Net>(
+    rt: &(impl Threads + Wait + Sync),
     alloc: Global,
     words: &[&str],
     shelf: &mut SureShelf,
     net: &mut N,
-) -> Result<(u8, Vec<u8>), Fail> {
+) -> Result<(u8, Vec<u8>), NoMemory> {
     let mut out = SureSink::new(alloc, 1000)?;
     let words = words_of(alloc, words)?;
     let answer = run(rt, alloc, &words, shelf, &mut out, net);

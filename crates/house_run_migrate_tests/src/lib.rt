@@ -1,0 +1,5 @@
+//! Tests of the command `migrate` of house_run.
+#![tactic(auto)]
+
+#[cfg(test)]
+mod tests;

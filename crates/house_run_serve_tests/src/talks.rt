@@ -1,0 +1,296 @@
+//! Both ends of `run` over TCP: an auction that was worked by hand, and a door at which a connection is cut.
+use crate::tests::{AUCTION, SETTLE, file_of, run_words, shelf_of};
+use house_io::{Link, Net, SureShelf, TcpNet, send_whole};
+use lot_base::NoMemory;
+use std::alloc::Global;
+use std::net::{OpenListener, TcpListener};
+use std::sync::Wait;
+use std::test::Fail;
+use std::thread;
+use std::thread::Threads;
+use std::time::{Clock, Duration};
+
+/// The unit is worth 4 to ada and 2 to bob.
+const VALUES: &str = r#"
+[[valuations]]
+form = "marginal"
+lists = [[4]]
+
+[[valuations]]
+form = "marginal"
+lists = [[2]]
+"#;
+
+/// At prices of 0 and 1 both want the unit, and at 2 bob takes it or nothing. Without the other, each gets it for nothing.
+const SERVED: &str = "door 0 session 1 quit
+door 1 session 1 quit
+clock 0 round 3 ended prices 2
+clock 1 round 1 ended prices 0
+clock 2 round 1 ended prices 0
+";
+
+/// The clock without the other is seen at its end first.
+const TO_ADA: &str = "clock 2 round 1 ended prices 0
+clock 0 round 3 ended prices 2
+";
+
+const TO_BOB: &str = "clock 1 round 1 ended prices 0
+clock 0 round 3 ended prices 2
+";
+
+/// Ada pays what the unit is worth to bob.
+const SETTLED: &str = "settled goods 1 bidders 2
+prices 2
+bidder 1 award 1 debit 0 credit 0 pays 2
+bidder 2 award 0 debit 0 credit 0 pays 0
+clock 0 steps 2 prices 2
+choice 0 1 1
+choice 0 2 0
+clock 1 steps 0 prices 0
+choice 1 2 1
+clock 2 steps 0 prices 0
+choice 2 1 1
+";
+
+/// How often a door is tried that is not open yet, and the milliseconds between.
+const TRIES: u32 = 1_000;
+
+const PAUSE: u64 = 10;
+
+/// However long the other bidder takes.
+const MOST_LOOKS: &str = "--looks=1000000000";
+
+/// The status and the text of an end.
+type Ran = Option<(u8, Vec<u8>)>;
+
+/// An address of this machine at which nobody listens.
+fn free_address<R: std::net::Net>(rt: &R, alloc: Global) -> Result<String, Fail> {
+    let listener = TcpListener::bind(rt, "127.0.0.1:0")?;
+    let address = listener.local_addr()?;
+    Ok(format!(in alloc; "{address}")?)
+}
+
+/// A shelf with the auction and the valuations.
+fn bidders_shelf(alloc: Global) -> Result<SureShelf, NoMemory> {
+    let mut files = Vec::new(alloc);
+    files.push(file_of(alloc, "a", AUCTION)?)?;
+    files.push(file_of(alloc, "v", VALUES)?)?;
+    Ok(SureShelf::new(alloc, files, 0)?)
+}
+
+/// How these words end over TCP. There is nothing where there is no memory.
+fn run_over_tcp<T>(rt: &T, alloc: Global, words: &[&str], shelf: &mut SureShelf) -> Ran
+where
+    T: Threads + Wait + Sync + std::net::Net,
+    T::Stream: Send,
+    T::Listener: Send,
+{
+    let mut net = TcpNet::new(rt);
+    run_words(rt, alloc, words, shelf, &mut net).ok()
+}
+
+fn is_net_fault(ran: &Ran) -> bool {
+    matches!(ran, Some((7, _)))
+}
+
+/// How the bid of a bidder ends, tried again until the doors are open.
+fn bid<T>(rt: &T, alloc: Global, bidder: &str, token: &str, address: &str) -> Ran
+where
+    T: Threads + Wait + Sync + Clock + std::net::Net,
+    T::Stream: Send,
+    T::Listener: Send,
+{
+    let mut shelf = bidders_shelf(alloc).ok()?;
+    let words = ["bid", "a", "v", bidder, token, address, MOST_LOOKS];
+    for _ in 0..TRIES {
+        let ran = run_over_tcp(rt, alloc, &words, &mut shelf);
+        if !is_net_fault(&ran) {
+            return ran;
+        }
+        thread::sleep(rt, Duration::from_millis(PAUSE));
+    }
+    None
+}
+
+/// Whether an end has this status and text.
+fn has_ended(ran: &Ran, status: u8, text: &str) -> bool {
+    matches!(ran, Some((found, bytes)) if *found == status && bytes.as_slice() == text.as_bytes())
+}
+
+/// A house and both bidders.
+#[derive(Drop)]
+struct Talk {
+    house: Ran,
+    ada: Ran,
+    bob: Ran,
+}
+
+/// Serves at two doors of an address while both bid there.
+fn serve_and_bid<T>(rt: &T, alloc: Global, address: &str, shelf: &mut SureShelf) -> Talk
+where
+    T: Threads + Wait + Sync + Clock + std::net::Net,
+    T::Stream: Send,
+    T::Listener: Send,
+{
+    let words = ["serve", "a", "j", address, "--doors=2"];
+    let (house, (ada, bob)) = thread::join(
+        rt,
+        || run_over_tcp(rt, alloc, &words, shelf),
+        || {
+            thread::join(
+                rt,
+                || bid(rt, alloc, "1", "abc", address),
+                || bid(rt, alloc, "2", "hello", address),
+            )
+        },
+    );
+    Talk { house, ada, bob }
+}
+
+#[test]
+fn an_auction_goes_over_tcp(rt: HostRuntime) -> Result<(), Fail> {
+    let alloc = rt.alloc();
+    let address = free_address(&rt, alloc)?;
+    let mut shelf = shelf_of(alloc)?;
+    let Talk { house, ada, bob } = serve_and_bid(&rt, alloc, address.as_str(), &mut shelf);
+    assert!(rt; has_ended(&house, 0, SERVED));
+    assert!(rt; has_ended(&ada, 0, TO_ADA));
+    assert!(rt; has_ended(&bob, 0, TO_BOB));
+    // The header, five reports of one bundle, and the last of bob's with two.
+    let journal = shelf.file("j/clock-00.ahj");
+    assert!(rt; matches!(journal, Some(bytes) if bytes.len() == 42 + 5 * 15 + 17));
+    let settled = run_over_tcp(&rt, alloc, SETTLE, &mut shelf);
+    assert!(rt; has_ended(&settled, 0, SETTLED));
+    Ok(())
+}
+
+/// The front of a hello.
+const CUT_HELLO: &[u8] = b"\x00\x00\x00\x04\x01\x01";
+
+/// Ada says hello and quits.
+const HELLO_AND_QUIT: &[u8] = b"\x00\x00\x00\x04\x01\x01abc\x00\x00\x00\x00\x04";
+
+const WELCOME_AND_BYE: &[u8] = b"\x00\x00\x00\x02\x11\x01\x03\x00\x00\x00\x00\x16";
+
+const SERVED_BEHIND_A_CUT: &str = "door 0 session 1 closed
+door 0 session 2 quit
+clock 0 round 1 running prices 0 missing 1
+clock 1 round 1 running prices 0 missing 2
+clock 2 round 1 running prices 0 missing 1
+";
+
+/// A connection to an address, tried again until its door is open.
+fn dial<T: Clock, N: Net>(rt: &T, alloc: Global, net: &mut N, address: &str) -> Option<N::Link> {
+    for _ in 0..TRIES {
+        match net.dial(alloc, address) {
+            Ok(link) => return Some(link),
+            Err(_) => thread::sleep(rt, Duration::from_millis(PAUSE)),
+        }
+    }
+    None
+}
+
+/// Whether just these bytes come over a link, up to its end.
+fn comes<L: Link>(link: &mut L, wanted: &[u8]) -> bool {
+    let mut byte = [0; 1];
+    for next in wanted {
+        if link.pull(&mut byte) != Ok(1) || byte[0] != *next {
+            return false;
+        }
+    }
+    link.pull(&mut byte) == Ok(0)
+}
+
+/// Sends the front of a hello over a connection of its own, and hangs up.
+fn is_cut<T: Clock, N: Net>(rt: &T, alloc: Global, net: &mut N, address: &str) -> bool {
+    match dial(rt, alloc, net, address) {
+        None => false,
+        Some(mut link) => {
+            let sent = send_whole(&mut link, CUT_HELLO).is_ok();
+            net.hang_up(link);
+            sent
+        }
+    }
+}
+
+/// Whether a session of its own goes well.
+fn is_served<T: Clock, N: Net>(rt: &T, alloc: Global, net: &mut N, address: &str) -> bool {
+    match dial(rt, alloc, net, address) {
+        None => false,
+        Some(mut link) => {
+            let sent = send_whole(&mut link, HELLO_AND_QUIT).is_ok();
+            let answered = comes(&mut link, WELCOME_AND_BYE);
+            net.hang_up(link);
+            sent && answered
+        }
+    }
+}
+
+/// A house, and those who come to its address one after another: one who hangs up in the middle of a frame, another house, and one
+/// who is served.
+#[derive(Drop)]
+struct Visits {
+    house: Ran,
+    cut: bool,
+    other: Ran,
+    served: bool,
+}
+
+/// How another house at an address ends.
+fn serve_at<T>(rt: &T, alloc: Global, address: &str) -> Ran
+where
+    T: Threads + Wait + Sync + std::net::Net,
+    T::Stream: Send,
+    T::Listener: Send,
+{
+    let mut shelf = shelf_of(alloc).ok()?;
+    run_over_tcp(rt, alloc, &["serve", "a", "j", address], &mut shelf)
+}
+
+/// Those who come to an address.
+fn visit<T>(rt: &T, alloc: Global, address: &str) -> (bool, Ran, bool)
+where
+    T: Threads + Wait + Sync + Clock + std::net::Net,
+    T::Stream: Send,
+    T::Listener: Send,
+{
+    let mut net = TcpNet::new(rt);
+    let cut = is_cut(rt, alloc, &mut net, address);
+    let other = serve_at(rt, alloc, address);
+    let served = is_served(rt, alloc, &mut net, address);
+    (cut, other, served)
+}
+
+/// Serves two sessions at one door of an address while they come there.
+fn serve_visits<T>(rt: &T, alloc: Global, address: &str, shelf: &mut SureShelf) -> Visits
+where
+    T: Threads + Wait + Sync + Clock + std::net::Net,
+    T::Stream: Send,
+    T::Listener: Send,
+{
+    let words = ["serve", "a", "j", address, "--doors=1", "--sessions=2"];
+    let (house, (cut, other, served)) = thread::join(
+        rt,
+        || run_over_tcp(rt, alloc, &words, shelf),
+        || visit(rt, alloc, address),
+    );
+    Visits {
+        house,
+        cut,
+        other,
+        served,
+    }
+}
+
+#[test]
+fn a_cut_connection_ends_its_session_alone(rt: HostRuntime) -> Result<(), Fail> {
+    let alloc = rt.alloc();
+    let address = free_address(&rt, alloc)?;
+    let mut shelf = shelf_of(alloc)?;
+    let visits = serve_visits(&rt, alloc, address.as_str(), &mut shelf);
+    assert!(rt; visits.cut);
+    assert!(rt; has_ended(&visits.other, 7, "net fault\n"));
+    assert!(rt; visits.served);
+    assert!(rt; has_ended(&visits.house, 0, SERVED_BEHIND_A_CUT));
+    Ok(())
+}
