@@ -1,0 +1,5 @@
+//! Hostile bytes: one table over all that reads bytes from outside.
+#![tactic(auto)]
+
+#[cfg(test)]
+mod tests;
