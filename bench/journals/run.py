@@ -1,5 +1,6 @@
 #!/usr/bin/env python3
-"""Measures `settle` over the 13 journals of an auction of twelve bidders, 64 MiB in all, beside a checksum of the same bytes.
+"""Measures `settle` over the 13 journals of an auction of twelve bidders, 64 MiB in all, beside a checksum of the same bytes. Then the replay of
+as many reports as there can be on clock 0, beside the plain form of the same clock (../fold/reference.rs) over a log of them.
 
 In each round every member reports the same demand, which drives one price up; in the last one the first member wants all there is and the others
 nothing, so each clock ends and clears. The program is proved and built where it stands, by `rt run`; give --no-build to measure
@@ -17,6 +18,7 @@ CEILING = 10_000
 TOTAL = 67_108_864
 CRATE = Path(__file__).resolve().parents[2] / "crates" / "house_main"
 PROGRAM = CRATE / "out" / "house_main"
+REFERENCE = Path(__file__).resolve().parents[1] / "fold" / "reference.rs"
 
 
 def auction(supply):
@@ -72,6 +74,44 @@ def used(words, folder):
     return float(user) + float(system), int(kilobytes) / 1024, first
 
 
+def log_of(file):
+    """The entries of a journal as a log has them: each without its gate."""
+    log = bytearray()
+    place = 9 + 32
+    while file[place] == 0xA5:
+        end = place + 5 + int.from_bytes(file[place + 1 : place + 5], "big")
+        log += file[place + 1 : end]
+        place = end
+    return bytes(log)
+
+
+def replay():
+    """All rounds of clock 0, where one good after another rises to the ceiling, and one round of each other clock: 720,144 reports."""
+    supply = [1] * 6
+    with tempfile.TemporaryDirectory() as name:
+        folder = Path(name)
+        text = auction(supply)
+        (folder / "auction.toml").write_bytes(text)
+        digest = hashlib.sha256(text).digest()
+        for clock in range(BIDDERS + 1):
+            file = journal(clock, digest, supply, 1, 0 if clock else TOTAL)
+            (folder / f"clock-{clock:02}.ahj").write_bytes(file)
+            if clock == 0:
+                (folder / "log").write_bytes(log_of(file))
+        reference = folder / "reference"
+        subprocess.run(["rustc", "-O", "--edition", "2021", "-o", str(reference), str(REFERENCE)], check=True)
+        words = [str(reference), ",".join(map(str, supply)), str(BIDDERS), str(CEILING), "log"]
+        ours, plain = [], []
+        for _ in range(5):
+            ours.append(used([str(PROGRAM), "settle", "auction.toml", "."], folder))
+            plain.append(used(words, folder))
+        (seconds, memory, first), (other, _, line) = min(ours), min(plain)
+        print(
+            f"replay of 720,144 reports: {1000 * seconds:.0f} ms, {memory:.0f} MiB; plain clock 0: {1000 * other:.0f} ms,"
+            f" so {seconds / max(other, 0.01):.1f} times  {first}; {line}"
+        )
+
+
 def main():
     if "--no-build" not in sys.argv:
         build = ["rt", "run", "--", "fold", "1", "2", "5", "data/two-bidders.log"]
@@ -102,6 +142,7 @@ def main():
             print(
                 f"{title:28} {size / 1e6:4.0f} {size / 1e6 / max(seconds, 0.01):11.0f} {size / 1e6 / max(min(reads)[0], 0.01):12.0f} {memory:6.0f}  {first}"
             )
+    replay()
 
 
 if __name__ == "__main__":

@@ -18,8 +18,10 @@ def token_of(bidder):
     return f"token-{bidder}"
 
 
-def write_auction(path):
-    lines = ["version = 1", f"ceiling = {CEILING}", "[[goods]]", 'name = "licence"', f"supply = {SUPPLY}"]
+def write_auction(path, supply=(SUPPLY,)):
+    lines = ["version = 1", f"ceiling = {CEILING}"]
+    for good, units in enumerate(supply):
+        lines += ["[[goods]]", f'name = "licence-{good}"', f"supply = {units}"]
     for bidder in range(1, BIDDERS + 1):
         digest = hashlib.sha256(token_of(bidder).encode()).hexdigest()
         lines += ["[[bidders]]", f'name = "bidder-{bidder}"', f'token = "{digest}"']

@@ -4,21 +4,26 @@
 Rows are `make 7`, and auctions of twelve bidders whose valuations stand in tables: random ones with strong substitutes over a box of 2,048
 bundles, a price that rises for 9,700 rounds, and demand sets of a thousand bundles in as many rounds. Where glpsol and cbc are there, the
 same auctions are settled as n + 1 integer programs each, as a user would do otherwise. Of each the least of five runs is taken, in turns.
-The program is proved and built where it stands, by `rt run`; give --no-build to measure the program that was built before, and --programs
-to run the integer programs too, which take long.
+Behind them stand the times by the clock with one worker and with four, which tell something only where four processors are idle. The program
+is proved and built where it stands, by `rt run`; give --no-build to measure the program that was built before, --program FILE to measure
+another one, and --programs to run the integer programs too, which take long. With --makes, bench/makes, which makes the market of 7 again and
+again in one process, is proved and run beside the reference that does so too; --makes FILE takes it as it was built before.
 """
 import hashlib
 import random
+import resource
 import shutil
 import subprocess
 import sys
 import tempfile
+import time
 from itertools import product
 from math import prod
 from pathlib import Path
 
 BIDDERS = 12
 CEILING = 10_000
+MAKES = 1_000
 HERE = Path(__file__).resolve().parent
 CRATE = HERE.parents[1] / "crates" / "house_main"
 PROGRAM = CRATE / "out" / "house_main"
@@ -103,6 +108,25 @@ def timed(words, folder):
     return done.stdout, float(user) + float(system), int(kilobytes) / 1024
 
 
+def spent(words, folder):
+    """The processor seconds of a short run, the mean of fifty: the system's words tell hundredths of one alone."""
+    begun = resource.getrusage(resource.RUSAGE_CHILDREN)
+    for _ in range(50):
+        subprocess.run(list(map(str, words)), cwd=folder, stdout=subprocess.DEVNULL, check=False)
+    ended = resource.getrusage(resource.RUSAGE_CHILDREN)
+    return (ended.ru_utime - begun.ru_utime + ended.ru_stime - begun.ru_stime) / 50
+
+
+def by_the_clock(words, folder):
+    """The least seconds of five runs."""
+    seconds = []
+    for _ in range(5):
+        begun = time.perf_counter()
+        subprocess.run(list(map(str, words)), cwd=folder, stdout=subprocess.DEVNULL, check=False)
+        seconds.append(time.perf_counter() - begun)
+    return min(seconds)
+
+
 def least(words_of, folder):
     """Of each kind of run the text, the least seconds and that run's memory. One that takes over five seconds is run once."""
     best = {}
@@ -133,35 +157,69 @@ def solve(supply, tables, folder):
     return figures
 
 
+def word_behind(flag):
+    """The word behind a flag, if there is one that is no flag."""
+    behind = sys.argv[sys.argv.index(flag) + 1 :][:1] if flag in sys.argv else []
+    return behind[0] if behind and not behind[0].startswith("--") else None
+
+
+def makes(plain, folder):
+    """Prints the processor time of a make in a process of many, or the time by the clock where bench/makes is proved and run."""
+    program = word_behind("--makes")
+    if program:
+        ours = min(timed([Path(program).resolve()], folder)[1] for _ in range(5)) / MAKES
+        theirs = min(timed([plain, "make", "7", MAKES], folder)[1] for _ in range(5)) / MAKES
+    else:
+        said = subprocess.run([HERE.parent / "run", "makes"], capture_output=True, text=True, check=True).stdout
+        ours = int(said.split()[-2]) / 1000 / MAKES
+        theirs = by_the_clock([plain, "make", "7", MAKES], folder) / MAKES
+    print(f"{'make 7, one of many':34} {ours * 1000:8.3f} {theirs * 1000:8.3f} {ours / theirs:6.2f}")
+
+
 def main():
-    if "--no-build" not in sys.argv:
+    program = Path(word_behind("--program") or PROGRAM).resolve()
+    if "--no-build" not in sys.argv and program == PROGRAM:
         subprocess.run(["rt", "run", "--", "make", "7"], cwd=CRATE, check=True, capture_output=True)
     with tempfile.TemporaryDirectory() as name:
         folder = Path(name)
         plain = folder / "reference"
         subprocess.run(["rustc", "-O", "--edition", "2021", "-o", str(plain), str(HERE / "reference.rs")], check=True)
-        print(f"{'auction':34} {'ours ms':>8} {'plain ms':>8} {'times':>6} {'MiB':>6} {'plain MiB':>9} {'rounds':>7}")
-        best = least({"ours": [PROGRAM, "make", "7"], "plain": [plain, "make", "7"]}, folder)
-        report("make 7, a process", best, same=best["ours"][0].split()[:12] == best["plain"][0].split()[:12])
+        print(
+            f"{'auction':34} {'ours ms':>8} {'plain ms':>8} {'times':>6} {'MiB':>6} {'plain MiB':>9} {'rounds':>7} "
+            f"{'1 worker ms':>11} {'4 workers ms':>12} {'faster':>6}"
+        )
+        both = {"ours": [program, "make", "7"], "plain": [plain, "make", "7"]}
+        best = least(both, folder)
+        same = best["ours"][0].split()[:12] == best["plain"][0].split()[:12]
+        best = {kind: (best[kind][0], spent(words, folder), best[kind][2]) for kind, words in both.items()}
+        report("make 7, a process", best, workers([program, "make", "7"], folder), same)
+        if "--makes" in sys.argv:
+            makes(plain, folder)
         for title, supply, tables in rows():
             (folder / "auction.toml").write_text(auction_file(supply))
             (folder / "values.toml").write_text(values_file(tables))
             (folder / "numbers").write_text(numbers_file(supply, tables))
-            ours = [PROGRAM, "trial", "auction.toml", "values.toml"]
+            ours = [program, "trial", "auction.toml", "values.toml"]
             best = least({"ours": ours, "plain": [plain, "trial", "numbers"]}, folder)
-            report(title, best, same=best["ours"][0] == best["plain"][0])
+            report(title, best, workers(ours, folder), same=best["ours"][0] == best["plain"][0])
             if "--programs" in sys.argv:
                 glpsol, cbc = solve(supply, tables, folder)
                 print(f"    as {BIDDERS + 1} integer programs: glpsol {glpsol}, cbc {cbc}")
 
 
-def report(title, best, same):
+def workers(words, folder):
+    """The seconds by the clock with one worker and with four."""
+    return [by_the_clock([*words, "--workers", count], folder) for count in (1, 4)]
+
+
+def report(title, best, workers, same):
     """Prints a row."""
     ours, plain = best["ours"], best["plain"]
+    one, four = workers
     rounds = next((line.split()[3] for line in plain[0].splitlines() if line.startswith("clock 0 ")), "")
     print(
-        f"{title:34} {ours[1] * 1000:8.0f} {plain[1] * 1000:8.0f} {ours[1] / max(plain[1], 1e-3):6.2f} {ours[2]:6.0f} {plain[2]:9.0f} {rounds:>7}"
-        f"{'' if same else '  TEXTS DIFFER'}"
+        f"{title:34} {ours[1] * 1000:8.1f} {plain[1] * 1000:8.1f} {ours[1] / max(plain[1], 1e-3):6.2f} {ours[2]:6.0f} {plain[2]:9.0f} {rounds:>7} "
+        f"{one * 1000:11.1f} {four * 1000:12.1f} {one / four:6.2f}{'' if same else '  TEXTS DIFFER'}"
     )
 
 
