@@ -12,8 +12,6 @@ mod columns;
 pub mod laws;
 mod reach;
 mod search;
-#[cfg(test)]
-mod tests;
 
 pub use assembly::{Assembly, Choice};
 use demand_set::Demand;

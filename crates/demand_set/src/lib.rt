@@ -5,8 +5,6 @@ pub mod places;
 pub mod quantities;
 pub mod reading;
 pub mod reports;
-#[cfg(test)]
-mod tests;
 pub mod writing;
 
 pub use reading::{Demand, DemandFault};

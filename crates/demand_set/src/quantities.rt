@@ -99,7 +99,9 @@ fn rows_of(goods: u8) -> usize
 /// The quantities of a bundle on the sets of the goods 0 to 2, and on those of the goods 3 to 5.
 #[derive(Clone, Copy)]
 struct Halves {
+    /// At s, the units of those of the goods 0 to 2 whose bits s has: bit 0 for good 0. A good that is not there has no units.
     low: [u16; 8],
+    /// The same of the goods 3 to 5: bit 0 for good 3.
     high: [u16; 8],
 }
 

@@ -21,8 +21,11 @@ pub enum TermsFault {
 /// What is sold, to how many bidders, from which prices on, and the price at which a clock halts.
 #[derive(Clone, Copy, Debug)]
 pub struct Terms {
+    /// The supply of each, good 0 first: 1 to 6 goods, at least a unit of each, and at most 2,048 bundles within it.
     pub goods: Goods,
+    /// How many there are, 1 to 12. They are numbered from 1.
     pub bidders: u8,
+    /// No price rises above it: a clock that would raise a good from there is halted. 2 to 10,000.
     pub ceiling: u32,
     /// 1 where all goods open at 0, and 2 where the seller names an opening price for each.
     pub version: u8,

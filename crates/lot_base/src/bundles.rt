@@ -15,7 +15,9 @@ use std::marker::Model;
 /// A quantity of each of 1 to 6 goods, seen as the list of the quantities.
 #[derive(Clone, Copy, Debug)]
 pub struct Bundle {
+    /// The quantity of each good, good 0 first, and zeros behind them.
     cells: [u16; 6],
+    /// How many goods there are, 1 to 6: so many cells are seen.
     count: u8,
 }
 

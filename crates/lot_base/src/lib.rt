@@ -12,8 +12,6 @@ pub mod raw;
 pub mod sequences;
 pub mod supply;
 pub mod tables;
-#[cfg(test)]
-mod tests;
 
 pub use auction_terms::{Terms, TermsFault};
 pub use bundles::{Bundle, compare, quantity_in};

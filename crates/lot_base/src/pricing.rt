@@ -11,7 +11,9 @@ use std::marker::Model;
 /// A price of each of 1 to 6 goods, seen as the list of the prices.
 #[derive(Clone, Copy, Debug)]
 pub struct Prices {
+    /// The price of each good, good 0 first, and zeros behind them.
     cells: [u32; 6],
+    /// How many goods there are, 1 to 6: so many cells are seen.
     count: u8,
 }
 

@@ -81,6 +81,3 @@ pub fn excess(goods: &Goods, tables: &[LeastTable]) -> Excess
     }
     excess
 }
-
-#[cfg(test)]
-mod tests;

@@ -14,8 +14,6 @@ mod choosing;
 pub mod laws;
 pub mod outcome;
 mod standing;
-#[cfg(test)]
-mod tests;
 
 use choosing::Choices;
 use clock::Clock;

@@ -29,6 +29,7 @@ pub type Place<B> = Seat<Option<B>, View<<B as Book>::Entry, <B as Book>::Origin
 
 /// The table of a desk, with its three words and its one slot.
 pub(crate) struct Board<B: Book> {
+    /// Its words: the next ticket, the one that is served and the number of entries. Its slot: the book, None while a turn has it.
     pub(crate) table: Table<Option<B>, View<B::Entry, B::Origin>, Snapshot<B>, Turns<B>, Global>,
     /// How many threads sleep until a turn passes on, or are about to. No clause speaks of it.
     pub(crate) sleepers: AtomicU32,

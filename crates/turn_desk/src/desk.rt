@@ -26,9 +26,11 @@ impl<B: Book> Model for Desk<B> {
 
 /// The right to take turns at one desk.
 pub struct Pass<B: Book> {
+    /// Its place among the passes of its desk, from 0. There are at most 64.
     number: u32,
     /// The number of entries at the take, modulo 2^64. 0 at rest.
     count: u64,
+    /// Its seat at the table of the desk, with what the pass has seen and appended. It stands for itself alone, and waits for no turn.
     seat: Place<B>,
 }
 

@@ -9,8 +9,6 @@ pub mod laws;
 mod rule;
 mod shared;
 mod steps;
-#[cfg(test)]
-mod tests;
 mod turns;
 mod view;
 

@@ -12,6 +12,7 @@ pub enum Stage<E> {
 
 /// What a seat knows of the desk and of itself.
 pub struct View<E, O> {
+    /// Whether it rests, waits for its turn or has it.
     pub stage: Stage<E>,
     /// The history that it has seen.
     pub seen: LinkedList<E>,
@@ -23,6 +24,7 @@ pub struct View<E, O> {
     pub origin: Option<O>,
     /// The number of entries of the history when the desk was made.
     pub start: u64,
+    /// Its place among the seats that were made, from 0, which is the first seat's.
     pub number: u64,
     /// How many seats it stands for. A spent one has 0.
     pub seats: u64,

@@ -1,9 +1,0 @@
-use Rattle.std.proofs.Common.{◌≡◌, None}
-use Rattle.turn_desk.proofs.tests.write_all.Given as goal
-
-abbrev pub invariant-loop-note : goal.invariant-loop-note
-invariant-loop-note g l = record {
-  desk : l.pass.desk ≡ l.initial.pass.desk;
-  rests : l.pass.turn ≡ None;
-  made : l.pass.made ≡ l.initial.pass.made;
-}

@@ -1,0 +1,205 @@
+//! The desk with one thread, with two, and with as many passes as it can have.
+ghost use Rattle.std.specs.Prelude.{◌≡◌, List, None};
+ghost use Rattle.turn_desk.specs.Histories.{GoesOn};
+ghost use Rattle.turn_desk.specs.Passes.{AreAll};
+
+use std::alloc::Global;
+use std::sync::Wait;
+use std::test::Fail;
+use std::thread;
+use std::thread::Threads;
+use turn_desk::{Book, Desk, Pass};
+
+/// Numbers, the oldest first. Its origin is the number that was written on its cover.
+#[derive(Drop)]
+struct Notes {
+    cover: u32,
+    notes: Vec<u32>,
+}
+
+impl Book for Notes {
+    type Entry = u32;
+
+    type Origin = u32;
+
+    ghost history = { λ b. b.notes.items };
+
+    ghost origin = { λ b. b.cover };
+
+    fn length(&self) -> u64 {
+        self.notes.len() as u64
+    }
+}
+
+impl Notes {
+    fn empty(alloc: Global) -> Notes {
+        Notes {
+            cover: 5,
+            notes: Vec::new(alloc),
+        }
+    }
+
+    /// Adds a note, if there is memory.
+    fn add(&mut self, note: u32) -> bool
+        ensures history { GoesOn self.old.notes.items self.new.notes.items }
+        ensures cover { self.new.cover ≡ self.old.cover }
+    {
+        self.notes.push(note).is_ok()
+    }
+}
+
+/// Adds a note in one turn, and answers how many there were.
+fn write<T: Wait>(rt: &T, desk: &Desk<Notes>, pass: &mut Pass<Notes>, note: u32) -> usize
+    requires desk { pass.old.desk ≡ desk.now.id }
+    requires rests { pass.old.turn ≡ None }
+    ensures desk { pass.new.desk ≡ pass.old.desk }
+    ensures rests { pass.new.turn ≡ None }
+    ensures made { pass.new.made ≡ pass.old.made }
+{
+    let mut book = desk.take(rt, pass);
+    let before = book.notes.len();
+    let _added = book.add(note);
+    desk.give(pass, book);
+    before
+}
+
+/// Looks at the desk in one turn, and answers how many notes there are.
+fn look<T: Wait>(rt: &T, desk: &Desk<Notes>, pass: &mut Pass<Notes>) -> usize
+    requires desk { pass.old.desk ≡ desk.now.id }
+    requires rests { pass.old.turn ≡ None }
+    ensures desk { pass.new.desk ≡ pass.old.desk }
+    ensures rests { pass.new.turn ≡ None }
+    ensures made { pass.new.made ≡ pass.old.made }
+{
+    let book = desk.take(rt, pass);
+    let found = book.notes.len();
+    desk.give(pass, book);
+    found
+}
+
+/// Adds the numbers from `first` to below `end`, each in a turn of its own.
+fn write_all<T: Wait>(
+    rt: &T,
+    desk: &Desk<Notes>,
+    mut pass: Pass<Notes>,
+    first: u32,
+    end: u32,
+) -> Pass<Notes>
+    requires desk { pass.desk ≡ desk.now.id }
+    requires rests { pass.turn ≡ None }
+    ensures desk { result.desk ≡ pass.desk }
+    ensures rests { result.turn ≡ None }
+    ensures made { result.made ≡ pass.made }
+{
+    for note in first..end {
+        let _before = write(rt, desk, &mut pass, note);
+    }
+    pass
+}
+
+/// Each pass adds its number, one after the other.
+fn write_numbers<T: Wait>(rt: &T, desk: &Desk<Notes>, passes: &mut Vec<Pass<Notes>>)
+    requires all { AreAll desk.now.id passes.old.items }
+    ensures all { AreAll desk.now.id passes.new.items }
+{
+    for place in 0..passes.len() {
+        let number = passes[place].number();
+        let _before = write(rt, desk, &mut passes[place], number);
+    }
+}
+
+/// What one thread with one pass writes, and how many notes it found at the last look.
+fn alone<T: Wait>(rt: &T, notes: Notes, alloc: Global) -> Result<(Notes, usize), Fail> {
+    let Ok((desk, mut passes)) = Desk::new(alloc, notes, 1) else {
+        return Err(Fail::from("memory"));
+    };
+    let pass = passes.pop().unwrap();
+    let mut pass = write_all(rt, &desk, pass, 7, 10);
+    let found = look(rt, &desk, &mut pass);
+    let pass = write_all(rt, &desk, pass, 10, 12);
+    passes.push_reserved(pass);
+    Ok((desk.close(passes), found))
+}
+
+#[test]
+fn one_pass_takes_turn_after_turn(rt: HostRuntime) -> Result<(), Fail> {
+    let mut notes = Notes::empty(rt.alloc());
+    assert!(rt; notes.add(4) && notes.add(4));
+    let (book, found) = alone(&rt, notes, rt.alloc())?;
+    assert_eq!(rt; found, 5);
+    assert_eq!(rt; book.cover, 5);
+    assert_eq!(rt; book.notes.as_slice(), [4, 4, 7, 8, 9, 10, 11].as_slice());
+    Ok(())
+}
+
+/// The notes that the first pass found, those that the second found, and the book at the end.
+fn one_after_the_other<T: Wait>(rt: &T, alloc: Global) -> Result<(usize, usize, Notes), Fail> {
+    let Ok((desk, mut passes)) = Desk::new(alloc, Notes::empty(alloc), 2) else {
+        return Err(Fail::from("memory"));
+    };
+    let mut second = passes.pop().unwrap();
+    let mut first = passes.pop().unwrap();
+    let before = write(rt, &desk, &mut first, 3);
+    let seen = look(rt, &desk, &mut second);
+    passes.push_reserved(first);
+    passes.push_reserved(second);
+    Ok((before, seen, desk.close(passes)))
+}
+
+#[test]
+fn the_second_pass_sees_what_the_first_appended(rt: HostRuntime) -> Result<(), Fail> {
+    let (before, seen, book) = one_after_the_other(&rt, rt.alloc())?;
+    assert_eq!(rt; before, 0);
+    assert_eq!(rt; seen, 1);
+    assert_eq!(rt; book.notes.as_slice(), [3].as_slice());
+    Ok(())
+}
+
+/// What two threads write, each in fifty turns: one the even hundred, the other the odd.
+fn two_threads<T: Threads + Wait + Sync>(rt: &T, alloc: Global) -> Result<Notes, Fail> {
+    let Ok((desk, mut passes)) = Desk::new(alloc, Notes::empty(alloc), 2) else {
+        return Err(Fail::from("memory"));
+    };
+    let second = passes.pop().unwrap();
+    let first = passes.pop().unwrap();
+    let shared = &desk;
+    let (first, second) = thread::join(
+        rt,
+        move || write_all(rt, shared, first, 0, 50),
+        move || write_all(rt, shared, second, 50, 100),
+    );
+    passes.push_reserved(first);
+    passes.push_reserved(second);
+    Ok(desk.close(passes))
+}
+
+#[test]
+fn two_threads_write_one_history_with_every_entry_once(rt: HostRuntime) -> Result<(), Fail> {
+    let book = two_threads(&rt, rt.alloc())?;
+    assert_eq!(rt; book.notes.len(), 100);
+    for want in 0..100 {
+        let times = book.notes.iter().filter(|&&note| note == want).count();
+        assert_eq!(rt; times, 1, "at {want}");
+    }
+    Ok(())
+}
+
+/// What sixty-four passes write, in two rounds.
+fn two_rounds<T: Wait>(rt: &T, alloc: Global) -> Result<Notes, Fail> {
+    let Ok((desk, mut passes)) = Desk::new(alloc, Notes::empty(alloc), 64) else {
+        return Err(Fail::from("memory"));
+    };
+    write_numbers(rt, &desk, &mut passes);
+    write_numbers(rt, &desk, &mut passes);
+    Ok(desk.close(passes))
+}
+
+#[test]
+fn sixty_four_passes_write_their_numbers_in_two_rounds(rt: HostRuntime) -> Result<(), Fail> {
+    let book = two_rounds(&rt, rt.alloc())?;
+    assert_eq!(rt; book.notes.len(), 128);
+    for (place, &note) in book.notes.iter().enumerate() {
+        assert_eq!(rt; note as usize, place % 64, "at {place}");
+    }
+    Ok(())
+}
