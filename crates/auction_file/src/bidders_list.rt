@@ -9,13 +9,16 @@ use crate::elements::name_after;
 use crate::faults::{AuctionFault, Key};
 use crate::naming::Name;
 use hex::FromHex;
+use lot_base::limits::MOST_BIDDERS;
 use std::alloc::{AllocError, Global};
 use toml::{Table, Value};
 
 /// A bidder of the file.
 #[derive(Drop)]
 pub(crate) struct Bidder {
+    /// 1 to 32 bytes, and that of no bidder before it in the file.
     pub(crate) name: Name,
+    /// The SHA-256 of its token.
     pub(crate) digest: [u8; 32],
 }
 
@@ -27,7 +30,7 @@ pub(crate) fn bidders_of(alloc: Global, file: &Table) -> Result<Vec<Bidder>, Auc
     ensures few { IfOk result (λ v. length v.items ≤ 12) }
 {
     let elements = array_at(file, "bidders", Key::Bidders)?;
-    if elements.is_empty() || elements.len() > 12 {
+    if elements.is_empty() || elements.len() > MOST_BIDDERS as usize {
         return Err(AuctionFault::Bidders(elements.len() as u64));
     }
     each_bidder(alloc, elements)

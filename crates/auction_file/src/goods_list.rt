@@ -15,8 +15,11 @@ use toml::{Table, Value};
 /// A good of the file.
 #[derive(Drop)]
 pub(crate) struct Good {
+    /// 1 to 32 bytes, and that of no good before it in the file.
     pub(crate) name: Name,
+    /// How many units there are. 0 to 65,535: whether the supplies are those of an auction is judged for all goods together.
     pub(crate) supply: u16,
+    /// The price at which each clock opens, below the ceiling. 0 where the file names none.
     pub(crate) opening: u16,
 }
 

@@ -18,7 +18,9 @@ use std::alloc::Global;
 /// Why a frame was not sent whole.
 #[derive(Clone, Copy, Debug, PartialEq, Eq)]
 pub(crate) enum Cut {
+    /// A call on the link failed; a front of the frame may have been written.
     LinkFault,
+    /// Memory ran out; nothing of the frame was written.
     NoMemory,
 }
 

@@ -15,7 +15,9 @@ use valuation::Valuation;
 /// A bidder who demands the bundles of the greatest surplus, all of them.
 #[derive(Clone, Copy)]
 pub struct Wants<'a> {
+    /// The supply within which the bundles are.
     pub goods: Goods,
+    /// What each bundle within the supply is worth to the bidder.
     pub valuation: &'a Valuation,
 }
 

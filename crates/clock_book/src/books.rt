@@ -23,10 +23,15 @@ use std::marker::Model;
 /// reserved when the book was opened.
 #[derive(Drop)]
 pub struct ClockBook<D: Disk> {
+    /// The clock, whose reports are those that count, with the history of its desk.
     pub(crate) noted: NotedClock,
+    /// On it is a record for each report of the clock, in order, and the one in doubt is the pending report's.
     pub(crate) journal: Journal<D>,
+    /// The report in doubt. The next offer settles first whether it counts.
     pub(crate) pending: Option<Report>,
+    /// Where the payload of an offered report is written before it is appended.
     pub(crate) payload: Payload,
+    /// The origin of the book, which stays as it was when the opening was answered.
     pub(crate) start: Start<D>,
 }
 

@@ -10,7 +10,9 @@ pub enum OpenFault {
     Broken(Broken),
     /// The report of this record, numbered from 1, is the first that the clock does not take.
     NotAcceptable { number: u32, judgement: Judgement },
+    /// A call on the disk failed.
     DiskFault,
+    /// Memory ran out.
     NoMemory,
 }
 

@@ -17,7 +17,9 @@ use std::marker::Model;
 /// A clock with the history of its desk, and with room for further reports.
 #[derive(Drop)]
 pub(crate) struct NotedClock {
+    /// Its reports are those of the history, in order.
     clock: Clock,
+    /// One for each report of the clock, in order.
     notes: Vec<Note>,
     /// How many marks stand behind the last report.
     since: u64,

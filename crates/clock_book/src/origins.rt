@@ -10,6 +10,7 @@ use std::snapshot::Snapshot;
 
 /// What stays of a book for as long as it lives. No value of this type is made: it is plain data of the proofs.
 pub struct Origin {
+    /// Those of the auction.
     pub terms: Terms,
     /// The clock's number.
     pub clock: u8,
@@ -29,11 +30,17 @@ pub struct Origin {
 
 /// The origin of a book, with what the proofs know of its disk then.
 pub(crate) struct Start<D: Disk> {
+    /// Those of the auction.
     pub(crate) terms: Terms,
+    /// The clock's number.
     pub(crate) clock: u8,
+    /// The SHA-256 of the auction's file.
     pub(crate) digest: [u8; 32],
+    /// The disk as it was behind the sync and the reading with which the opening began.
     pub(crate) synced: Snapshot<D>,
+    /// How many reports its file stood for then.
     pub(crate) reports: u64,
+    /// The journal as it was when the opening was answered.
     pub(crate) answered: Snapshot<Journal<D>>,
 }
 

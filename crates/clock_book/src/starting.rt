@@ -30,7 +30,9 @@ const MOST_QUANTITIES: u64 = 33_554_432;
 /// A disk on which no book was opened, with the reason.
 #[derive(Drop)]
 pub struct Unopened<D> {
+    /// The disk that was given, handed back. It was synced, unless the opening stopped before; an unformed file may have got a header.
     pub disk: D,
+    /// Why no book was opened.
     pub fault: OpenFault,
 }
 

@@ -21,8 +21,11 @@ const APPEND: u64 = 4;
 /// A report of some units of the one good.
 #[derive(Clone, Copy, Debug)]
 struct Line {
+    /// Its number, from 1.
     bidder: u8,
+    /// From 1.
     round: u32,
+    /// How many are demanded: the demand has this one bundle.
     units: u16,
 }
 
@@ -52,7 +55,9 @@ fn priced_terms() -> Result<Terms, Fail> {
 /// A book of clock 0 of these terms.
 #[derive(Drop)]
 struct Stand {
+    /// Those that the book was opened with.
     terms: Terms,
+    /// Of clock 0, over a disk of which chosen calls fail.
     book: ClockBook<ListDisk>,
     ghost same: { book.origin.terms ≡ terms },
 }

@@ -9,8 +9,11 @@ use std::marker::Model;
 /// The steps of a clock so far, as running sums. It holds at most 60,000 steps.
 #[derive(Debug, Drop)]
 pub struct Account {
+    /// How many steps were added, at most 60,000.
     steps: u32,
+    /// The supply of each step's set of goods, added up over the steps.
     units: u64,
+    /// At its number, what each bidder demanded at least of each step's set, added up. Place 0 is nobody's.
     least: [u64; 13],
 }
 

@@ -14,8 +14,11 @@ use valuation::strides;
 /// The places of two bundles, and a good of which no unit goes from the first to the second.
 #[derive(Clone, Copy, Debug)]
 pub(crate) struct Triple {
+    /// The index of the first bundle among those within the supply, from 0. It has more of the good than the second.
     pub(crate) x: u32,
+    /// The index of the second bundle, counted in the same way.
     pub(crate) y: u32,
+    /// From 0.
     pub(crate) good: u8,
 }
 

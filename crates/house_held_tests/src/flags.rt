@@ -17,7 +17,9 @@ const TAKEN: u8 = 0x13;
 /// A gate that raises a flag when it is reached, and waits for another one, if it has one to wait for.
 #[derive(Drop)]
 pub struct FlagGate<'a> {
+    /// Raised when the gate is reached.
     pub reached: &'a AtomicBool,
+    /// The flag that the gate waits for, if it waits for one.
     pub awaited: Option<&'a AtomicBool>,
     /// Raised where the wait was given up.
     pub late: &'a AtomicBool,
@@ -47,9 +49,11 @@ impl<'a> Gate for FlagGate<'a> {
 /// A link in memory that raises a flag once the reply that a report was taken is pushed. It tells nothing.
 #[derive(Drop)]
 pub struct FlagLink<'a> {
+    /// What is pulled comes from it, and what is pushed goes to it.
     pub link: SureLink,
     /// How many bytes were pushed.
     pub pushed: usize,
+    /// Raised when the reply to the report is pushed and says that it was taken.
     pub taken: &'a AtomicBool,
 }
 
@@ -78,7 +82,9 @@ impl<'a> Link for FlagLink<'a> {
 /// A door with one such link. It tells nothing.
 #[derive(Drop)]
 pub struct FlagDoor<'a> {
+    /// The link that it has yet to give. None once it was given.
     pub link: Option<FlagLink<'a>>,
+    /// How often a link was asked for that was not there.
     pub faults: u64,
 }
 

@@ -43,11 +43,17 @@ const BOB: &[u8] =
 /// The flags of a case: a gate was reached, a report was answered, or a wait was given up.
 #[derive(Drop)]
 struct Flags {
+    /// The gate of a clock on which neither bidder reports was reached.
     reached_none: AtomicBool,
+    /// The gate of clock 1 was reached: the report to it is about to be written.
     reached_one: AtomicBool,
+    /// The gate of clock 2 was reached: the report to it is about to be written.
     reached_two: AtomicBool,
+    /// At the first door bidder 1 was answered that its report to clock 2 was taken.
     taken_at_first: AtomicBool,
+    /// At the second door bidder 2 was answered that its report to clock 1 was taken.
     taken_at_second: AtomicBool,
+    /// A gate gave up its wait. No test that goes well raises it.
     late: AtomicBool,
 }
 

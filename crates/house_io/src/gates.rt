@@ -12,7 +12,9 @@ pub trait Gate {
 /// A disk that reaches its gate before each write, and else is the disk.
 #[derive(Drop)]
 pub struct GatedDisk<D: Disk, G: Gate> {
+    /// The disk that each call goes on to.
     pub disk: D,
+    /// It is reached once before each write, and before no other call.
     pub gate: G,
 }
 

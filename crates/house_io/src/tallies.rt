@@ -10,6 +10,7 @@ use std::marker::Model;
 /// How often the calls on a name failed.
 #[derive(Drop)]
 pub(crate) struct Tally {
+    /// What the calls were on: a name that a shelf was asked to open.
     name: String,
     /// How often they failed, up to the last value of 64 bits.
     faults: u64,
@@ -34,6 +35,7 @@ impl Model for Tallies {
 }
 
 impl Tallies {
+    /// No tallies.
     pub(crate) fn new(alloc: Global) -> Tallies
         ensures { result ≡ [] }
     {

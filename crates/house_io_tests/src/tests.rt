@@ -145,6 +145,7 @@ fn sure_files(alloc: Global) -> Result<Vec<SureFile>, Fail> {
     Ok(files)
 }
 
+/// A shelf of three files, of which the first and the last are named `log`.
 pub(crate) fn sure_shelf(alloc: Global) -> Result<SureShelf, Fail> {
     Ok(SureShelf::new(alloc, sure_files(alloc)?, 40)?)
 }

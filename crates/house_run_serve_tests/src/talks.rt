@@ -120,8 +120,11 @@ fn has_ended(ran: &Ran, status: u8, text: &str) -> bool {
 /// A house and both bidders.
 #[derive(Drop)]
 struct Talk {
+    /// How the house ended. None where memory ran out.
     house: Ran,
+    /// How the bid of bidder 1 ended. None where memory ran out, or where the doors were never open.
     ada: Ran,
+    /// How the bid of bidder 2 ended, in the same way.
     bob: Ran,
 }
 
@@ -230,9 +233,13 @@ fn is_served<T: Clock, N: Net>(rt: &T, alloc: Global, net: &mut N, address: &str
 /// who is served.
 #[derive(Drop)]
 struct Visits {
+    /// How the house ended. None where memory ran out.
     house: Ran,
+    /// The front of a hello was sent before the link was hung up.
     cut: bool,
+    /// How the other house ended, which finds the address in use.
     other: Ran,
+    /// The last session had just the replies that it should have.
     served: bool,
 }
 

@@ -92,6 +92,7 @@ fn joined(alloc: Global, pieces: &[&[u8]]) -> Result<Vec<u8>, Fail> {
     Ok(bytes)
 }
 
+/// A file of a shelf, with this name and this text.
 pub(crate) fn file_of(alloc: Global, name: &str, text: &str) -> Result<SureFile, NoMemory> {
     Ok(SureFile {
         name: String::from_str(alloc, name)?,

@@ -44,11 +44,13 @@ pub(crate) const BYE: &[u8] = b"\x00\x00\x00\x00\x16";
 /// What comes, in pieces, what goes, in pieces, and the end.
 type Case<'a> = (&'a [&'a [u8]], &'a [&'a [u8]], SessionEnd);
 
+/// The auction of the two bidders.
 pub(crate) fn auction(rt: &impl Abort, alloc: Global) -> Result<Auction, Fail> {
     assert!(rt; FILE.len() <= MOST_BYTES);
     Ok(read(alloc, FILE.as_bytes())?)
 }
 
+/// The bytes of the pieces, one piece behind the other.
 pub(crate) fn joined(alloc: Global, pieces: &[&[u8]]) -> Result<Vec<u8>, Fail> {
     let mut bytes = Vec::new(alloc);
     for piece in pieces {
@@ -57,6 +59,7 @@ pub(crate) fn joined(alloc: Global, pieces: &[&[u8]]) -> Result<Vec<u8>, Fail> {
     Ok(bytes)
 }
 
+/// A link that never fails, over which these pieces come, with room for 1,000 bytes to go.
 pub(crate) fn sure_link(alloc: Global, pieces: &[&[u8]]) -> Result<SureLink, Fail> {
     Ok(SureLink::new(alloc, joined(alloc, pieces)?, 1000)?)
 }

@@ -18,7 +18,9 @@ use std::alloc::Global;
 /// What a text begins with.
 #[derive(Clone, Copy)]
 pub(crate) struct Head {
+    /// How many there are, 1 to 6.
     pub(crate) goods: u8,
+    /// How many there are, 1 to 12.
     pub(crate) bidders: u8,
     /// The opening prices, where they are shown.
     pub(crate) opening: Option<Prices>,

@@ -23,7 +23,9 @@ pub enum JournalCause {
 /// The first broken record, by its number from 1; 0 is the header.
 #[derive(Clone, Copy, Debug, PartialEq, Eq)]
 pub struct Broken {
+    /// From 1; 0 is the header.
     pub number: u32,
+    /// `NotReport` of a record alone, `Damaged` of either, and the others of the header alone.
     pub cause: JournalCause,
 }
 

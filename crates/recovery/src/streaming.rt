@@ -31,14 +31,19 @@ pub enum Next {
 /// The reports of a journal's file, read one after another through a buffer. Its memory besides is what the scan takes.
 #[derive(Drop)]
 pub struct Reports {
+    /// Those of the auction. They decide which payloads are reports, and the version and opening that the header has to have.
     terms: Terms,
+    /// The number of the clock that the header has to name.
     clock: u8,
+    /// The SHA-256 of the auction's file, which the header has to name.
     digest: [u8; 32],
+    /// What the scan found with which the reading began: it has the place of each payload.
     scan: Scanned,
     /// How many reports were given.
     given: usize,
     /// The first broken record, once it was met.
     broken: Option<Broken>,
+    /// Bytes of the file that were read ahead, which the next payloads are taken from.
     window: Window,
 }
 

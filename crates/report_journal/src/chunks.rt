@@ -12,8 +12,11 @@ const CHUNK: usize = 65_536;
 /// Bytes of a file from an offset on, as many as are filled.
 #[derive(Drop)]
 pub struct Chunk {
+    /// The buffer, whose first bytes are the file's. What stands behind them says nothing.
     pub bytes: Vec<u8>,
+    /// The offset in the file of the first byte.
     pub at: u64,
+    /// How many bytes of the buffer are the file's; 0 before the first load.
     pub filled: usize,
     ghost room: { 5 ≤ vec_len bytes },
     ghost within: { filled ≤ vec_len bytes },

@@ -61,6 +61,8 @@ pub enum Mended {
 /// A disk on which no journal could be formed, with the reason: `DiskFault` or `NoMemory`.
 #[derive(Drop)]
 pub struct NotFormed<D> {
+    /// The disk that was given, handed back. After `DiskFault` a part of a header may be on it.
     pub disk: D,
+    /// `DiskFault` or `NoMemory`: where it is the latter the disk is as it was given.
     pub fault: JournalFault,
 }

@@ -60,8 +60,11 @@ pub fn next_record<D: Disk>(
 /// The places of the records of a list, the gate after them, and whether it is closed.
 #[derive(Drop)]
 pub struct Found {
+    /// Those of the payloads, record 1 first.
     pub places: Vec<Place>,
+    /// The offset of the gate behind the last record, or of the first gate where there is none.
     pub gate: u32,
+    /// The list ends there. Where it is false the gate is open, and no record stands behind it.
     pub closed: bool,
 }
 

@@ -24,8 +24,11 @@ use std::marker::Model;
 /// doubt.
 #[derive(Drop)]
 pub struct Journal<D: Disk> {
+    /// On it lies the journal's file, and nothing else.
     disk: D,
+    /// What the file begins with, behind its own gate: of version 1 or 2.
     header: Header,
+    /// Where the payloads that count lie, record 1 first. One in doubt is not among them.
     places: Vec<Place>,
     /// The gate that ends the list.
     end: u32,

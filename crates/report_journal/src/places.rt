@@ -6,7 +6,9 @@ use std::marker::Model;
 /// Where a payload lies: its offset in the file, and its length in bytes.
 #[derive(Clone, Copy, Debug, PartialEq, Eq)]
 pub struct Place {
+    /// The offset of its first byte. The gate of its record stands five bytes before.
     pub at: u32,
+    /// At most 32,768 in a journal.
     pub length: u32,
 }
 

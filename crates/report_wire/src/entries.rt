@@ -18,8 +18,11 @@ const HEAD: usize = 8;
 /// A report as it lies in its payload.
 #[derive(Clone, Copy, Debug)]
 pub struct EntryView<'a> {
+    /// The number in the first byte, which may be that of no bidder.
     pub bidder: u8,
+    /// The number in the next four bytes, which may be 0.
     pub round: u32,
+    /// How many quantities each bundle has, 1 to 6.
     pub goods: u8,
     /// The quantities of the bundles, one bundle after another, in two bytes each, big-endian.
     pub quantities: &'a [u8],

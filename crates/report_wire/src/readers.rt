@@ -53,8 +53,11 @@ fn next_frame<F: Frame>(alloc: Global, bytes: &[u8]) -> Result<Found<F>, NoMemor
 /// The messages at the front of some bytes, the length of their frames, and the fault that stands behind them.
 #[derive(Drop)]
 pub(crate) struct Front<F> {
+    /// In the order in which they stand there.
     pub frames: Vec<F>,
+    /// How many bytes the frames of these messages take up; the rest begins behind them.
     pub length: usize,
+    /// What is wrong with the rest. None where it is less than a frame.
     pub fault: Option<WireKind>,
 }
 
@@ -95,10 +98,15 @@ fn read_front<F: Frame>(alloc: Global, bytes: &[u8]) -> Result<Front<F>, NoMemor
 /// Reads the frames of one direction off a stream, seen as what it keeps.
 #[derive(Drop)]
 pub struct Reader<F: Frame> {
+    /// Where the memory for the rest and for the messages comes from.
     alloc: Global,
+    /// How many bytes of the stream came before the rest, modulo 2^64.
     place: u64,
+    /// What came and is no whole frame yet. Once a fault was met, the bytes from the fault on.
     rest: Vec<u8>,
+    /// What is wrong at the front of the rest. None until a fault was met; then nothing more is read.
     fault: Option<WireKind>,
+    /// Says in its type which direction's messages are read. It holds nothing.
     of: PhantomData<F>,
 }
 
@@ -117,7 +125,9 @@ impl<F: Frame> Model for Reader<F> {
 /// The messages that became whole, and the fault that stands behind them.
 #[derive(Drop)]
 pub struct Feed<F> {
+    /// In the order in which they came. None behind a fault.
     pub frames: Vec<F>,
+    /// The fault that ends the stream, with its place. It is told anew at each feed from the one that met it on.
     pub fault: Option<WireFault>,
 }
 

@@ -35,7 +35,9 @@ impl Model for Session {
 /// A reply, and whether the session goes on behind it.
 #[derive(Drop)]
 pub struct Answer {
+    /// The message that the bidder is sent for its frame.
     pub reply: ToBidder,
+    /// False where the frame was a quit, or a first hello that was refused.
     pub goes_on: bool,
 }
 

@@ -32,7 +32,9 @@ use workers::run_clocks;
 /// The clocks of a trial, in the order of their numbers, and what they settle.
 #[derive(Debug, Drop)]
 pub struct Tried {
+    /// Clock 0 first: one more than there are bidders. Each has ended.
     pub clocks: Vec<Clock>,
+    /// What these clocks settle, which is an outcome.
     pub settlement: Settlement,
 }
 

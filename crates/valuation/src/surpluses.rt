@@ -25,6 +25,7 @@ const MOST_STEADY: u32 = 60_000;
 /// What each bundle of a box is worth to a bidder beyond its cost at the present prices.
 #[derive(Debug, Drop)]
 pub struct Surplus {
+    /// The supply within which the bundles are.
     goods: Goods,
     /// By how many steps the prices rose.
     steps: u32,

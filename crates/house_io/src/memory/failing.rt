@@ -20,6 +20,7 @@ impl Model for FailingCalls {
 }
 
 impl FailingCalls {
+    /// The plan before the first call, by which the calls with these numbers fail.
     pub(crate) fn new(failing: Vec<u64>) -> FailingCalls
         ensures { result ≡ begun failing.items }
     {

@@ -20,7 +20,9 @@ use std::marker::Model;
 /// A door in memory of which chosen calls fail. Where no link is to come it fails.
 #[derive(Drop)]
 pub struct ListDoor {
+    /// The links that it has yet to give, in order, each with its count at 0.
     to_come: VecDeque<ListLink>,
+    /// The links that were hung up, in order. A new door has a place for each of its links to come.
     hung_up: Places<ListLink>,
     /// Which calls to accept fail.
     plan: FailingCalls,
@@ -128,9 +130,13 @@ impl Door for ListDoor {
 /// A net in memory of which chosen calls fail. Where too few doors are to come, or no link, it fails.
 #[derive(Drop)]
 pub struct ListNet {
+    /// The doors that are yet to be opened, in order, each with a place for each of its links and its count at 0.
     doors: VecDeque<ListDoor>,
+    /// The links that are yet to be dialled, in order, each with its count at 0.
     links: VecDeque<ListLink>,
+    /// The doors that were given back, in order. A place is reserved for each door that is given.
     closed: Places<ListDoor>,
+    /// The dialled links that were given back, in order. A place is reserved for each link that is given.
     hung_up: Places<ListLink>,
     /// Which calls fail, of those that open doors and those that dial.
     plan: FailingCalls,

@@ -20,7 +20,9 @@ use std::marker::Model;
 /// A named file in memory, with the numbers of the calls that fail on a source that is opened on it.
 #[derive(Drop)]
 pub struct ListFile {
+    /// By which it is opened. Of several files of a name the first counts.
     pub name: String,
+    /// What it holds at first.
     pub bytes: Vec<u8>,
     /// The numbers of the calls that fail on a source, or on a new disk, that is opened on it.
     pub failing: Vec<u64>,

@@ -9,7 +9,9 @@ use std::marker::Model;
 /// Things that were given back, seen as their list and the number of places that are free for more.
 #[derive(Drop)]
 pub(crate) struct Places<T> {
+    /// In the order in which they were given back.
     kept: Vec<T>,
+    /// How many more may be kept without taking memory. At 0 a thing is dropped.
     free: usize,
 }
 

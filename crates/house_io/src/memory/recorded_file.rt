@@ -24,6 +24,7 @@ pub enum Call {
 pub struct Range {
     /// Its offset.
     pub at: u64,
+    /// How many bytes the write had, whether it was whole or failed.
     pub length: u64,
 }
 

@@ -82,8 +82,11 @@ impl MemoryDisk for ListDisk {
 /// A file of a shelf, with the calls that fail on a source or a new disk on it.
 #[derive(Drop)]
 pub(crate) struct Entry<D: MemoryDisk> {
+    /// By which it is opened. Of several files of a name the first counts.
     name: String,
+    /// What the file held at first. A read gives it while no closed disk is kept on the file.
     bytes: Vec<u8>,
+    /// The numbers of those calls, from 0. On a disk that never fails they say nothing.
     pub(crate) failing: Vec<u64>,
     /// The disk that was closed on it, if one was.
     disk: Option<D>,

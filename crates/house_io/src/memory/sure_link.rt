@@ -13,7 +13,9 @@ use std::marker::Model;
 /// piece passes its room, it takes the piece without keeping it, and from then on tells nothing.
 #[derive(Drop)]
 pub struct SureLink {
+    /// What comes in over the link: the bytes that are left to be pulled.
     source: SureSource,
+    /// What went out over the link, as far as its room sufficed.
     sink: SureSink,
 }
 

@@ -17,8 +17,11 @@ use std::marker::Model;
 /// A door in memory that never fails, seen as its links. Where none is to come it gives a link without bytes.
 #[derive(Drop)]
 pub struct SureDoor {
+    /// What a link without bytes is made with. Such a link takes no memory.
     alloc: Global,
+    /// The links that it has yet to give, in order.
     to_come: VecDeque<SureLink>,
+    /// The links that were hung up, in order. A new door has a place for each of its links to come.
     hung_up: Places<SureLink>,
 }
 
@@ -97,9 +100,13 @@ impl Door for SureDoor {
 /// and links without bytes.
 #[derive(Drop)]
 pub struct SureNet {
+    /// The doors that are yet to be opened, in order, each with a place for each of its links.
     doors: VecDeque<SureDoor>,
+    /// The links that are yet to be dialled, in order.
     links: VecDeque<SureLink>,
+    /// The doors that were given back, in order. A place is reserved for each door that is given.
     closed: Places<SureDoor>,
+    /// The dialled links that were given back, in order. A place is reserved for each link that is given.
     hung_up: Places<SureLink>,
 }
 

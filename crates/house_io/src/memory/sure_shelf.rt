@@ -16,7 +16,9 @@ use std::marker::Model;
 /// A named file in memory.
 #[derive(Drop)]
 pub struct SureFile {
+    /// By which it is opened. Of several files of a name the first counts.
     pub name: String,
+    /// What it holds at first.
     pub bytes: Vec<u8>,
 }
 

@@ -14,6 +14,7 @@ use std::marker::Model;
 /// A file that is open for reading and writing, seen as the file and the count of its faults.
 #[derive(Drop)]
 pub struct FileDisk<F> {
+    /// Its position says nothing between two calls: each read and each write goes to its offset first.
     file: F,
     /// How often a call on it has failed, up to the last value of 64 bits.
     faults: u64,

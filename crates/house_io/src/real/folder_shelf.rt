@@ -18,6 +18,7 @@ use std::rt::Files;
 /// name fails.
 #[derive(Drop)]
 pub struct FolderShelf<'a, R: Files> {
+    /// The runtime by which files are opened.
     rt: &'a R,
     /// The names that were opened, and the faults of each.
     tallies: Tallies,

@@ -11,6 +11,7 @@ use std::marker::Model;
 /// A file that is open for reading, seen as the file and the count of its faults.
 #[derive(Drop)]
 pub struct FileSource<F> {
+    /// Its position is where the last pull ended.
     file: F,
     /// How often it has failed, up to the last value of 64 bits.
     faults: u64,
@@ -64,6 +65,7 @@ impl<F: Read> Source for FileSource<F> {
 /// Standard output, seen as the count of its faults. It keeps no buffer: what a push took has left the process.
 #[derive(Drop)]
 pub struct StdoutSink<'a, R: Print> {
+    /// The runtime whose standard output it is.
     rt: &'a R,
     /// How often it has failed, up to the last value of 64 bits.
     faults: u64,

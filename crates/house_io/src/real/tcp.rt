@@ -15,6 +15,7 @@ use std::net::{OpenListener, OpenStream, TcpListener, TcpStream};
 /// A connection, seen as the count of its faults. A pull reads once, and a push writes once.
 #[derive(Drop)]
 pub struct TcpLink<S> {
+    /// The connection. Its small pieces are sent at once where the system allows it.
     stream: S,
     /// How often it has failed, up to the last value of 64 bits.
     faults: u64,
@@ -76,6 +77,7 @@ impl<S: Read + Write> Link for TcpLink<S> {
 /// A door at which connections come in, seen as the count of its faults.
 #[derive(Drop)]
 pub struct TcpDoor<L> {
+    /// Where the connections come in. The doors of a net at one address have clones of one listener.
     listener: L,
     /// How often it has failed, up to the last value of 64 bits.
     faults: u64,
@@ -141,6 +143,7 @@ where
 /// The network, seen as the count of its faults and of those that were given back to it.
 #[derive(Drop)]
 pub struct TcpNet<'a, R: std::net::Net> {
+    /// The runtime by which addresses are listened at and dialled.
     rt: &'a R,
     /// How often it has failed, up to the last value of 64 bits.
     faults: u64,
