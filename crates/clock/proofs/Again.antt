@@ -187,7 +187,7 @@ kept-again c past present left steps phase prices tables sums account after capa
     let P : Phase → Type 0 = λ p. HasStanding now (reports_before c (steps + 1)) (steps + 1) p (raised prices set.0) after in
     let standing = subst P (sym run.1) stand in
     let round : KeepsRound now [] left (steps + 1) tables sums = round-opened now left (steps + 1) phase (raised prices set.0) after tables sums standing (count-again c steps prices account f) (order-again c steps prices account f) run.0 k.round.tables.places
-    (λ j number one below member. tables-again c steps prices account tables had.some nobody k.round.tables f j number below member) k.round.tables.nobody (excess-opened c steps sums k.round.excess nobody) in
+    (λ j number one below member. tables-again c steps prices account tables had.some nobody k.round.tables f j number below member) k.round.tables.nobody k.round.tables.blank (excess-opened c steps sums k.round.excess nobody) in
     let R : List Report → Type 0 = λ rs. KeepsRound now rs left (steps + 1) tables sums in
     record {
       standing = standing;

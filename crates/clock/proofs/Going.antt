@@ -56,8 +56,8 @@ take-length (x ∷ reports) = ap (λ xs. x ∷ xs) (take-length reports)
 pub round-opened : (c : ClockHistory) (left steps : ℕ) (phase : Phase) (prices : List ℕ) (account : Sums) (tables : List (Option LeastTable)) (sums : List ℤ) → HasStanding c (reports_before c steps) steps phase prices account → length c.reports ≡ reports_before c steps
     → ((i : ℕ) (r : Report) → slice_get c.reports i ≡ Some r → r.round ≡ i / length (members_of c) + 1) → left ≡ length (members_of c)
     → length tables ≡ 13 → ((j set : ℕ) → 1 ≤ steps → set < 2 ^ length c.terms.goods → is_member c j ≡ true → least_in (slice_index_or tables j None) set ≡ least (demands_in c.reports steps j) set)
-    → ((j : ℕ) → is_member c j ≡ false → slice_index_or tables j None ≡ None) → IsExcessOf c.terms.goods [] sums → KeepsRound c [] left steps tables sums
-round-opened c left steps phase prices account tables sums k whole order all places earlier nobody opened = record {
+    → ((j : ℕ) → is_member c j ≡ false → slice_index_or tables j None ≡ None) → ((j set : ℕ) → 2 ^ length c.terms.goods ≤ set → least_in (slice_index_or tables j None) set ≡ 0) → IsExcessOf c.terms.goods [] sums → KeepsRound c [] left steps tables sums
+round-opened c left steps phase prices account tables sums k whole order all places earlier nobody blank opened = record {
   unpacked = sym (ap (λ n. drop n c.reports) (sym whole) ∙ drop-whole c.reports);
   in_order = order;
   counted = omega (arith, all);
@@ -69,6 +69,7 @@ round-opened c left steps phase prices account tables sums k whole order all pla
         let e : steps ≡ steps + 1 - 1 = omega arith in
         earlier j set (omega (arith, two)) below member ∙ ap (λ n. least (demands_in c.reports n j) set) e;
     nobody = nobody;
+    blank = blank;
   };
   excess = record {
     entries = λ set below.
@@ -102,7 +103,7 @@ kept-went c past now left steps tables sums opened after s chosen capacity went 
     let full = full-count (members_of c) c.reports (steps + 1) none in
     subst K (sym went.next_steps) (record {
       standing = went.standing;
-      round = round-opened c (length now) (steps + 1) s.phase s.prices after tables opened went.standing whole round.in_order went.full round.tables.places (λ j set some below member. round.tables.own j set below (reported c (steps + 1) j member full)) round.tables.nobody is;
+      round = round-opened c (length now) (steps + 1) s.phase s.prices after tables opened went.standing whole round.in_order went.full round.tables.places (λ j set some below member. round.tables.own j set below (reported c (steps + 1) j member full)) round.tables.nobody round.tables.blank is;
       goods = goods;
       sets = sets ∙ ap (λ n. sets_of c steps ++ n ∷ []) went.set_is ∙ sym (sets-next c steps);
       room = room;
@@ -156,12 +157,12 @@ unfolding sets_of
 first-sets c = refl
 
 first-all : (c : ClockHistory) (left : ℕ) (phase : Phase) (prices : List ℕ) (account : Sums) (tables : List (Option LeastTable)) (sums : List ℤ) (past : PastOf) (capacity : ℕ) → c.reports ≡ [] → HasStanding c (reports_before c 0) 0 phase prices account → left ≡ length (members_of c) → length tables ≡ 13
-    → ((j : ℕ) → is_member c j ≡ false → slice_index_or tables j None ≡ None) → IsExcessOf c.terms.goods [] sums → past.goods ≡ length c.terms.goods → past.sets ≡ [] → length (members_of c) ≤ capacity → IsKept c past [] left 0 phase prices tables sums account capacity
-first-all c left phase prices account tables sums past capacity none standing all places nobody opened goods sets room =
+    → ((j : ℕ) → is_member c j ≡ false → slice_index_or tables j None ≡ None) → ((j set : ℕ) → 2 ^ length c.terms.goods ≤ set → least_in (slice_index_or tables j None) set ≡ 0) → IsExcessOf c.terms.goods [] sums → past.goods ≡ length c.terms.goods → past.sets ≡ [] → length (members_of c) ≤ capacity → IsKept c past [] left 0 phase prices tables sums account capacity
+first-all c left phase prices account tables sums past capacity none standing all places nobody blank opened goods sets room =
     let whole : length c.reports ≡ reports_before c 0 = (let l = ap length none in omega (arith, l)) in
     record {
       standing = standing;
-      round = round-opened c left 0 phase prices account tables sums standing whole (λ i r at. absurd (nowhere i r (ap (λ rs. slice_get rs i) (sym none) ∙ at))) all places (λ j set some below member. absurd (omega (arith, some))) nobody opened;
+      round = round-opened c left 0 phase prices account tables sums standing whole (λ i r at. absurd (nowhere i r (ap (λ rs. slice_get rs i) (sym none) ∙ at))) all places (λ j set some below member. absurd (omega (arith, some))) nobody blank opened;
       goods = goods;
       sets = ap set_numbers sets ∙ sym (first-sets c);
       room = room;
@@ -171,10 +172,10 @@ first-all c left phase prices account tables sums past capacity none standing al
     nowhere i r e = (let f : None ≡ Some r = e in cc)
 
 pub first-kept-all : (c : ClockHistory) (left : ℕ) (tables : List (Option LeastTable)) (sums : List ℤ) (before after : Sums) (s : Standing) (past : PastOf) (capacity : ℕ) → c.reports ≡ [] → c.number ≤ c.terms.bidders → left ≡ length (members_of c) → before.steps ≡ 0
-    → ((b : ℕ) → sum_without before b ≡ pos 0) → length tables ≡ 13 → ((j : ℕ) → is_member c j ≡ false → slice_index_or tables j None ≡ None) → IsExcessOf c.terms.goods [] sums
+    → ((b : ℕ) → sum_without before b ≡ pos 0) → length tables ≡ 13 → ((j : ℕ) → is_member c j ≡ false → slice_index_or tables j None ≡ None) → ((j set : ℕ) → 2 ^ length c.terms.goods ≤ set → least_in (slice_index_or tables j None) set ≡ 0) → IsExcessOf c.terms.goods [] sums
     → (left ≢ 0 → Waits 0 c.terms.opening before after s) → (left ≡ 0 → IsTurn c.terms.goods c.terms.ceiling 0 c.terms.opening sums tables before after s) → past.goods ≡ length c.terms.goods → past.sets ≡ [] → length (members_of c) ≤ capacity
     → IsKept c past [] left s.steps s.phase s.prices tables sums after capacity
-first-kept-all c left tables sums before after s past capacity none number all steps nothing places nobody opened wait turn goods sets room = by (cases_eq left 0)
+first-kept-all c left tables sums before after s past capacity none number all steps nothing places nobody blank opened wait turn goods sets room = by (cases_eq left 0)
   where
     count : left ≡ missing_count (members_of c) c.reports (0 + 1)
     count = all ∙ sym (total-ones (λ j. cond (is_some (demand_in c.reports (0 + 1) j)) 0 1) (members_of c) (λ j. ap (λ rs. cond (is_some (demand_in rs (0 + 1) j)) 0 1) none))
@@ -185,7 +186,7 @@ first-kept-all c left tables sums before after s past capacity none number all s
     stay : (shown : Phase) → s ≡ record { steps = 0; phase = shown; prices = c.terms.opening; raised = None } → leads_on c 0 ≡ false → shown ≡ phase_after c 0 → after ≡ before → IsKept c past [] left s.steps s.phase s.prices tables sums after capacity
     stay shown e stops phase_is account =
         let K : Standing → Type 0 = λ z. IsKept c past [] left z.steps z.phase z.prices tables sums after capacity in
-        subst K (sym e) (first-all c left shown c.terms.opening after tables sums past capacity none (first-stays c shown c.terms.opening before after none number steps nothing stops phase_is (first-opening c) account) all places nobody opened goods sets room)
+        subst K (sym e) (first-all c left shown c.terms.opening after tables sums past capacity none (first-stays c shown c.terms.opening before after none number steps nothing stops phase_is (first-opening c) account) all places nobody blank opened goods sets room)
 
     by : (left ≡ 0) ⊎ (left ≢ 0) → IsKept c past [] left s.steps s.phase s.prices tables sums after capacity
     by (inr some) =

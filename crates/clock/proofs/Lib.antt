@@ -25,4 +25,5 @@ pub mod FirstMembers
 pub mod Again
 pub mod AgainRounds
 pub mod SameSets
+pub mod SameTables
 pub mod Counting

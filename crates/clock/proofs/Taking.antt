@@ -68,10 +68,20 @@ tables-pushed c r steps tables now table new is e k =
       own = λ j set below some. own j set below some (cases_eq j r.bidder);
       earlier = λ j set two below member absent. earlier j set two below member absent (cases_eq j r.bidder);
       nobody = λ j outside. get_or-set_other tables r.bidder j (Some table) None (apart j outside) ∙ k.nobody j outside;
+      blank = λ j set behind. blank j set behind (cases_eq j r.bidder);
     })
   where
     apart : (j : ℕ) → is_member c j ≡ false → j ≢ r.bidder
     apart j outside same = (let f : false ≡ true = sym outside ∙ ap (is_member c) same ∙ new.member in cc)
+
+    blank : (j set' : ℕ) → 2 ^ length c.terms.goods ≤ set' → (j ≡ r.bidder) ⊎ (j ≢ r.bidder) → least_in (slice_index_or (set tables r.bidder (Some table)) j None) set' ≡ 0
+    blank j set' behind (inl same) =
+        let small = member-small c r.bidder new.member in
+        let n = k.places in
+        ap (λ b. least_in (slice_index_or (set tables r.bidder (Some table)) b None) set') same
+        ∙ ap (λ t. least_in t set') (get_or-set_same tables r.bidder (Some table) None (omega (arith, small, n)))
+        ∙ is.others set' behind
+    blank j set' behind (inr other) = ap (λ t. least_in t set') (get_or-set_other tables r.bidder j (Some table) None other) ∙ k.blank j set' behind
 
     own : (j set' : ℕ) → set' < 2 ^ length c.terms.goods → is_some (demand_in (with_report c r).reports (steps + 1) j) ≡ true → (j ≡ r.bidder) ⊎ (j ≢ r.bidder)
         → least_in (slice_index_or (set tables r.bidder (Some table)) j None) set' ≡ least (demands_in (with_report c r).reports (steps + 1) j) set'

@@ -51,6 +51,8 @@ pub record KeepsTables (c : ClockHistory) (round : ℕ) (tables : List (Option L
   pub earlier : (j set : ℕ) → 2 ≤ round → set < 2 ^ length c.terms.goods → is_member c j ≡ true → demand_in c.reports round j ≡ None → least_in (slice_index_or tables j None) set ≡ least (demands_in c.reports (round - 1) j) set
   -- who is no member has none
   pub nobody : (j : ℕ) → is_member c j ≡ false → slice_index_or tables j None ≡ None
+  -- there is nothing behind the last set
+  pub blank : (j set : ℕ) → 2 ^ length c.terms.goods ≤ set → least_in (slice_index_or tables j None) set ≡ 0
 
 -- The running excess: entry E is the sum of the least quantities on E over the demands that are there, less the supply of E. Who has
 -- not reported demands nothing.

@@ -16,7 +16,9 @@ use std::marker::Model;
 /// and quantities it has room.
 #[derive(Debug, Drop)]
 pub struct Clock {
+    /// Those of the auction; they never change.
     pub(crate) terms: Terms,
+    /// Whose reports it is without; 0 where it takes those of all bidders.
     pub(crate) number: u8,
     /// The reports that were applied, packed.
     pub(crate) past: Past,
@@ -24,13 +26,17 @@ pub struct Clock {
     pub(crate) present: Vec<Report>,
     /// How many members have no report in that round.
     left: u8,
+    /// How many steps it has made: the number of the last or current round, less one.
     pub(crate) steps: u32,
+    /// Whether that round is the last, and why.
     pub(crate) phase: Phase,
+    /// Those of that round.
     pub(crate) prices: Prices,
-    /// The least quantities that each bidder demands, at its number, of those who have reported in the round.
+    /// The least quantities that each bidder demands, at its number: in the round, or in the one before until it has reported.
     pub(crate) tables: [Option<LeastTable>; 13],
     /// How far the demands of the round are above the supply, each set at its number.
     excess: Excess,
+    /// What the steps add up to: the units that the members, without each one, left of each step's set.
     pub(crate) account: Account,
 }
 
@@ -53,8 +59,11 @@ impl Model for Clock {
 /// What a clock shows: its last or current round, how it stands and at which prices.
 #[derive(Clone, Copy, Debug)]
 pub struct Look {
+    /// From 1: one more than the steps.
     pub round: u32,
+    /// Whether that round is the last, and why.
     pub phase: Phase,
+    /// Those to which the reports of that round answer, good 0 first.
     pub prices: Prices,
 }
 
@@ -66,14 +75,14 @@ pub struct NotApplied {
 
 impl Clock {
     ghost use Rattle.lot_base.specs.Goods.{at};
-    ghost use Rattle.lot_base.specs.Demands.{IsDemand};
+    ghost use Rattle.lot_base.specs.Demands.{IsDemand, IsTable, least};
     ghost use Rattle.std.specs.Prelude.{ℤ, pos, ◌≤ℤ◌, ◌+ℤ◌, ◌-ℤ◌};
-    ghost use Rattle.lot_base.specs.Economy.{lyapunov, without, AllBelowCeiling, IsLeastMinimiser};
-    ghost use Rattle.lot_base.specs.declared.phases.Phase.TheVariants.{Ended, Halted};
-    ghost use Rattle.lyapunov.specs.Paths.{highest_rise, IsLeastNear};
+    ghost use Rattle.lot_base.specs.Economy.{lyapunov, without};
+    ghost use Rattle.lot_base.specs.declared.phases.Phase.TheVariants.{Halted};
+    ghost use Rattle.lyapunov.specs.Paths.{highest_rise};
     ghost use Rattle.std.specs.List.{concat};
     ghost use Rattle.clock.specs.Reports.{demand_in, with_report, applied, members_of, most_reports};
-    ghost use Rattle.clock.specs.Explained.{Explains};
+    ghost use Rattle.clock.specs.Explained.{Explains, ShowsLeast};
     ghost use Rattle.clock.specs.Standing.{HasSteps, steps_of, last_round, phase_of, prices_after, prices_of, missing_of};
     ghost use Rattle.clock.specs.Judging.{judgement_of, IsJudgement, IsLegal};
     ghost use Rattle.clock.specs.Accounts.{account_without};
@@ -176,7 +185,7 @@ impl Clock {
         ensures { self.new ≡ applied self.old report }
     {
         let goods = self.terms.goods;
-        let table = report.demand.least_table(&goods);
+        let table = self.table_of(&report);
         lyapunov::add_table(&goods, &mut self.excess, &table);
         self.tables[report.bidder as usize] = Some(table);
         self.past.push(&report, 2 * MOST_BIDDERS as usize);
@@ -205,6 +214,32 @@ impl Clock {
         self.left = self.present.len() as u8;
         self.present.clear();
         reopen(&goods, &mut self.excess);
+    }
+
+    /// The least quantities of a report's demand. Where it is its bidder's demand in the round before, they are kept already.
+    fn table_of(&self, report: &Report) -> LeastTable
+        requires take { judgement_of self.now.history report.now ≡ Take }
+        requires fits { IsDemand self.now.history.terms.goods report.now.demand }
+        ensures { IsTable (length self.now.history.terms.goods) (least report.now.demand) result.0 }
+    {
+        match self.kept_table(report) {
+            Some(table) => *table,
+            None => report.demand.least_table(&self.terms.goods),
+        }
+    }
+
+    /// The table of a bidder's demand in the round before, where a report says the same again.
+    fn kept_table(&self, report: &Report) -> Option<&LeastTable>
+        requires { judgement_of self.now.history report.now ≡ Take }
+        ensures { IfSome (option_copied result) (λ table. IsTable (length self.now.history.terms.goods) (least report.now.demand) table.0) }
+    {
+        if self.steps == 0 {
+            return None;
+        }
+        match self.repeats(report.bidder, self.steps, &report.demand) {
+            Some(true) => self.tables[report.bidder as usize].as_ref(),
+            Some(false) | None => None,
+        }
     }
 
     /// How many reports were applied. Where there is one more to be taken, they are below the most.
@@ -282,11 +317,8 @@ impl Clock {
         ensures within { AllByRecursion (λ price. price ≤ self.now.history.terms.ceiling) result.prices }
         ensures halted { (good : ℕ) → result.phase ≡ Halted good → (good < length self.now.history.terms.goods) × (at result.prices good ≡ self.now.history.terms.ceiling) }
 
-        // Where valuations explain the reports, a clock that has ended is at the least prices that minimise the Lyapunov function
-        // of its members; at every moment that is so among the prices so many steps from the opening.
-        ensures least { (u : ℕ → List ℕ → ℤ) → Explains u self.now.history → result.phase ≡ Ended → IsLeastMinimiser self.now.history.terms.opening (lyapunov self.now.history.terms.goods u (members_of self.now.history)) result.prices }
-        ensures near { (u : ℕ → List ℕ → ℤ) → Explains u self.now.history → IsLeastNear self.now.history.terms.opening (result.round - 1) (lyapunov self.now.history.terms.goods u (members_of self.now.history)) result.prices }
-        ensures unhalted { (u : ℕ → List ℕ → ℤ) (good : ℕ) → Explains u self.now.history → AllBelowCeiling self.now.history.terms.goods u self.now.history.terms.ceiling (members_of self.now.history) → result.phase ≡ Halted good → ⊥ }
+        // Where valuations explain the reports, these are least prices that minimise the Lyapunov function of the members.
+        ensures least { (u : ℕ → List ℕ → ℤ) → Explains u self.now.history → ShowsLeast u self.now.history result }
     {
         Look {
             round: self.steps + 1,

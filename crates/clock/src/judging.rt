@@ -79,7 +79,7 @@ impl Clock {
 
     /// Whether a demand is that of a bidder in a round, if the bidder has reported in it. The reports of an earlier round, one of each
     /// member, stand together.
-    fn repeats(&self, bidder: u8, round: u32, demand: &Demand) -> Option<bool>
+    pub(crate) fn repeats(&self, bidder: u8, round: u32, demand: &Demand) -> Option<bool>
         requires from_one { 1 ≤ round }
         requires to_last { round ≤ last_round self.now.history }
         ensures { result ≡ option_map (λ before. same_demand before demand.now) (demand_in self.now.history.reports round bidder) }

@@ -13,7 +13,9 @@ use lot_base::{GoodSet, NoMemory};
 /// A report whose demand has so many bundles, with the quantities from a place on.
 #[derive(Clone, Copy, Debug)]
 pub(crate) struct Place {
+    /// Who reported it, from 1.
     pub bidder: u8,
+    /// In which round, from 1.
     pub round: u32,
     /// Where the quantities begin.
     pub start: u32,

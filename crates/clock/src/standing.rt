@@ -11,8 +11,11 @@ use lot_base::{Excess, GoodSet, LeastTable, Phase, Prices, Terms};
 /// How a clock stands after so many steps.
 #[derive(Clone, Copy, Debug)]
 pub struct Standing {
+    /// With the one on the set, if there is one.
     pub steps: u32,
+    /// `Running` where a round is open: this one, or the next.
     pub phase: Phase,
+    /// Those of the round after these steps.
     pub prices: Prices,
     /// The set on which the prices rose just now, if they did.
     pub raised: Option<GoodSet>,

@@ -21,22 +21,19 @@ prices-kept : (v c : ClockHistory) (current steps : ℕ) (phase : Phase) (prices
 prices-kept v c current steps phase prices account kept same = kept.prices_are ∙ ap (prices_after v) kept.steps_are ∙ ap prices_of same
 
 pub returns-clause-least : goal.returns-clause-least
-returns-clause-least c = λ u explains ended.
+returns-clause-least c = λ u explains.
     let now = c.args.self.now.history in
+    let same = ap (λ (k : ClockOf). k.history) c.self.view_is in
+    let phase = phase-kept _ now _ _ _ _ _ c.self.invariant.standing same in
+    let prices = prices-kept _ now _ _ _ _ _ c.self.invariant.standing same in
     let L : List ℕ → Type 0 = λ p. IsLeastMinimiser now.terms.opening (lyapunov now.terms.goods u (members_of now)) p in
-    let phase = phase-kept _ now _ _ _ _ _ c.self.invariant.standing (ap (λ (k : ClockOf). k.history) c.self.view_is) in
-    subst L (sym (prices-kept _ now _ _ _ _ _ c.self.invariant.standing (ap (λ (k : ClockOf). k.history) c.self.view_is))) (least-minimiser u now explains (sym phase ∙ ended))
-
-pub returns-clause-near : goal.returns-clause-near
-returns-clause-near c = λ u explains.
-    let now = c.args.self.now.history in
     let N : ℕ → List ℕ → Type 0 = λ n p. IsLeastNear now.terms.opening n (lyapunov now.terms.goods u (members_of now)) p in
-    let steps : steps_of now ≡ c.self.inside.steps + 1 - 1 = sym (c.self.invariant.standing.steps_are ∙ ap steps_of (ap (λ (k : ClockOf). k.history) c.self.view_is)) ∙ (omega arith) in
-    subst (λ n. N n c.self.inside.prices) steps (subst (λ p. N (steps_of now) p) (sym (prices-kept _ now _ _ _ _ _ c.self.invariant.standing (ap (λ (k : ClockOf). k.history) c.self.view_is))) (least-near u now explains))
-
-pub returns-clause-unhalted : goal.returns-clause-unhalted
-returns-clause-unhalted c = λ u good explains low halted.
-    never-halted u c.args.self.now.history good explains low (sym (phase-kept _ c.args.self.now.history _ _ _ _ _ c.self.invariant.standing (ap (λ (k : ClockOf). k.history) c.self.view_is)) ∙ halted)
+    let steps : steps_of now ≡ c.self.inside.steps + 1 - 1 = sym (c.self.invariant.standing.steps_are ∙ ap steps_of same) ∙ (omega arith) in
+    record {
+      near = subst (λ n. N n c.self.inside.prices) steps (subst (λ p. N (steps_of now) p) (sym prices) (least-near u now explains));
+      ended = λ ended. subst L (sym prices) (least-minimiser u now explains (sym phase ∙ ended));
+      unhalted = λ good low halted. never-halted u now good explains low (sym phase ∙ halted);
+    }
 
 path-of : (c : ClockHistory) → OnThePath c (steps_of c)
 path-of c = on_the_path c (steps_of c) (has_steps c).before

@@ -4,7 +4,7 @@ use Rattle.std.specs.List.{AllByRecursion}
 use Rattle.std.specs.Vec.{vec_len, vec_capacity}
 use Rattle.std.proofs.lemmas.List.{map-append, length-map}
 use Rattle.std.proofs.Math.Nat.{mul-le-mul_left}
-use Rattle.lot_base.specs.Demands.{IsDemand}
+use Rattle.lot_base.specs.Demands.{IsDemand, IsTable, least}
 use Rattle.lot_base.specs.declared.phases.Phase.TheVariants.{Running}
 use Rattle.lot_base.specs.declared.supply.GoodSet.{GoodSet}
 use Rattle.demand_set.proofs.PackedForm.{lengths-demand}
@@ -33,7 +33,8 @@ add_table-requires-clause-small c =
     let taken : judgement_of h r ≡ Take = ap (λ (k : ClockOf). judgement_of k.history r) c.self.view_is ∙ c.requires.take in
     let fit : IsDemand h.terms.goods r.demand = subst (λ (k : ClockOf). IsDemand k.history.terms.goods r.demand) (sym c.self.view_is) c.requires.fits in
     let left = some-left h r i.present.items i.left i.steps i.phase i.prices i.account i.tables i.excess.0 c.self.invariant.standing c.self.invariant.round taken in
-    small-table h.terms.goods r.demand c.least_table-table.result.0 h.terms.supply fit c.least_table-table.ensures.table
+    let table : IsTable (length h.terms.goods) (least r.demand) c.table_of-table.result.0 = subst (λ (k : ClockOf). IsTable (length k.history.terms.goods) (least r.demand) c.table_of-table.result.0) (sym c.self.view_is) c.table_of-table.ensures in
+    small-table h.terms.goods r.demand c.table_of-table.result.0 h.terms.supply fit table
 
 pub add_table-requires-clause-room : goal.add_table-requires-clause-room
 add_table-requires-clause-room c =
@@ -75,13 +76,14 @@ next-standing-requires-clause-below c =
     let taken : judgement_of h r ≡ Take = ap (λ (k : ClockOf). judgement_of k.history r) c.self.view_is ∙ c.requires.take in
     let fit : IsDemand h.terms.goods r.demand = subst (λ (k : ClockOf). IsDemand k.history.terms.goods r.demand) (sym c.self.view_is) c.requires.fits in
     let left = some-left h r i.present.items i.left i.steps i.phase i.prices i.account i.tables i.excess.0 c.self.invariant.standing c.self.invariant.round taken in
+    let table : IsTable (length h.terms.goods) (least r.demand) c.table_of-table.result.0 = subst (λ (k : ClockOf). IsTable (length k.history.terms.goods) (least r.demand) c.table_of-table.result.0) (sym c.self.view_is) c.table_of-table.ensures in
     let size : vec_len i.present ≡ length i.present.items = omega (arith, i.present.ok) in
     let below : vec_len i.present < vec_capacity i.present = omega (arith, size, left, c.self.invariant.round.counted, c.self.invariant.room) in
     let ok = in-room c.push-in_room.result (vec_capacity i.present) (vec_len i.present) c.push-in_room.ensures.full below in
     let now = pushed-items c.push-in_room.result i.present.items c.push-in_room.new.self.items r ok c.push-in_room.ensures.items in
-    let m = moment h r i.present.items c.push-in_room.new.self.items i.left i.steps i.phase i.prices i.account i.tables (set i.tables r.bidder (Some c.least_table-table.result)) c.least_table-table.result i.excess.0 c.add_table.new.excess.0
-    c.self.invariant.standing c.self.invariant.round taken fit c.least_table-table.ensures.table c.add_table.ensures refl now in
-    can-raise-on h r c.push-in_room.new.self.items i.left i.steps i.phase i.prices (set i.tables r.bidder (Some c.least_table-table.result)) c.add_table.new.excess.0 i.account m
+    let m = moment h r i.present.items c.push-in_room.new.self.items i.left i.steps i.phase i.prices i.account i.tables (set i.tables r.bidder (Some c.table_of-table.result)) c.table_of-table.result i.excess.0 c.add_table.new.excess.0
+    c.self.invariant.standing c.self.invariant.round taken fit table c.add_table.ensures refl now in
+    can-raise-on h r c.push-in_room.new.self.items i.left i.steps i.phase i.prices (set i.tables r.bidder (Some c.table_of-table.result)) c.add_table.new.excess.0 i.account m
 
 pub next-standing-requires-clause-few : goal.next-standing-requires-clause-few
 next-standing-requires-clause-few c =
@@ -91,13 +93,14 @@ next-standing-requires-clause-few c =
     let taken : judgement_of h r ≡ Take = ap (λ (k : ClockOf). judgement_of k.history r) c.self.view_is ∙ c.requires.take in
     let fit : IsDemand h.terms.goods r.demand = subst (λ (k : ClockOf). IsDemand k.history.terms.goods r.demand) (sym c.self.view_is) c.requires.fits in
     let left = some-left h r i.present.items i.left i.steps i.phase i.prices i.account i.tables i.excess.0 c.self.invariant.standing c.self.invariant.round taken in
+    let table : IsTable (length h.terms.goods) (least r.demand) c.table_of-table.result.0 = subst (λ (k : ClockOf). IsTable (length k.history.terms.goods) (least r.demand) c.table_of-table.result.0) (sym c.self.view_is) c.table_of-table.ensures in
     let size : vec_len i.present ≡ length i.present.items = omega (arith, i.present.ok) in
     let below : vec_len i.present < vec_capacity i.present = omega (arith, size, left, c.self.invariant.round.counted, c.self.invariant.room) in
     let ok = in-room c.push-in_room.result (vec_capacity i.present) (vec_len i.present) c.push-in_room.ensures.full below in
     let now = pushed-items c.push-in_room.result i.present.items c.push-in_room.new.self.items r ok c.push-in_room.ensures.items in
-    let m = moment h r i.present.items c.push-in_room.new.self.items i.left i.steps i.phase i.prices i.account i.tables (set i.tables r.bidder (Some c.least_table-table.result)) c.least_table-table.result i.excess.0 c.add_table.new.excess.0
-    c.self.invariant.standing c.self.invariant.round taken fit c.least_table-table.ensures.table c.add_table.ensures refl now in
-    few-on h r c.push-in_room.new.self.items i.left i.steps i.phase i.prices (set i.tables r.bidder (Some c.least_table-table.result)) c.add_table.new.excess.0 i.account m
+    let m = moment h r i.present.items c.push-in_room.new.self.items i.left i.steps i.phase i.prices i.account i.tables (set i.tables r.bidder (Some c.table_of-table.result)) c.table_of-table.result i.excess.0 c.add_table.new.excess.0
+    c.self.invariant.standing c.self.invariant.round taken fit table c.add_table.ensures refl now in
+    few-on h r c.push-in_room.new.self.items i.left i.steps i.phase i.prices (set i.tables r.bidder (Some c.table_of-table.result)) c.add_table.new.excess.0 i.account m
 
 pub invariant_of-self : goal.invariant_of-self
 invariant_of-self c =
@@ -107,19 +110,20 @@ invariant_of-self c =
     let taken : judgement_of h r ≡ Take = ap (λ (k : ClockOf). judgement_of k.history r) c.self.view_is ∙ c.requires.take in
     let fit : IsDemand h.terms.goods r.demand = subst (λ (k : ClockOf). IsDemand k.history.terms.goods r.demand) (sym c.self.view_is) c.requires.fits in
     let left = some-left h r i.present.items i.left i.steps i.phase i.prices i.account i.tables i.excess.0 c.self.invariant.standing c.self.invariant.round taken in
+    let table : IsTable (length h.terms.goods) (least r.demand) c.table_of-table.result.0 = subst (λ (k : ClockOf). IsTable (length k.history.terms.goods) (least r.demand) c.table_of-table.result.0) (sym c.self.view_is) c.table_of-table.ensures in
     let size : vec_len i.present ≡ length i.present.items = omega (arith, i.present.ok) in
     let below : vec_len i.present < vec_capacity i.present = omega (arith, size, left, c.self.invariant.round.counted, c.self.invariant.room) in
     let ok = in-room c.push-in_room.result (vec_capacity i.present) (vec_len i.present) c.push-in_room.ensures.full below in
     let now = pushed-items c.push-in_room.result i.present.items c.push-in_room.new.self.items r ok c.push-in_room.ensures.items in
-    let m = moment h r i.present.items c.push-in_room.new.self.items i.left i.steps i.phase i.prices i.account i.tables (set i.tables r.bidder (Some c.least_table-table.result)) c.least_table-table.result i.excess.0 c.add_table.new.excess.0
-    c.self.invariant.standing c.self.invariant.round taken fit c.least_table-table.ensures.table c.add_table.ensures refl now in
+    let m = moment h r i.present.items c.push-in_room.new.self.items i.left i.steps i.phase i.prices i.account i.tables (set i.tables r.bidder (Some c.table_of-table.result)) c.table_of-table.result i.excess.0 c.add_table.new.excess.0
+    c.self.invariant.standing c.self.invariant.round taken fit table c.add_table.ensures refl now in
     let s : Standing = record { steps = i.steps; phase = Running; prices = i.prices; raised = None } in
-    let on = on-any h r c.push-in_room.new.self.items i.left i.steps i.phase i.prices (set i.tables r.bidder (Some c.least_table-table.result)) c.add_table.new.excess.0 i.account i.account s m (λ _. record { standing = refl; account = refl }) (λ none. absurd (omega (arith, none, c.if-self-gt0.true))) in
+    let on = on-any h r c.push-in_room.new.self.items i.left i.steps i.phase i.prices (set i.tables r.bidder (Some c.table_of-table.result)) c.add_table.new.excess.0 i.account i.account s m (λ _. record { standing = refl; account = refl }) (λ none. absurd (omega (arith, none, c.if-self-gt0.true))) in
     let stay = sets-stay h r i.steps (kept-path h (reports_before h i.steps) i.steps i.phase i.prices i.account c.self.invariant.standing) in
     let K : PastOf → Type 0 = λ p. IsKept (record { terms = i.terms; number = i.number; reports = p.reports }) p c.push-in_room.new.self.items (i.left - 1) i.steps Running i.prices
-    (set i.tables r.bidder (Some c.least_table-table.result)) c.add_table.new.excess.0 i.account (vec_capacity c.push-in_room.new.self) in
+    (set i.tables r.bidder (Some c.table_of-table.result)) c.add_table.new.excess.0 i.account (vec_capacity c.push-in_room.new.self) in
     let room = c.push-in_room.ensures.capacity in
-    subst K (sym c.push.ensures) (kept-here (with_report h r) (pushed i.past r) c.push-in_room.new.self.items (i.left - 1) i.steps (set i.tables r.bidder (Some c.least_table-table.result)) c.add_table.new.excess.0 i.account s (vec_capacity c.push-in_room.new.self)
+    subst K (sym c.push.ensures) (kept-here (with_report h r) (pushed i.past r) c.push-in_room.new.self.items (i.left - 1) i.steps (set i.tables r.bidder (Some c.table_of-table.result)) c.add_table.new.excess.0 i.account s (vec_capacity c.push-in_room.new.self)
     on refl c.self.invariant.goods (c.self.invariant.sets ∙ sym stay) (omega (arith, c.self.invariant.room, room)))
 
 pub invariant_of-self-in_default : goal.invariant_of-self-in_default
@@ -130,18 +134,19 @@ invariant_of-self-in_default c =
     let taken : judgement_of h r ≡ Take = ap (λ (k : ClockOf). judgement_of k.history r) c.self.view_is ∙ c.requires.take in
     let fit : IsDemand h.terms.goods r.demand = subst (λ (k : ClockOf). IsDemand k.history.terms.goods r.demand) (sym c.self.view_is) c.requires.fits in
     let left = some-left h r i.present.items i.left i.steps i.phase i.prices i.account i.tables i.excess.0 c.self.invariant.standing c.self.invariant.round taken in
+    let table : IsTable (length h.terms.goods) (least r.demand) c.table_of-table.result.0 = subst (λ (k : ClockOf). IsTable (length k.history.terms.goods) (least r.demand) c.table_of-table.result.0) (sym c.self.view_is) c.table_of-table.ensures in
     let size : vec_len i.present ≡ length i.present.items = omega (arith, i.present.ok) in
     let below : vec_len i.present < vec_capacity i.present = omega (arith, size, left, c.self.invariant.round.counted, c.self.invariant.room) in
     let ok = in-room c.push-in_room.result (vec_capacity i.present) (vec_len i.present) c.push-in_room.ensures.full below in
     let now = pushed-items c.push-in_room.result i.present.items c.push-in_room.new.self.items r ok c.push-in_room.ensures.items in
-    let m = moment h r i.present.items c.push-in_room.new.self.items i.left i.steps i.phase i.prices i.account i.tables (set i.tables r.bidder (Some c.least_table-table.result)) c.least_table-table.result i.excess.0 c.add_table.new.excess.0
-    c.self.invariant.standing c.self.invariant.round taken fit c.least_table-table.ensures.table c.add_table.ensures refl now in
-    let on = on-any h r c.push-in_room.new.self.items i.left i.steps i.phase i.prices (set i.tables r.bidder (Some c.least_table-table.result)) c.add_table.new.excess.0 i.account c.next-standing.new.account c.next-standing.result m c.next-standing.ensures.waits c.next-standing.ensures.turns in
+    let m = moment h r i.present.items c.push-in_room.new.self.items i.left i.steps i.phase i.prices i.account i.tables (set i.tables r.bidder (Some c.table_of-table.result)) c.table_of-table.result i.excess.0 c.add_table.new.excess.0
+    c.self.invariant.standing c.self.invariant.round taken fit table c.add_table.ensures refl now in
+    let on = on-any h r c.push-in_room.new.self.items i.left i.steps i.phase i.prices (set i.tables r.bidder (Some c.table_of-table.result)) c.add_table.new.excess.0 i.account c.next-standing.new.account c.next-standing.result m c.next-standing.ensures.waits c.next-standing.ensures.turns in
     let stay = sets-stay h r i.steps (kept-path h (reports_before h i.steps) i.steps i.phase i.prices i.account c.self.invariant.standing) in
     let K : PastOf → Type 0 = λ p. IsKept (record { terms = i.terms; number = i.number; reports = p.reports }) p c.push-in_room.new.self.items (i.left - 1) c.next-standing.result.steps c.next-standing.result.phase c.next-standing.result.prices
-    (set i.tables r.bidder (Some c.least_table-table.result)) c.add_table.new.excess.0 c.next-standing.new.account (vec_capacity c.push-in_room.new.self) in
+    (set i.tables r.bidder (Some c.table_of-table.result)) c.add_table.new.excess.0 c.next-standing.new.account (vec_capacity c.push-in_room.new.self) in
     let room = c.push-in_room.ensures.capacity in
-    subst K (sym c.push.ensures) (kept-here (with_report h r) (pushed i.past r) c.push-in_room.new.self.items (i.left - 1) i.steps (set i.tables r.bidder (Some c.least_table-table.result)) c.add_table.new.excess.0 c.next-standing.new.account c.next-standing.result (vec_capacity c.push-in_room.new.self)
+    subst K (sym c.push.ensures) (kept-here (with_report h r) (pushed i.past r) c.push-in_room.new.self.items (i.left - 1) i.steps (set i.tables r.bidder (Some c.table_of-table.result)) c.add_table.new.excess.0 c.next-standing.new.account c.next-standing.result (vec_capacity c.push-in_room.new.self)
     on c.in_default.is c.self.invariant.goods (c.self.invariant.sets ∙ sym stay) (omega (arith, c.self.invariant.room, room)))
 
 pub raise-requires : goal.raise-requires
@@ -169,12 +174,13 @@ overflow_cast-self c =
     let taken : judgement_of h r ≡ Take = ap (λ (k : ClockOf). judgement_of k.history r) c.self.view_is ∙ c.requires.take in
     let fit : IsDemand h.terms.goods r.demand = subst (λ (k : ClockOf). IsDemand k.history.terms.goods r.demand) (sym c.self.view_is) c.requires.fits in
     let left = some-left h r i.present.items i.left i.steps i.phase i.prices i.account i.tables i.excess.0 c.self.invariant.standing c.self.invariant.round taken in
+    let table : IsTable (length h.terms.goods) (least r.demand) c.table_of-table.result.0 = subst (λ (k : ClockOf). IsTable (length k.history.terms.goods) (least r.demand) c.table_of-table.result.0) (sym c.self.view_is) c.table_of-table.ensures in
     let size : vec_len i.present ≡ length i.present.items = omega (arith, i.present.ok) in
     let below : vec_len i.present < vec_capacity i.present = omega (arith, size, left, c.self.invariant.round.counted, c.self.invariant.room) in
     let ok = in-room c.push-in_room.result (vec_capacity i.present) (vec_len i.present) c.push-in_room.ensures.full below in
     let now = pushed-items c.push-in_room.result i.present.items c.push-in_room.new.self.items r ok c.push-in_room.ensures.items in
-    let m = moment h r i.present.items c.push-in_room.new.self.items i.left i.steps i.phase i.prices i.account i.tables (set i.tables r.bidder (Some c.least_table-table.result)) c.least_table-table.result i.excess.0 c.add_table.new.excess.0
-    c.self.invariant.standing c.self.invariant.round taken fit c.least_table-table.ensures.table c.add_table.ensures refl now in
+    let m = moment h r i.present.items c.push-in_room.new.self.items i.left i.steps i.phase i.prices i.account i.tables (set i.tables r.bidder (Some c.table_of-table.result)) c.table_of-table.result i.excess.0 c.add_table.new.excess.0
+    c.self.invariant.standing c.self.invariant.round taken fit table c.add_table.ensures refl now in
     let f = members-few i.terms.bidders i.number in
     let b = i.terms.bidders_in_range.at_most in
     let k = m.round.counted in
@@ -188,24 +194,25 @@ invariant_of-self-2 c =
     let taken : judgement_of h r ≡ Take = ap (λ (k : ClockOf). judgement_of k.history r) c.self.view_is ∙ c.requires.take in
     let fit : IsDemand h.terms.goods r.demand = subst (λ (k : ClockOf). IsDemand k.history.terms.goods r.demand) (sym c.self.view_is) c.requires.fits in
     let left = some-left h r i.present.items i.left i.steps i.phase i.prices i.account i.tables i.excess.0 c.self.invariant.standing c.self.invariant.round taken in
+    let table : IsTable (length h.terms.goods) (least r.demand) c.table_of-table.result.0 = subst (λ (k : ClockOf). IsTable (length k.history.terms.goods) (least r.demand) c.table_of-table.result.0) (sym c.self.view_is) c.table_of-table.ensures in
     let size : vec_len i.present ≡ length i.present.items = omega (arith, i.present.ok) in
     let below : vec_len i.present < vec_capacity i.present = omega (arith, size, left, c.self.invariant.round.counted, c.self.invariant.room) in
     let ok = in-room c.push-in_room.result (vec_capacity i.present) (vec_len i.present) c.push-in_room.ensures.full below in
     let now = pushed-items c.push-in_room.result i.present.items c.push-in_room.new.self.items r ok c.push-in_room.ensures.items in
-    let m = moment h r i.present.items c.push-in_room.new.self.items i.left i.steps i.phase i.prices i.account i.tables (set i.tables r.bidder (Some c.least_table-table.result)) c.least_table-table.result i.excess.0 c.add_table.new.excess.0
-    c.self.invariant.standing c.self.invariant.round taken fit c.least_table-table.ensures.table c.add_table.ensures refl now in
-    let on = on-any h r c.push-in_room.new.self.items i.left i.steps i.phase i.prices (set i.tables r.bidder (Some c.least_table-table.result)) c.add_table.new.excess.0 i.account c.next-standing.new.account c.next-standing.result m c.next-standing.ensures.waits c.next-standing.ensures.turns in
+    let m = moment h r i.present.items c.push-in_room.new.self.items i.left i.steps i.phase i.prices i.account i.tables (set i.tables r.bidder (Some c.table_of-table.result)) c.table_of-table.result i.excess.0 c.add_table.new.excess.0
+    c.self.invariant.standing c.self.invariant.round taken fit table c.add_table.ensures refl now in
+    let on = on-any h r c.push-in_room.new.self.items i.left i.steps i.phase i.prices (set i.tables r.bidder (Some c.table_of-table.result)) c.add_table.new.excess.0 i.account c.next-standing.new.account c.next-standing.result m c.next-standing.ensures.waits c.next-standing.ensures.turns in
     let stay = sets-stay h r i.steps (kept-path h (reports_before h i.steps) i.steps i.phase i.prices i.account c.self.invariant.standing) in
     let past = c.raise.ensures ∙ ap (λ (p : PastOf). raised_on p c.in-Some.set) c.push.ensures in
     let K : PastOf → Type 0 = λ p. IsKept (record { terms = i.terms; number = i.number; reports = p.reports }) p c.clear.new.self.items c.len.result c.next-standing.result.steps c.next-standing.result.phase c.next-standing.result.prices
-    (set i.tables r.bidder (Some c.least_table-table.result)) c.reopen.new.excess.0 c.next-standing.new.account (vec_capacity c.clear.new.self) in
+    (set i.tables r.bidder (Some c.table_of-table.result)) c.reopen.new.excess.0 c.next-standing.new.account (vec_capacity c.clear.new.self) in
     let room = c.push-in_room.ensures.capacity in
     let size : length c.push-in_room.new.self.items ≡ c.len.result = omega (arith, c.len.ensures, c.push-in_room.new.self.ok) in
     let sets = map-append (λ (z : GoodSet). z.0) i.past.sets (c.in-Some.set ∷ []) ∙ ap (λ ns. ns ++ c.in-Some.set.0 ∷ []) (c.self.invariant.sets ∙ sym stay) in
-    let kept = kept-next (with_report h r) (raised_on (pushed i.past r) c.in-Some.set) c.push-in_room.new.self.items (i.left - 1) i.steps (set i.tables r.bidder (Some c.least_table-table.result)) c.add_table.new.excess.0 c.reopen.new.excess.0 c.next-standing.new.account c.next-standing.result c.in-Some.set (vec_capacity c.clear.new.self)
+    let kept = kept-next (with_report h r) (raised_on (pushed i.past r) c.in-Some.set) c.push-in_room.new.self.items (i.left - 1) i.steps (set i.tables r.bidder (Some c.table_of-table.result)) c.add_table.new.excess.0 c.reopen.new.excess.0 c.next-standing.new.account c.next-standing.result c.in-Some.set (vec_capacity c.clear.new.self)
     on c.in-Some.is m.round c.self.invariant.goods sets (let k = c.clear.ensures.capacity in omega (arith, c.self.invariant.room, room, k)) c.reopen.ensures in
     let N : List Report → Type 0 = λ ns. IsKept (with_report h r) (raised_on (pushed i.past r) c.in-Some.set) ns c.len.result c.next-standing.result.steps c.next-standing.result.phase c.next-standing.result.prices
-    (set i.tables r.bidder (Some c.least_table-table.result)) c.reopen.new.excess.0 c.next-standing.new.account (vec_capacity c.clear.new.self) in
+    (set i.tables r.bidder (Some c.table_of-table.result)) c.reopen.new.excess.0 c.next-standing.new.account (vec_capacity c.clear.new.self) in
     let L : ℕ → Type 0 = λ n. IsKept (with_report h r) (raised_on (pushed i.past r) c.in-Some.set) [] n c.next-standing.result.steps c.next-standing.result.phase c.next-standing.result.prices
-    (set i.tables r.bidder (Some c.least_table-table.result)) c.reopen.new.excess.0 c.next-standing.new.account (vec_capacity c.clear.new.self) in
+    (set i.tables r.bidder (Some c.table_of-table.result)) c.reopen.new.excess.0 c.next-standing.new.account (vec_capacity c.clear.new.self) in
     subst K (sym past) (subst N (sym c.clear.ensures.items) (subst L size kept))

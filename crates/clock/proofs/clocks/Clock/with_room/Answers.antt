@@ -3,6 +3,7 @@ use Rattle.std.proofs.Common.{◌≡◌, ◌∙◌, ℕ, zero, suc, List, [], Op
 use Rattle.std.specs.Prelude.{slice_index_or}
 use Rattle.std.specs.Vec.{vec_capacity}
 use Rattle.lot_base.specs.declared.tables.LeastTable.{LeastTable}
+use Rattle.credit_book.specs.Account.{least_in}
 use Rattle.demand_set.specs.declared.reports.Report.{Report}
 use Rattle.clock.specs.Past.{PastOf}
 use Rattle.clock.specs.Reports.{ClockHistory}
@@ -37,4 +38,4 @@ invariant_of-result c =
     let N : List Report → Type 0 = λ rs. IsKept h past rs c.member_count-left.result c.next-standing.result.steps c.next-standing.result.phase c.next-standing.result.prices tables c.opening-excess.result.0 c.next-standing.new.account (vec_capacity c.in-Ok-with_capacity.present) in
     subst N (sym c.in-Ok-with_capacity.ensures.items)
     (first-kept-all h c.member_count-left.result tables c.opening-excess.result.0 c.new-account.result c.next-standing.new.account c.next-standing.result past (vec_capacity c.in-Ok-with_capacity.present) none c.requires c.member_count-left.ensures c.new-account.ensures.steps c.new-account.ensures.sums refl
-    (λ j outside. none-at 13 j) c.opening-excess.ensures.excess c.next-standing.ensures.waits c.next-standing.ensures.turns goods sets (omega (arith, f, b, c.in-Ok-with_capacity.ensures.exact)))
+    (λ j outside. none-at 13 j) (λ j set behind. ap (λ t. least_in t set) (none-at 13 j)) c.opening-excess.ensures.excess c.next-standing.ensures.waits c.next-standing.ensures.turns goods sets (omega (arith, f, b, c.in-Ok-with_capacity.ensures.exact)))
