@@ -9,8 +9,11 @@ use crate::digits::read_number;
 /// How often an option stands among others, and its value where it does once.
 #[derive(Clone, Copy)]
 pub(crate) enum Given<'a> {
+    /// No option begins so.
     Never,
+    /// One option begins so, and this is behind it.
     Once(&'a str),
+    /// More than one option begins so.
     Again,
 }
 

@@ -26,16 +26,22 @@ const LONGEST_TOKEN: usize = 64;
 /// Where an auction is served: at so many doors on an address, for so many sessions at each.
 #[derive(Clone, Copy)]
 pub struct Serving<'a> {
+    /// Meant as HOST:PORT to listen at, and kept as it was written.
     pub address: &'a str,
+    /// 1 to 64; 4 where the words name no number.
     pub doors: u32,
+    /// 1 to 10,000, one after another at each door; 1 where the words name no number.
     pub sessions: u32,
 }
 
 /// The part of a bidder, and where his agent dials.
 #[derive(Clone, Copy)]
 pub struct Bidding<'a> {
+    /// Its number, 1 to 12. Whether the auction has such a bidder is not asked yet.
     pub bidder: u8,
+    /// 1 to 64 bytes. The house compares their SHA-256 with the digest in the auction file.
     pub token: &'a str,
+    /// Meant as HOST:PORT of the house, and kept as it was written.
     pub address: &'a str,
     /// How many equal looks at a clock, in a row, are borne.
     pub looks: u32,
@@ -44,50 +50,50 @@ pub struct Bidding<'a> {
 /// The words of a command.
 #[derive(Clone, Copy)]
 pub enum CommandWords<'a> {
-    /// One clock over a log.
+    /// One clock over a log: `terms` are those of SUPPLY, BIDDERS and CEILING, `log` is the file's name.
     Fold {
         terms: Terms,
         log: &'a str,
     },
-    /// What an auction file says.
+    /// What an auction file says: the file of this name.
     Check {
         auction: &'a str,
     },
-    /// How the clocks of an auction stand.
+    /// How the clocks of an auction stand: the name of its file, and that of the folder of its journals.
     Standing {
         auction: &'a str,
         journals: &'a str,
     },
-    /// What the clocks of an auction settle.
+    /// What the clocks of an auction settle; `json` where the outcome is written as JSON.
     Settle {
         auction: &'a str,
         journals: &'a str,
         json: bool,
     },
-    /// What the clocks of an auction settle, told by bidders with valuations.
+    /// What the clocks of an auction settle, told by bidders with the valuations of the file `values`. `workers` is 1 to 64.
     Trial {
         auction: &'a str,
         values: &'a str,
         workers: u32,
     },
-    /// The same of a market that a number makes.
+    /// The same of a market that a number makes. `workers` is 1 to 64.
     Make {
         number: u32,
         workers: u32,
     },
-    /// An auction is opened to its bidders.
+    /// An auction is opened to its bidders: what they report is kept in the folder `journals`.
     Serve {
         auction: &'a str,
         journals: &'a str,
         serving: Serving<'a>,
     },
-    /// An agent takes the part of a bidder.
+    /// An agent takes the part of a bidder, who wants what his valuation in the file `values` says.
     Bid {
         auction: &'a str,
         values: &'a str,
         bidding: Bidding<'a>,
     },
-    /// The journals of an auction are carried to another file of it.
+    /// The journals of the auction file `old` are carried to the file `new` of the same auction, into the folder `target`.
     Migrate {
         old: &'a str,
         journals: &'a str,

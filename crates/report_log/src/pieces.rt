@@ -27,10 +27,13 @@ const ROOM: usize = 4 + GREATEST_PAYLOAD as usize + PIECE;
 /// Why a log gives no clock.
 #[derive(Clone, Copy)]
 pub enum LogFault {
+    /// A pull failed.
     Failed,
+    /// The log has more than 67,108,864 bytes.
     TooLong,
     /// The first faulty entry begins behind so many bytes.
     Faulty(u64),
+    /// Memory ran out.
     NoMemory,
 }
 
