@@ -1,12 +1,12 @@
 -- How a house is opened.
-use Rattle.std.specs.Prelude.{◌≡◌, ◌≤◌, ◌<◌, ℕ, Bool, IsTrue, List, [], ◌∷◌, length, slice_index_or, Option}
+use Rattle.std.specs.Prelude.{◌≡◌, ◌≤◌, ◌<◌, ℕ, Bool, IsTrue, List, [], ◌∷◌, length, slice_index_or, Option, IfSome}
 use Rattle.std.specs.List.{AllByRecursion}
 use Rattle.lot_base.specs.declared.auction_terms.Terms.{Terms}
 use Rattle.demand_set.specs.declared.reports.Report.{Report}
 use Rattle.house_io.specs.Moments.{Moments, Leaves}
-use Rattle.recovery.specs.Journaled.{Owner, owner_of}
+use Rattle.recovery.specs.Journaled.{Owner, owner_of, StandsForReports}
 use Rattle.clock_book.specs.Books.{BookOf}
-use Rattle.clock_book.specs.DeskHistories.{reports_in}
+use Rattle.clock_book.specs.DeskHistories.{reports_in, EndsInMark}
 use Rattle.clock_book.specs.Opened.{Opens, IsUnopened}
 use Rattle.clock_book.specs.declared.faults.OpenFault.{OpenFault}
 use Rattle.clock_book.specs.Past.{owner_in, IsEither, KeepsPast}
@@ -36,10 +36,12 @@ pub record AreLaid {D : Type 0} (tells : D → Bool) (moments : D → Moments) (
 pub record IsUnused {D : Type 0} (l : LaidOf D) : Type 0 where
   pub made_nothing : AllByRecursion (λ (p : Known Entry Origin). p.own ≡ []) l.passes
 
--- the disk of a book of this history, given back: it stands as the book says
+-- The disk of a book of this history, given back: it stands for the reports of the history, or for these and the one that is in doubt,
+-- and one is in doubt only where the history ends in a mark.
 pub record IsGivenBack {D : Type 0} (tells : D → Bool) (moments : D → Moments) (origin : Origin) (history : List Entry) (disk : D) : Type 0 where
   pub pending : Option Report
   pub told : IsTrue (tells disk) → IsTrue origin.told
+  pub after : IfSome pending (λ r. EndsInMark history)
   pub stands : IsTrue (tells disk) → Leaves (IsEither (owner_in origin) (reports_in history) pending) (moments disk).now
   pub past : IsTrue (tells disk) → KeepsPast origin (clock_in (owner_in origin) history) (moments disk)
 
@@ -50,13 +52,12 @@ AreGivenBack tells moments (l ∷ ls) (x ∷ xs) = IsGivenBack tells moments l.d
 AreGivenBack tells moments [] (x ∷ xs) = ⊥
 AreGivenBack tells moments (l ∷ ls) [] = ⊥
 
--- A disk whose book was opened and given back: it stands as the book says.
+-- A disk whose book was opened and given back: it stands for the reports that the book had when it was opened, and for no others.
 pub record WasOpened {D : Type 0} (tells : D → Bool) (moments : D → Moments) (faults : D → ℕ) (owner : Owner) (old new : D) : Type 0 where
   pub first : BookOf D
-  pub pending : Option Report
   pub opens : Opens tells moments faults owner old first
   pub told : IsTrue (tells new) → IsTrue (tells first.disk)
-  pub stands : IsTrue (tells new) → Leaves (IsEither (owner_in first.origin) first.state.clock.reports pending) (moments new).now
+  pub stands : IsTrue (tells new) → Leaves (StandsForReports (owner_in first.origin) first.state.clock.reports) (moments new).now
   pub past : IsTrue (tells new) → KeepsPast first.origin first.state.clock (moments new)
 
 -- Why no house was opened: the clock of this number is the first whose book is not opened. The disks come back in order: those of

@@ -14,6 +14,7 @@ pub(crate) struct Closing<D: Disk> {
     pub(crate) room: usize,
     /// A list of passes for each clock.
     pub(crate) lists: Vec<Vec<Pass<HouseBook<D>>>>,
+    /// An empty list, with room for a book of each clock.
     pub(crate) books: Vec<ClockBook<D>>,
 }
 

@@ -38,9 +38,13 @@ fn reserve_lists<D: Disk>(
 
 /// What opening a house fills.
 pub(crate) struct Tray<D: Disk> {
+    /// For each pass of the house an empty list, with room for a pass of each desk.
     pub(crate) rows: Vec<Vec<Pass<HouseBook<D>>>>,
+    /// An empty list, with room for a desk of each clock.
     pub(crate) desks: Vec<Desk<HouseBook<D>>>,
+    /// An empty list, with room for each pass of the house.
     pub(crate) passes: Vec<HousePass<D>>,
+    /// What closing the house takes, which goes to its first pass.
     pub(crate) closing: Closing<D>,
 }
 

@@ -27,9 +27,11 @@ use turn_desk::{Desk, Pass};
 
 /// A desk for each clock of an auction, shared by threads.
 pub struct House<D: Disk> {
+    /// Those of the auction.
     pub(crate) terms: Terms,
     /// The digest of the auction's file.
     pub(crate) digest: [u8; 32],
+    /// Clock 0's first: one more than there are bidders.
     pub(crate) desks: Vec<Desk<HouseBook<D>>>,
 }
 
@@ -46,6 +48,7 @@ impl<D: Disk> Model for House<D> {
 
 /// A pass for each desk of a house, in the order of the clocks.
 pub struct HousePass<D: Disk> {
+    /// At the number of a clock, the pass of its desk, until the house is closed.
     pub(crate) passes: Vec<Pass<HouseBook<D>>>,
     /// What closing the house takes, in its first pass alone: a house is shared by threads, and a list of passes is not.
     pub(crate) closing: Option<Closing<D>>,
@@ -103,7 +106,7 @@ impl<D: Disk> HousePass<D> {
 
 impl<D: Disk> House<D> {
     /// Opens a house: the book of each clock on its disk, on a desk of its own, and so many passes, 1 to 64. The smallest clock whose
-    /// book is not opened refuses, and the disks come back in order.
+    /// book is not opened and laid on its desk refuses, and the disks come back in order.
     pub fn open(
         alloc: Global,
         auction: &Auction,

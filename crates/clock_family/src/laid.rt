@@ -9,7 +9,9 @@ use turn_desk::{Desk, Pass};
 
 /// The desk of a clock, with its passes, in order.
 pub(crate) struct Laid<D: Disk> {
+    /// Where the book of the clock lies.
     pub(crate) desk: Desk<HouseBook<D>>,
+    /// All passes of this desk, number 0 first.
     pub(crate) passes: Vec<Pass<HouseBook<D>>>,
 }
 

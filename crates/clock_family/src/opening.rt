@@ -44,10 +44,15 @@ pub(crate) fn lay<D: Disk>(
     }
 }
 
-/// Disks on which no house was opened, in order of the clocks: the book of this clock was not opened, for this fault.
+/// Disks on which no house was opened, in order of the clocks, and the first clock that has no desk, with the reason: its book was not
+/// opened, for this fault. `NoMemory` is also that of a clock whose book was opened and whose desk was not made, and that of clock 0
+/// where the lists had no memory before any disk was touched.
 pub struct NotOpen<D> {
+    /// The disks that were given, handed back, clock 0's first. An unformed file may have got a header.
     pub disks: Vec<D>,
+    /// The first clock whose book was not laid on a desk; 0 where memory ran out before.
     pub clock: u8,
+    /// Why it was not; `NoMemory` where its book was opened and the desk was not made.
     pub fault: OpenFault,
 }
 

@@ -11,7 +11,9 @@ use std::sync::Wait;
 
 /// A house, and the pass by which a session takes its turns.
 pub struct HouseSeat<'a, D: Disk> {
+    /// The house, which is shared by all its sessions.
     pub house: &'a House<D>,
+    /// A pass of this house, which no other session uses meanwhile.
     pub pass: &'a mut HousePass<D>,
 }
 

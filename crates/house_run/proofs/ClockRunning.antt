@@ -1,5 +1,5 @@
 -- What a house that was opened and closed comes to at a clock and at its journal.
-use Rattle.std.proofs.Common.{◌≡◌, ◌∙◌, ℕ, Bool, IsTrue, List, [], ◌∷◌, map, refl, sym, ap, subst, Option}
+use Rattle.std.proofs.Common.{◌≡◌, ◌∙◌, ℕ, Bool, IsTrue, List, [], ◌∷◌, map, refl, sym, ap, subst, None}
 use Rattle.demand_set.specs.declared.reports.Report.{Report}
 use Rattle.house_io.specs.Moments.{Leaves, Moments}
 use Rattle.clock.specs.Reports.{ClockHistory}
@@ -23,8 +23,8 @@ abbrev pub run_of : {D : Type 0} → BookOf D → BookOf D → ClockRun
 run_of first closed = record { origin = closed.origin; opening = first.state.history; closed = closed.state }
 
 -- the book that was opened as the first, as its disk came back
-abbrev pub back_of : {D : Type 0} → BookOf D → Option Report → D → BookOf D
-back_of first pending disk = record { disk = disk; state = record { clock = first.state.clock; history = first.state.history; pending = pending }; origin = first.origin }
+abbrev pub back_of : {D : Type 0} → BookOf D → D → BookOf D
+back_of first disk = record { disk = disk; state = record { clock = first.state.clock; history = first.state.history; pending = None }; origin = first.origin }
 
 module _ {D : Type 0} (tells : D → Bool) (moments : D → Moments) (faults : D → ℕ) (owner : Owner) where
   owner-opened : (disk : D) (first : BookOf D) → Opens tells moments faults owner disk first → owner_in first.origin ≡ owner
@@ -55,6 +55,8 @@ module _ {D : Type 0} (tells : D → Bool) (moments : D → Moments) (faults : D
           legal = kept.legal;
         };
         reports = kept.reports;
+        next = kept.next;
+        after = kept.after;
       }
 
   -- where the disk tells at the closing, it told at the opening
@@ -78,20 +80,22 @@ module _ {D : Type 0} (tells : D → Bool) (moments : D → Moments) (faults : D
       }
 
   -- a book that was opened and closed again, where another was not opened
-  pub was-run : (old new : D) (was : WasOpened tells moments faults owner old new) → IsClockRun owner (run_of was.first (back_of was.first was.pending new))
+  pub was-run : (old new : D) (was : WasOpened tells moments faults owner old new) → IsClockRun owner (run_of was.first (back_of was.first new))
   was-run old new was = record {
     owner_is = owner-opened old was.first was.opens;
     opening_is = history-opened old was.first was.opens ∙ ap (map Offered) (sym (reports-opened old was.first was.opens));
     history = was.opens.history;
     reports = reports-opened old was.first was.opens;
+    next = tt;
+    after = tt;
   }
 
-  pub was-journal : (old new : D) (was : WasOpened tells moments faults owner old new) → IsTrue (tells new) → IsJournalRun owner (run_of was.first (back_of was.first was.pending new)) (moments old) (moments new)
+  pub was-journal : (old new : D) (was : WasOpened tells moments faults owner old new) → IsTrue (tells new) → IsJournalRun owner (run_of was.first (back_of was.first new)) (moments old) (moments new)
   was-journal old new was told =
       let then_told = was.told told in
       let left = was.opens.leaves then_told in
       let now : ClockHistory → Type 0 = λ c. StandsForHistory owner c (moments old).now.read in
-      let Either : Owner → Type 0 = λ o. Leaves (IsEither o was.first.state.clock.reports was.pending) (moments new).now in
+      let Either : Owner → Type 0 = λ o. Leaves (IsEither o was.first.state.clock.reports None) (moments new).now in
       record {
         stood = subst now (was.opens.history.is ∙ ap (history_of owner) (sym (reports-opened old was.first was.opens))) (was.opens.read then_told);
         read_is = left.read_is;

@@ -5,17 +5,18 @@ use Rattle.house_io.specs.Faults.{Rose}
 use Rattle.house_io.specs.Shelves.{NamedFile, IfTells}
 use Rattle.auction_file.specs.AuctionFile.{auction_of}
 use Rattle.auction_file.specs.declared.faults.AuctionFault.{AuctionFault}
-use Rattle.house_run.specs.Causes.{IsBadAuction, IsBadLog, JournalFailed, MayEnd}
+use Rattle.house_run.specs.Causes.{IsBadAuction, IsBadLog, JournalFailed, MayEnd, MayReadValues}
 use Rattle.house_run.specs.Commands.{needs_of}
 use Rattle.command_line.specs.Commands.{Command, Spells}
 use Rattle.settlement.specs.declared.outcome.Settlement.{Settlement}
 use Rattle.settlement.specs.declared.outcome.Settlement.TheVariants as settlement
+use Rattle.clock_book.specs.declared.faults.OpenFault.{OpenFault}
 use Rattle.house_run.specs.Journals.{IsBadJournal}
 use Rattle.house_run.specs.Outcomes.{Settles, SettlesAs}
 use Rattle.house_run.specs.Ends.{AreGood, AreGoodJournals, AreGoodValues, IsJournalIn, MayOpen, CommandEnds, IsDoneOrNoMemory, IsGoodAuction, IsGoodLog, NothingFailed, RunEnds, Wrote, WroteLine, as_seen}
 use Rattle.report_log.specs.Logs.{IsFaultyAt, log_limit}
-use Rattle.house_run.specs.MoveEnds.{EndsMoving, HasMove}
-use Rattle.house_run.specs.Moves.{AreGoodTargets, AreOtherTerms, IsFull, IsNotPrefix}
+use Rattle.house_run.specs.MoveEnds.{EndsMoving, HasMove, MayReadSecond}
+use Rattle.house_run.specs.Moves.{AreGoodTargets, AreOtherTerms, IsBadTarget, IsFull, IsNotPrefix}
 use Rattle.house_run.specs.Needs.{Has, Log, Moving, Needs, journal_name}
 use Rattle.house_run.specs.NetEnds.{Ends, EndsOnNet}
 use Rattle.house_run.specs.Nets.{NetSeen}
@@ -121,11 +122,11 @@ ended-well needs seen net sink files (how.TooLong which.Log) may told good quiet
     let both = both-of needs.log _ _ may good.log in
     not-long seen.shelf files both.value.name log_limit told both.first both.second.short)
 ended-well needs seen net sink files (how.TooLong which.Values) may told good quiet = absurd (
-    let both = both-of-two needs.auction needs.values (λ a v. IsTooLong seen.shelf v values_limit) (λ a v. AreGoodValues (needs.bid ≡ None) files a v) may good.values in
-    not-long seen.shelf files both.other values_limit told both.first both.second.short)
+    let both = both-of-two needs.auction needs.values (λ a v. MayReadValues needs seen.shelf a × IsTooLong seen.shelf v values_limit) (λ a v. AreGoodValues (needs.bid ≡ None) files a v) may good.values in
+    not-long seen.shelf files both.other values_limit told both.first.1 both.second.short)
 ended-well needs seen net sink files (how.BadValues fault) may told good quiet = absurd (
-    let both = both-of-two needs.auction needs.values (λ a v. IsBadValues seen.shelf a v fault) (λ a v. AreGoodValues (needs.bid ≡ None) files a v) may good.values in
-    good-values (needs.bid ≡ None) seen.shelf files both.one both.other fault told both.first both.second)
+    let both = both-of-two needs.auction needs.values (λ a v. MayReadValues needs seen.shelf a × IsBadValues seen.shelf a v fault) (λ a v. AreGoodValues (needs.bid ≡ None) files a v) may good.values in
+    good-values (needs.bid ≡ None) seen.shelf files both.one both.other fault told both.first.1 both.second)
 ended-well needs seen net sink files (how.NotSubstitutes bidder x y units) may told good quiet = absurd (
     not-without needs seen.shelf files bidder x y units told may.0 may.1 good)
 ended-well needs seen net sink files (how.BadLog place) may told good quiet = absurd (
@@ -190,13 +191,22 @@ both-of-move needs P Q p q = of needs.auction needs.journals needs.moving refl r
     of (Some auction) (Some journals) (Some moving) a j m p q = record { auction = auction; journals = journals; moving = moving; auction_is = a; journals_is = j; moving_is = m; first = p; second = q }
 
 -- nor does moving journals
+target-journal : (old journals new target : List ℕ) (shelf : ShelfSeen) (clock : ℕ) (fault : OpenFault) → IsBadTarget clock fault shelf old journals new target → IsBadJournal new target clock fault shelf
+target-journal old journals new target shelf clock fault bad = record {
+  terms = bad.terms;
+  digest = bad.digest;
+  on = record { listing = bad.move.second; auction_is = bad.move.new_is; terms_are = bad.move.terms_are; digest_is = bad.move.digest_is };
+  clock_is = bad.clock_is;
+  first = bad.first;
+}
+
 moves-well : (needs : Needs) (seen : Outside) (net : NetSeen) (sink : SinkSeen) (files : List NamedFile) (end : Ended) → EndsMoving needs seen.shelf end → seen.shelf.files ≡ Some files → AreGood needs files → NothingFailed needs files seen net sink → ⊥
 moves-well needs seen net sink files (how.BadAuction fault) ends told good quiet =
-    let both = both-of-move needs (λ a j m. IsBadAuction m.auction fault seen.shelf) (AreGoodTargets files) ends good.targets in
-    good-auction both.moving.auction fault seen.shelf files told both.first (record { short = both.second.short; listing = both.second.second; read = both.second.second_says })
+    let both = both-of-move needs (λ a j m. MayReadSecond seen.shelf a × IsBadAuction m.auction fault seen.shelf) (AreGoodTargets files) ends good.targets in
+    good-auction both.moving.auction fault seen.shelf files told both.first.1 (record { short = both.second.short; listing = both.second.second; read = both.second.second_says })
 moves-well needs seen net sink files (how.TooLong which.Auction) ends told good quiet =
-    let both = both-of-move needs (λ a j m. IsTooLong seen.shelf m.auction auction_limit) (AreGoodTargets files) ends good.targets in
-    not-long seen.shelf files both.moving.auction auction_limit told both.first both.second.short
+    let both = both-of-move needs (λ a j m. MayReadSecond seen.shelf a × IsTooLong seen.shelf m.auction auction_limit) (AreGoodTargets files) ends good.targets in
+    not-long seen.shelf files both.moving.auction auction_limit told both.first.1 both.second.short
 moves-well needs seen net sink files (how.DiskFault clock) ends told good quiet =
     let both = both-of-move needs (λ a j m. JournalFailed m.auction m.journals clock seen.shelf) (AreGoodTargets files) ends good.targets in
     let m = both.moving in
@@ -211,13 +221,13 @@ moves-well needs seen net sink files (how.NotPrefix clock number) ends told good
     let both = both-of-move needs (λ a j m. IsNotPrefix clock number seen.shelf a j m.auction m.journals) (AreGoodTargets files) ends good.targets in
     not-front seen.shelf files told both.auction both.journals both.moving clock number both.first both.second
 moves-well needs seen net sink files (how.TargetFull clock needed) ends told good quiet =
-    let both = both-of-move needs (λ a j m. IsFull clock needed seen.shelf a j m.auction) (AreGoodTargets files) ends good.targets in
+    let both = both-of-move needs (λ a j m. IsFull clock needed seen.shelf a j m.auction m.journals) (AreGoodTargets files) ends good.targets in
     no-room seen.shelf files told both.auction both.journals both.moving clock needed both.first both.second
 moves-well needs seen net sink files (how.BadTarget clock fault) ends told good quiet =
-    let both = both-of-move needs (λ a j m. IsBadJournal m.auction m.journals clock fault seen.shelf) (AreGoodTargets files) ends good.targets in
+    let both = both-of-move needs (λ a j m. IsBadTarget clock fault seen.shelf a j m.auction m.journals) (AreGoodTargets files) ends good.targets in
     let J : Option (List ℕ) → Option (List ℕ) → Type 0 = λ o u. IfSome o (λ a. IfSome u (λ j. AreGoodJournals needs.settles files a j)) in
     let journals : AreGoodJournals needs.settles files both.auction both.journals = subst (J (Some both.auction)) both.journals_is (subst (λ o. J o needs.journals) both.auction_is good.journals) in
-    bad-target seen.shelf files told both.auction both.journals both.moving clock fault needs.settles both.first journals both.second
+    bad-target seen.shelf files told both.auction both.journals both.moving clock fault needs.settles (target-journal both.auction both.journals both.moving.auction both.moving.journals seen.shelf clock fault both.first) journals both.second
 moves-well needs seen net sink files (how.TooLong which.Log) ends told good quiet = ends
 moves-well needs seen net sink files (how.TooLong which.Values) ends told good quiet = ends
 moves-well needs seen net sink files how.Done ends told good quiet = ends

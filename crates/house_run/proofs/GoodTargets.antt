@@ -109,7 +109,7 @@ module _ (shelf : ShelfSeen) (files : List NamedFile) (told : shelf.files ≡ So
           journals_same = subst (J (Some files) good.before) (ap (λ (l : Listing). l.digest) one) (subst (λ t. J (Some files) t move.first.digest) before (subst (λ o. J o move.before move.first.digest) told move.from_journals));
         }
 
-    pub no-room : (clock needed : ℕ) → IsFull clock needed shelf old journals m.auction → AreGoodTargets files old journals m → ⊥
+    pub no-room : (clock needed : ℕ) → IsFull clock needed shelf old journals m.auction m.journals → AreGoodTargets files old journals m → ⊥
     no-room clock needed bad good =
         let same = same-move bad.histories bad.terms bad.digest bad.move good in
         let d = history_of (owner_of bad.terms clock bad.digest) [] in

@@ -94,7 +94,7 @@ module _ {D R L M : Type 0} (tells : D → Bool) (moments : D → Moments) (disk
       → IsServed told faults link_told link_faults auction sessions house passes doors books logs → AllByRecursion (λ door. faults door ≡ 0) doors → IfTold before between (GivesDoors told (length doors) doors)
       → disks ≡ map (λ (b : BookOf D). b.disk) books → AllByRecursion (λ (b : BookOf D). IsKept (IsTrue (tells b.disk)) (moments b.disk) (disk_faults b.disk) b) books
       → IfTold between after (TakesAll (map (λ (log : DoorLog R). log.door) logs)) → counted_after ≡ raised_by_all counted (map (λ (log : DoorLog R). faults log.door) logs) → LogsOutcome books logs answer
-      → HouseOutcome {L = L} tells moments disk_faults told faults link_told link_faults auction (length doors) sessions house.desks answer disks before after counted counted_after
+      → HouseOutcome {L = L} tells moments disk_faults told faults link_told link_faults auction (length doors) sessions house.desks passes answer disks before after counted counted_after
   served-outcome (Ok hosted) house passes doors books logs disks before between after counted counted_after served fresh gives are kept takes raised outcome =
       let runs = served.runs in
       let log = λ (r : DoorRun R M). r.log in
@@ -110,6 +110,7 @@ module _ {D R L M : Type 0} (tells : D → Bool) (moments : D → Moments) (disk
         back = books-back tells moments disk_faults house.desks (map (λ (r : DoorRun R M). r.after) runs) books disks served.closed are kept;
         clocks = outcome.1;
         runs = runs;
+        passes_are = served.passes_are;
         ran = record {
           count_is = long;
           each = served.each;

@@ -1,6 +1,6 @@
 -- From the disks of a house's journals to these disks again.
 use Rattle.std.proofs.Common.{◌≡◌, ◌≢◌, ◌∙◌, ◌<◌, ◌≤◌, ◌+◌, ℕ, zero, suc, Bool, true, false, IsTrue, List, [], ◌∷◌, length, map, get_or, Option, Result, Ok, Err, arith, inl, inr, refl, sym, ap, subst}
-use Rattle.std.specs.List.{flat_map}
+use Rattle.std.specs.List.{AllByRecursion, flat_map}
 use Rattle.std.specs.Prelude.{◌⊎◌}
 use Rattle.std.proofs.lemmas.Bool.{cases_lt}
 use Rattle.std.proofs.lemmas.List.{get_or-map, length-map}
@@ -14,15 +14,19 @@ use Rattle.auction_file.specs.declared.listing.Auction.{Auction}
 use Rattle.clock.specs.Reports.{ClockHistory, histories}
 use Rattle.recovery.specs.Journaled.{Owner, owner_of}
 use Rattle.clock_book.specs.Books.{BookOf, IsKept}
+use Rattle.clock_book.specs.DeskHistories.{marks_in}
+use Rattle.clock_book.specs.declared.entries.Entry.{Entry}
+use Rattle.clock_book.specs.declared.origins.Origin.{Origin}
 use Rattle.clock_book.specs.Opened.{Opens}
 use Rattle.clock_book.specs.declared.faults.OpenFault.{OpenFault}
 use Rattle.clock_book.specs.declared.faults.OpenFault.TheVariants as why
-use Rattle.clock_family.specs.Houses.{HouseOf, HousePassOf, IsOpened}
+use Rattle.clock_family.specs.Houses.{HouseOf, HousePassOf, IsNewPass, IsOpened}
 use Rattle.clock_family.specs.Opening.{IsNotOpen}
+use Rattle.clock_family.specs.Turns.{IsOf}
 use Rattle.clock_family.specs.declared.house_books.HouseBook.{HouseBook}
-use Rattle.turn_desk.specs.Passes.{Opened}
-use Rattle.house_serve.specs.Houses.{Joins, turns_of}
-use Rattle.house_run.specs.ClockRuns.{ClockRun, IsClockRun, IsJournalRun}
+use Rattle.turn_desk.specs.Passes.{Known, Opened}
+use Rattle.house_serve.specs.Houses.{DoorRun, Joins, turns_of}
+use Rattle.house_run.specs.ClockRuns.{AreNewPasses, BeginNew, ClockRun, IsClockRun, IsJournalRun, IsNewPassAt}
 use Rattle.house_run.specs.Hosting.{BooksBack, HostEnd, HostOutcome, HouseEnd, HouseOutcome, IsSameNet, IsUnhosted, LeavesDisk}
 use Rattle.house_run.specs.Status.{end_at}
 use Rattle.house_run.specs.declared.ends.Ended.{Ended}
@@ -65,6 +69,7 @@ module _ {D : Type 0} (tells : D → Bool) (moments : D → Moments) (faults : D
     book : BookOf D
     run_is : (c : ClockRun) → get_or (runs_in desks books) k c ≡ run_of (get_or desks k desk).book.book (get_or books k book)
     clock : IsClockRun (owner_of terms k digest) (run_of (get_or desks k desk).book.book (get_or books k book))
+    marks : (d : D) → marks_in (get_or books k book).state.history ≤ faults (get_or disks k d)
     journal : (d : D) → IsTrue (tells (get_or disks k d)) → IsJournalRun (owner_of terms k digest) (run_of (get_or desks k desk).book.book (get_or books k book)) (moments (get_or old k d)) (moments (get_or disks k d))
 
   ran-at : (old disks : List D) (house : HouseOf D) (books : List (BookOf D)) → length house.desks ≡ length old
@@ -87,11 +92,38 @@ module _ {D : Type 0} (tells : D → Bool) (moments : D → Moments) (faults : D
         book = book;
         run_is = λ c. runs-at house.desks books k c desk book long within;
         clock = clock-run tells moments faults (owner_of terms k digest) (get_or old k x) first closed (opens k x desk below) same kept;
+        marks = λ d.
+            let is : get_or disks k d ≡ closed.disk = ap (λ l. get_or l k d) back.disks_are ∙ get_or-map (λ (b : BookOf D). b.disk) books k book d inside in
+            subst (λ (y : D). marks_in closed.state.history ≤ faults y) (sym is) kept.marks;
         journal = λ d told.
             let is : get_or disks k d ≡ closed.disk = ap (λ l. get_or l k d) back.disks_are ∙ get_or-map (λ (b : BookOf D). b.disk) books k book d inside in
             let J : D → Type 0 = λ y. IsJournalRun (owner_of terms k digest) (run_of first closed) (moments (get_or old k d)) (moments y) in
             subst J (sym is) (journal-run tells moments faults (owner_of terms k digest) (get_or old k d) first closed (opens k d desk below) same kept (subst (λ y. IsTrue (tells y)) is told));
       }
+
+  -- the passes with which the doors began were new ones of the house
+  new-passes : (count : ℕ) (old disks : List D) (house : HouseOf D) (all : List HousePassOf) (books : List (BookOf D)) (p : HousePassOf) → IsOpened tells moments faults terms digest count old house all
+      → BooksBack tells moments faults house.desks books disks → IsNewPass house p → AreNewPasses terms digest (runs_in house.desks books) p.passes
+  new-passes count old disks house all books p opened back new =
+      let long = length-runs house.desks books back.count in
+      let same = new.of_house.count in
+      record {
+        count = same ∙ sym long;
+        each = λ k c q below.
+            let clocks = opened.clocks in
+            let r = ran-at old disks house books opened.clocks opened.books back k (omega arith) in
+            let within : k < length house.desks = omega arith in
+            let inside : k < length p.passes = omega arith in
+            let O : Owner → Type 0 = λ owner. IsOf owner (get_or p.passes k q) in
+            let whose : owner_of house.terms k house.digest ≡ owner_of terms k digest = λ i. owner_of (opened.terms_are i) k (opened.digest_is i) in
+            subst (λ (run : ClockRun). IsNewPassAt (owner_of terms k digest) run (get_or p.passes k q)) (sym (r.run_is c))
+            (record { of = subst O whose (new.of_house.book k q inside); seen = new.seen k r.desk q within; own = new.own k q inside });
+      }
+
+  begin-all : {R L : Type 0} (count : ℕ) (old disks : List D) (house : HouseOf D) (all : List HousePassOf) (books : List (BookOf D)) (runs : List (DoorRun R L)) → IsOpened tells moments faults terms digest count old house all
+      → BooksBack tells moments faults house.desks books disks → AllByRecursion (IsNewPass house) (map (λ (r : DoorRun R L). r.before) runs) → BeginNew terms digest (runs_in house.desks books) runs
+  begin-all count old disks house all books [] opened back new = tt
+  begin-all count old disks house all books (r ∷ runs) opened back new = (new-passes count old disks house all books r.before opened back new.0, begin-all count old disks house all books runs opened back new.1)
 
   house-end : {N : Type 0} (old disks : List D) (told_before told_after : Option N) (counted_before counted : ℕ) (end : Ended) → HouseEnd counted_before counted end → HostEnd {N = N} tells moments faults terms digest old disks told_before told_after counted_before counted end
   house-end old disks told_before told_after counted_before counted how.NetFault cause = cause
@@ -134,7 +166,7 @@ module _ {D : Type 0} (tells : D → Bool) (moments : D → Moments) (faults : D
       left : (k : ℕ) (d : D) → (k < clock) ⊎ (clock ≤ k) → LeavesDisk tells moments (owner_of terms k digest) (get_or old k d) (get_or disks k d)
       left k d (inl before) =
           let was = not.before k d before in
-          inr (run_of was.first (back_of was.first was.pending (get_or disks k d)), was-run tells moments faults (owner_of terms k digest) (get_or old k d) (get_or disks k d) was, was-journal tells moments faults (owner_of terms k digest) (get_or old k d) (get_or disks k d) was)
+          inr (run_of was.first (back_of was.first (get_or disks k d)), was-run tells moments faults (owner_of terms k digest) (get_or old k d) (get_or disks k d) was, was-journal tells moments faults (owner_of terms k digest) (get_or old k d) (get_or disks k d) was)
       left k d (inr beyond) = elim (cases_lt clock k) [
         | inl after ↦ inl (λ told. inl (ap moments (not.after k d after)))
         | inr same ↦
@@ -146,7 +178,7 @@ module _ {D R L M : Type 0} (tells : D → Bool) (moments : D → Moments) (disk
   -- a house was opened, and came to this
   pub hosted : (answer : Result Hosted Ended) (old disks : List D) (house : HouseOf D) (passes : List HousePassOf) (told_before told_after : Option (NetLists R L)) (counted_before counted : ℕ)
       → IsOpened tells moments disk_faults auction.terms auction.digest count old house passes
-      → HouseOutcome {L = L} tells moments disk_faults told faults link_told link_faults auction count sessions house.desks answer disks told_before told_after counted_before counted
+      → HouseOutcome {L = L} tells moments disk_faults told faults link_told link_faults auction count sessions house.desks passes answer disks told_before told_after counted_before counted
       → HostOutcome {L = L} tells moments disk_faults told faults link_told link_faults auction count sessions old answer disks told_before told_after counted_before counted
   hosted (Ok h) old disks house passes told_before told_after counted_before counted opened served =
       let back = served.back in
@@ -162,8 +194,12 @@ module _ {D R L M : Type 0} (tells : D → Bool) (moments : D → Moments) (disk
         journals_are = λ k c d below told_now.
             let r = at k (omega arith) in
             subst (λ (run : ClockRun). IsJournalRun (owner_of auction.terms k auction.digest) run (moments (get_or old k d)) (moments (get_or disks k d))) (sym (r.run_is c)) (r.journal d told_now);
+        marks = λ k c d below.
+            let r = at k (omega arith) in
+            subst (λ (run : ClockRun). marks_in run.closed.history ≤ disk_faults (get_or disks k d)) (sym (r.run_is c)) (r.marks d);
         histories_are = served.clocks ∙ histories-in house.desks books back.count;
         runs = served.runs;
+        new = begin-all tells moments disk_faults auction.terms auction.digest count old disks house passes books served.runs opened back (subst (AllByRecursion (IsNewPass house)) served.passes_are opened.new);
         ran = served.ran;
         joins = λ k c below.
             let r = at k (omega arith) in

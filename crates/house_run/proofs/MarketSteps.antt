@@ -17,10 +17,10 @@ use Rattle.trial.specs.Trials.{IsTried, IsSettledWell}
 use Rattle.trial.specs.Refusals.{IsRefusal}
 use Rattle.trial.specs.declared.faults.TrialFault.{TrialFault}
 use Rattle.trial.specs.declared.faults.TrialFault.TheVariants as fault
-use Rattle.house_run.specs.Causes.{MayEnd, Tells}
+use Rattle.house_run.specs.Causes.{MayEnd, MayReadValues, Tells}
 use Rattle.house_run.specs.Ends.{ShelfAnswer}
 use Rattle.house_run.specs.Frame.{Frame, KeepsFiles, OpensSources, RisesAmong}
-use Rattle.house_run.specs.Markets.{HasTerms, HasValues, IsBadValues, IsMarketAt, TriesAs, market_bidders}
+use Rattle.house_run.specs.Markets.{ComesToValues, HasTerms, HasValues, IsBadValues, IsMarketAt, TriesAs, market_bidders}
 use Rattle.house_run.specs.MakeCommand.{make_needs}
 use Rattle.house_run.specs.Needs.{Has, IsJournal, IsSource, Needs, sources, with_names}
 use Rattle.command_line.specs.Parts.{Bidding}
@@ -115,58 +115,58 @@ market-read auction values seen terms valuations files faults names known reads 
 
 -- the valuations were refused
 pub values-ends : (end : Ended) (needs : Needs) (auction values : List ℕ) (seen : Outside) (terms : Terms) (files : Option (List NamedFile)) (faults : List ℕ → ℕ) (names : List (List ℕ)) → ReadsTwo needs auction values → AuctionRead auction seen terms files faults names
-    → HasTerms seen.shelf auction terms → OnlyReads values (later seen.shelf files faults names) → EndsAtValues terms values (later seen.shelf files faults names) end → LeavesSo needs seen end
-values-ends how.ReadFault needs auction values seen terms files faults names two known has_terms reads ends =
+    → ComesToValues seen.shelf auction needs.bid terms → OnlyReads values (later seen.shelf files faults names) → EndsAtValues terms values (later seen.shelf files faults names) end → LeavesSo needs seen end
+values-ends how.ReadFault needs auction values seen terms files faults names two known comes reads ends =
     let P : ℕ → Type 0 = λ before. Rose before (seen.shelf.faults values) in
     let source : IsSource needs values = inr (inr (inl (has needs.values values (λ v. values ≡ v) two.values_are refl))) in
     record {
       cause = record { name = values; source = source; failed = subst P (known.steady values) ends };
       frame = market-frame needs auction values seen terms files faults names how.ReadFault two known reads (one-counts (Tells needs how.ReadFault) values (later seen.shelf files faults names) reads.counts source);
     }
-values-ends how.NoMemory needs auction values seen terms files faults names two known has_terms reads ends = record {
+values-ends how.NoMemory needs auction values seen terms files faults names two known comes reads ends = record {
   cause = tt;
   frame = market-frame needs auction values seen terms files faults names how.NoMemory two known reads (steady-counts (Tells needs how.NoMemory) (later seen.shelf files faults names) ends);
 }
-values-ends (how.TooLong which.Values) needs auction values seen terms files faults names two known has_terms reads ends = record {
-  cause = has needs.auction auction _ two.auction_is (has needs.values values (λ v. IsTooLong seen.shelf v values_limit) two.values_are ends.1);
+values-ends (how.TooLong which.Values) needs auction values seen terms files faults names two known comes reads ends = record {
+  cause = has needs.auction auction _ two.auction_is (has needs.values values (λ v. MayReadValues needs seen.shelf auction × IsTooLong seen.shelf v values_limit) two.values_are ((terms, comes), ends.1));
   frame = market-frame needs auction values seen terms files faults names (how.TooLong which.Values) two known reads (steady-counts (Tells needs (how.TooLong which.Values)) (later seen.shelf files faults names) ends.0);
 }
-values-ends (how.BadValues refusal) needs auction values seen terms files faults names two known has_terms reads ends =
+values-ends (how.BadValues refusal) needs auction values seen terms files faults names two known comes reads ends =
     let refused = ends.1 in
     let bad : IsBadValues seen.shelf auction values refusal = record {
       terms = terms;
-      terms_are = has_terms;
+      terms_are = comes.terms_are;
       read = refused.read;
       is_read = record { whole = refused.is_read.whole; short = refused.is_read.short; bytes = refused.is_read.bytes };
       says = refused.says;
       other = refused.other;
     } in
     record {
-      cause = has needs.auction auction (λ a. Has needs.values (λ v. IsBadValues seen.shelf a v refusal)) two.auction_is (has needs.values values (λ v. IsBadValues seen.shelf auction v refusal) two.values_are bad);
+      cause = has needs.auction auction (λ a. Has needs.values (λ v. MayReadValues needs seen.shelf a × IsBadValues seen.shelf a v refusal)) two.auction_is (has needs.values values (λ v. MayReadValues needs seen.shelf auction × IsBadValues seen.shelf auction v refusal) two.values_are ((terms, comes), bad));
       frame = market-frame needs auction values seen terms files faults names (how.BadValues refusal) two known reads (steady-counts (Tells needs (how.BadValues refusal)) (later seen.shelf files faults names) ends.0);
     }
-values-ends how.Done needs auction values seen terms files faults names two known has_terms reads ends = absurd ends
-values-ends how.Usage needs auction values seen terms files faults names two known has_terms reads ends = absurd ends
-values-ends how.WriteFault needs auction values seen terms files faults names two known has_terms reads ends = absurd ends
-values-ends (how.DiskFault clock) needs auction values seen terms files faults names two known has_terms reads ends = absurd ends
-values-ends (how.BadJournal clock refusal) needs auction values seen terms files faults names two known has_terms reads ends = absurd ends
-values-ends (how.BadAuction refusal) needs auction values seen terms files faults names two known has_terms reads ends = absurd ends
-values-ends (how.Open clock round missing) needs auction values seen terms files faults names two known has_terms reads ends = absurd ends
-values-ends (how.NoAward clock) needs auction values seen terms files faults names two known has_terms reads ends = absurd ends
-values-ends (how.Halted clock good) needs auction values seen terms files faults names two known has_terms reads ends = absurd ends
-values-ends (how.NotSubstitutes bidder x y good) needs auction values seen terms files faults names two known has_terms reads ends = absurd ends
-values-ends (how.TooLong which.Auction) needs auction values seen terms files faults names two known has_terms reads ends = absurd ends
-values-ends (how.TooLong which.Log) needs auction values seen terms files faults names two known has_terms reads ends = absurd ends
-values-ends (how.BadLog place) needs auction values seen terms files faults names two known has_terms reads ends = absurd ends
-values-ends how.NetFault needs auction values seen terms files faults names two known has_terms reads ends = absurd ends
-values-ends (how.Refused code detail value) needs auction values seen terms files faults names two known has_terms reads ends = absurd ends
-values-ends (how.LooksSpent clock) needs auction values seen terms files faults names two known has_terms reads ends = absurd ends
-values-ends how.BadReply needs auction values seen terms files faults names two known has_terms reads ends = absurd ends
-values-ends (how.NoBidder bidder) needs auction values seen terms files faults names two known has_terms reads ends = absurd ends
-values-ends how.OtherTerms needs auction values seen terms files faults names two known has_terms reads ends = absurd ends
-values-ends (how.NotPrefix clock place) needs auction values seen terms files faults names two known has_terms reads ends = absurd ends
-values-ends (how.TargetFull clock needed) needs auction values seen terms files faults names two known has_terms reads ends = absurd ends
-values-ends (how.BadTarget clock refusal) needs auction values seen terms files faults names two known has_terms reads ends = absurd ends
+values-ends how.Done needs auction values seen terms files faults names two known comes reads ends = absurd ends
+values-ends how.Usage needs auction values seen terms files faults names two known comes reads ends = absurd ends
+values-ends how.WriteFault needs auction values seen terms files faults names two known comes reads ends = absurd ends
+values-ends (how.DiskFault clock) needs auction values seen terms files faults names two known comes reads ends = absurd ends
+values-ends (how.BadJournal clock refusal) needs auction values seen terms files faults names two known comes reads ends = absurd ends
+values-ends (how.BadAuction refusal) needs auction values seen terms files faults names two known comes reads ends = absurd ends
+values-ends (how.Open clock round missing) needs auction values seen terms files faults names two known comes reads ends = absurd ends
+values-ends (how.NoAward clock) needs auction values seen terms files faults names two known comes reads ends = absurd ends
+values-ends (how.Halted clock good) needs auction values seen terms files faults names two known comes reads ends = absurd ends
+values-ends (how.NotSubstitutes bidder x y good) needs auction values seen terms files faults names two known comes reads ends = absurd ends
+values-ends (how.TooLong which.Auction) needs auction values seen terms files faults names two known comes reads ends = absurd ends
+values-ends (how.TooLong which.Log) needs auction values seen terms files faults names two known comes reads ends = absurd ends
+values-ends (how.BadLog place) needs auction values seen terms files faults names two known comes reads ends = absurd ends
+values-ends how.NetFault needs auction values seen terms files faults names two known comes reads ends = absurd ends
+values-ends (how.Refused code detail value) needs auction values seen terms files faults names two known comes reads ends = absurd ends
+values-ends (how.LooksSpent clock) needs auction values seen terms files faults names two known comes reads ends = absurd ends
+values-ends how.BadReply needs auction values seen terms files faults names two known comes reads ends = absurd ends
+values-ends (how.NoBidder bidder) needs auction values seen terms files faults names two known comes reads ends = absurd ends
+values-ends how.OtherTerms needs auction values seen terms files faults names two known comes reads ends = absurd ends
+values-ends (how.NotPrefix clock place) needs auction values seen terms files faults names two known comes reads ends = absurd ends
+values-ends (how.TargetFull clock needed) needs auction values seen terms files faults names two known comes reads ends = absurd ends
+values-ends (how.BadTarget clock refusal) needs auction values seen terms files faults names two known comes reads ends = absurd ends
 
 -- the auction that was read has too few bidders
 pub no-bidder : (auction values : List ℕ) (b : Bidding) (seen : Outside) (bidder : ℕ) (terms : Terms) (listing : Listing) → b.bidder ≡ bidder → OnlyReads auction seen.shelf → IsSteady seen.shelf → IsAuctionAt seen.shelf auction listing → IsTermsOf listing terms

@@ -24,6 +24,7 @@ use Rattle.house_run.specs.Frame.{KeepsAll, KeepsContents, OnlySynced, RisesAmon
 use Rattle.house_run.specs.Journals.{AreFromJournals, IsBadJournal, IsFirstRefused, IsTermsOf}
 use Rattle.house_run.specs.MigrateCommand.{MigrateDone, MigrateFrame, MovesFiles, migrate_needs, moved_line}
 use Rattle.house_run.specs.MoveSteps.{AreFilesRead, IsMoveRead, StopsMoving}
+use Rattle.house_run.specs.MoveEnds.{MayReadSecond}
 use Rattle.house_run.specs.Moves.{IsMove, IsSameListing}
 use Rattle.house_run.specs.MovingJournals.{JournalsMoved, JournalsNotMoved, KeepsTargets, NotMoving}
 use Rattle.house_run.specs.Needs.{IsJournal, IsSource, Needs, first_journals, journal_name, nothing_needed, with_names}
@@ -117,47 +118,56 @@ module _ (old journals new target : List ℕ) (seen : Outside) (files : Option (
   both-unchanged : ChangesNone seen.shelf.files_before seen.shelf.files
   both-unchanged = none-changed seen.shelf.files_before files seen.shelf.files r.unchanged reads.unchanged
 
-  second-cause : (end : Ended) (net : NetSeen) → MayEnd (alone new) (record { shelf = later seen.shelf files faults names }) end → Ends (migrate_needs old journals new target) (as_found seen) net end
-  second-cause how.NoMemory net may = inl tt
-  second-cause how.ReadFault net may = inl (record {
+  first-found : (listing : Listing) (one : ShelfSeen) → one.files ≡ files → IsAuctionAt one old listing → IsAuctionAt (found seen.shelf) old listing
+  first-found listing one one-is old_is =
+      let kept = none-kept (λ _. ⊥) files seen.shelf.files reads.unchanged in
+      let same : Reads files (told_first seen.shelf.files_before seen.shelf.files) = reads-first (KeepsContents (λ _. ⊥)) seen.shelf.files_before files seen.shelf.files r.unchanged kept in
+      auction-reads one (found seen.shelf) old listing (subst (λ (o : Option (List NamedFile)). Reads o (told_first seen.shelf.files_before seen.shelf.files)) (sym one-is) same) old_is
+
+  second-cause : (end : Ended) (net : NetSeen) → MayReadSecond (found seen.shelf) old → MayEnd (alone new) (record { shelf = later seen.shelf files faults names }) end → Ends (migrate_needs old journals new target) (as_found seen) net end
+  second-cause how.NoMemory net first may = inl tt
+  second-cause how.ReadFault net first may = inl (record {
     name = may.name;
     source = source-of old journals new target may.name may.source;
     failed = subst (λ (n : ℕ). Rose n (seen.shelf.faults may.name)) (r.steady may.name) may.failed;
   })
-  second-cause (how.BadAuction fault) net may = inr (inr (record {
-    read = may.read;
-    is_read = read-reads (later seen.shelf files faults names) (found seen.shelf) new auction_limit may.read (reads-same seen.shelf.files_before seen.shelf.files both-unchanged) may.is_read;
-    says = may.says;
-    other = may.other;
-  }))
-  second-cause (how.TooLong which.Auction) net may =
-      inr (inr (reads-told (λ bytes. auction_limit < length bytes) new seen.shelf.files (told_first seen.shelf.files_before seen.shelf.files) (reads-same seen.shelf.files_before seen.shelf.files both-unchanged) may))
-  second-cause (how.TooLong which.Log) net may = absurd may
-  second-cause (how.TooLong which.Values) net may = absurd may
-  second-cause how.Done net may = absurd may
-  second-cause how.Usage net may = absurd may
-  second-cause how.WriteFault net may = absurd may
-  second-cause (how.DiskFault clock) net may = absurd may
-  second-cause (how.BadJournal clock fault) net may = absurd may
-  second-cause (how.BadValues fault) net may = absurd may
-  second-cause (how.Open clock round missing) net may = absurd may.1
-  second-cause (how.NoAward clock) net may = absurd may.1
-  second-cause (how.Halted clock good) net may = absurd may.1
-  second-cause (how.NotSubstitutes bidder x y good) net may = elim (may.1) [ inl none ↦ absurd none | inr none ↦ absurd none ]
-  second-cause (how.BadLog place) net may = absurd may
-  second-cause how.NetFault net may = absurd may
-  second-cause (how.Refused code detail value) net may = absurd may
-  second-cause (how.LooksSpent clock) net may = absurd may
-  second-cause how.BadReply net may = absurd may
-  second-cause (how.NoBidder bidder) net may = absurd may
-  second-cause how.OtherTerms net may = absurd may
-  second-cause (how.NotPrefix clock place) net may = absurd may
-  second-cause (how.TargetFull clock needed) net may = absurd may
-  second-cause (how.BadTarget clock fault) net may = absurd may
+  second-cause (how.BadAuction fault) net first may = inr (inr (
+    first,
+    record {
+      read = may.read;
+      is_read = read-reads (later seen.shelf files faults names) (found seen.shelf) new auction_limit may.read (reads-same seen.shelf.files_before seen.shelf.files both-unchanged) may.is_read;
+      says = may.says;
+      other = may.other;
+    },
+  ))
+  second-cause (how.TooLong which.Auction) net first may =
+      inr (inr (first, reads-told (λ bytes. auction_limit < length bytes) new seen.shelf.files (told_first seen.shelf.files_before seen.shelf.files) (reads-same seen.shelf.files_before seen.shelf.files both-unchanged) may))
+  second-cause (how.TooLong which.Log) net first may = absurd may
+  second-cause (how.TooLong which.Values) net first may = absurd may
+  second-cause how.Done net first may = absurd may
+  second-cause how.Usage net first may = absurd may
+  second-cause how.WriteFault net first may = absurd may
+  second-cause (how.DiskFault clock) net first may = absurd may
+  second-cause (how.BadJournal clock fault) net first may = absurd may
+  second-cause (how.BadValues fault) net first may = absurd may
+  second-cause (how.Open clock round missing) net first may = absurd may.1
+  second-cause (how.NoAward clock) net first may = absurd may.1
+  second-cause (how.Halted clock good) net first may = absurd may.1
+  second-cause (how.NotSubstitutes bidder x y good) net first may = elim (may.1) [ inl none ↦ absurd none | inr none ↦ absurd none ]
+  second-cause (how.BadLog place) net first may = absurd may
+  second-cause how.NetFault net first may = absurd may
+  second-cause (how.Refused code detail value) net first may = absurd may
+  second-cause (how.LooksSpent clock) net first may = absurd may
+  second-cause how.BadReply net first may = absurd may
+  second-cause (how.NoBidder bidder) net first may = absurd may
+  second-cause how.OtherTerms net first may = absurd may
+  second-cause (how.NotPrefix clock place) net first may = absurd may
+  second-cause (how.TargetFull clock needed) net first may = absurd may
+  second-cause (how.BadTarget clock fault) net first may = absurd may
 
   -- the second was refused
-  pub second-stops : (end : Ended) → EndsAtAuction new (record { shelf = later seen.shelf files faults names }) end → StopsMoving old journals new target seen end
-  second-stops end ends = of reads.names
+  pub second-stops : (end : Ended) (listing : Listing) (one : ShelfSeen) → one.files ≡ files → IsAuctionAt one old listing → EndsAtAuction new (record { shelf = later seen.shelf files faults names }) end → StopsMoving old journals new target seen end
+  second-stops end listing one one-is old_is ends = of reads.names
     where
       counts : RisesAmong (Tells (migrate_needs old journals new target) end) seen.shelf.faults_before seen.shelf.faults
       counts =
@@ -168,7 +178,7 @@ module _ (old journals new target : List ℕ) (seen : Outside) (files : Option (
           }
 
       cause : (net : NetSeen) → Ends (migrate_needs old journals new target) (as_found seen) net end
-      cause net = second-cause end net (ends (alone new) refl).cause
+      cause net = second-cause end net (listing, first-found listing one one-is old_is) (ends (alone new) refl).cause
 
       of : OpensOnly new names seen.shelf.opened → StopsMoving old journals new target seen end
       of (inl same) = stopped old journals new target seen end 1 cause (same ∙ r.opened) counts both-unchanged
@@ -177,10 +187,7 @@ module _ (old journals new target : List ℕ) (seen : Outside) (files : Option (
   module _ (first second : Auction) (one : ShelfSeen) (one-is : one.files ≡ files) (old_is : IsAuctionAt one old (listing_of first)) (new_is : IsAuctionAt (later seen.shelf files faults names) new (listing_of second))
       (steady : IsSteady (later seen.shelf files faults names)) (opened : seen.shelf.opened ≡ with_name new names) where
     old-found : IsAuctionAt (found seen.shelf) old (listing_of first)
-    old-found =
-        let kept = none-kept (λ _. ⊥) files seen.shelf.files reads.unchanged in
-        let same : Reads files (told_first seen.shelf.files_before seen.shelf.files) = reads-first (KeepsContents (λ _. ⊥)) seen.shelf.files_before files seen.shelf.files r.unchanged kept in
-        auction-reads one (found seen.shelf) old (listing_of first) (subst (λ (o : Option (List NamedFile)). Reads o (told_first seen.shelf.files_before seen.shelf.files)) (sym one-is) same) old_is
+    old-found = first-found (listing_of first) one one-is old_is
 
     new-found : IsAuctionAt (found seen.shelf) new (listing_of second)
     new-found = auction-reads (later seen.shelf files faults names) (found seen.shelf) new (listing_of second) (reads-same seen.shelf.files_before seen.shelf.files both-unchanged) new_is
@@ -376,14 +383,13 @@ target-then journals target n Q (Some a) (Some b) (Some c) other few kept told =
     let apart : IsJournal journals name → ⊥ = λ is. prefixes-differ journals target name other is (k, (omega arith), refl) in
     subst (λ (m : Moments). Q k h m (moments_at c name)) (moments-same a b name (kept.same name apart)) (told k h below)
 
-others-then : (journals target : List ℕ) (n : ℕ) (a b c : Option (List NamedFile)) → n ≤ MOST_BIDDERS + 1 → KeepsAll (IsJournal journals) a b
+others-then : (journals target : List ℕ) (n : ℕ) (a b c : Option (List NamedFile)) → KeepsAll (IsJournal journals) a b
     → IfTells c (λ after. IfWasTold b (λ before. (name : List ℕ) → (IsJournalBelow target n name → ⊥) → file_of after name ≡ file_of before name))
-    → IfTells c (λ after. IfWasTold a (λ before. (name : List ℕ) → (IsJournal journals name → ⊥) → (IsJournal target name → ⊥) → file_of after name ≡ file_of before name))
-others-then journals target n a b None few kept told = tt
-others-then journals target n a None (Some c) few kept told = absurd told
-others-then journals target n None (Some b) (Some c) few kept told = absurd kept
-others-then journals target n (Some a) (Some b) (Some c) few kept told = λ name not_old not_new.
-    told name (λ b. not_new (b.0, (let l = b.1 in omega arith), b.2)) ∙ kept.same name not_old
+    → IfTells c (λ after. IfWasTold a (λ before. (name : List ℕ) → (IsJournal journals name → ⊥) → (IsJournalBelow target n name → ⊥) → file_of after name ≡ file_of before name))
+others-then journals target n a b None kept told = tt
+others-then journals target n a None (Some c) kept told = absurd told
+others-then journals target n None (Some b) (Some c) kept told = absurd kept
+others-then journals target n (Some a) (Some b) (Some c) kept told = λ name not_old not_new. told name not_new ∙ kept.same name not_old
 
 synced-then : (journals target : List ℕ) (n : ℕ) (a b c : Option (List NamedFile)) → journals ≢ target → n ≤ MOST_BIDDERS + 1 → KeepsAll (IsJournal journals) a b
     → IfTells c (λ after. IfWasTold b (λ before. (name : List ℕ) → (IsJournalBelow target n name → ⊥) → file_of after name ≡ file_of before name))
@@ -430,7 +436,7 @@ module _ (old journals new target : List ℕ) (second : Auction) (cs : List Cloc
       terms = second.terms;
       digest = second.digest;
       move = move-still;
-      others = others-then journals target (second.terms.bidders + 1) seen.shelf.files_before files seen.shelf.files (let l = few-bidders in omega arith) r.files keeps.others;
+      others = others-then journals target (second.terms.bidders + 1) seen.shelf.files_before files seen.shelf.files r.files keeps.others;
       synced = synced-then journals target (second.terms.bidders + 1) seen.shelf.files_before files seen.shelf.files other (let l = few-bidders in omega arith) r.files keeps.others;
       left = target-then journals target second.terms.bidders (λ k h m n. LeavesTarget (owner_of second.terms k second.digest) (get_or cs k h).reports m n) seen.shelf.files_before files seen.shelf.files other few-bidders r.files keeps.left;
     }
@@ -479,9 +485,10 @@ module _ (old journals new target : List ℕ) (second : Auction) (cs : List Cloc
         failed = subst (λ (n : ℕ). Rose n (seen.shelf.faults (journal_name target clock))) (r.steady (journal_name target clock)) failed;
       }))
       of (how.BadTarget clock fault) (few, bad) = inr (inr (record {
+        histories = cs;
         terms = second.terms;
         digest = second.digest;
-        on = record { listing = move.second; auction_is = move.new_is; terms_are = move.terms_are; digest_is = move.digest_is };
+        move = move;
         clock_is = few;
         first = refused-reads (told_first files seen.shelf.files) (told_first seen.shelf.files_before seen.shelf.files) second.terms second.digest target clock fault since bad;
       }))
@@ -498,7 +505,18 @@ module _ (old journals new target : List ℕ) (second : Auction) (cs : List Cloc
         off = reads-all (λ read. (c d : ClockHistory) → StandsForHistory (owner_of second.terms clock second.digest) c (read (journal_name target clock)) → IsNoFrontAt number c.reports (get_or cs clock d).reports)
             (told_first files seen.shelf.files) (told_first seen.shelf.files_before seen.shelf.files) since off.off;
       }))
-      of (how.TargetFull clock needed) (few, full) = inr (inr (record { histories = cs; terms = second.terms; digest = second.digest; move = move; clock_is = few; full = full }))
+      of (how.TargetFull clock needed) full = inr (inr (record {
+        histories = cs;
+        terms = second.terms;
+        digest = second.digest;
+        move = move;
+        clock_is = full.within;
+        all_open = reads-all (λ read. (k : ℕ) → k ≤ second.terms.bidders → (c : ClockHistory) × StandsForHistory (owner_of second.terms k second.digest) c (read (journal_name target k)))
+            (told_first files seen.shelf.files) (told_first seen.shelf.files_before seen.shelf.files) since full.all_open;
+        fronts = reads-all (λ read. (k : ℕ) → k ≤ second.terms.bidders → (c : ClockHistory) → IsFront (owner_of second.terms k second.digest) (get_or cs k c).reports (read (journal_name target k)))
+            (told_first files seen.shelf.files) (told_first seen.shelf.files_before seen.shelf.files) since full.fronts;
+        full = full.full;
+      }))
       of how.NoMemory cause = inl tt
       of how.Done cause = absurd cause
       of how.Usage cause = absurd cause

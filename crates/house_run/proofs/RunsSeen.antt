@@ -1,7 +1,7 @@
 -- What doors of a house did, as a contract of a run sees it.
-use Rattle.std.proofs.Common.{◌≡◌, ◌∙◌, ◌≤◌, ◌<◌, ◌-◌, ◌++◌, ℕ, List, [], ◌∷◌, length, map, Option, Some, None, arith, refl, sym, ap, subst, option_map}
+use Rattle.std.proofs.Common.{◌≡◌, ◌∙◌, ◌-◌, ◌++◌, ℕ, List, [], ◌∷◌, length, map, take, Option, Some, None, refl, sym, ap, subst, option_map}
 use Rattle.std.specs.List.{AllByRecursion, flat_map}
-use Rattle.std.proofs.lemmas.List.{length-map, map-append}
+use Rattle.std.proofs.lemmas.List.{length-map, map-append, take-map}
 use Rattle.house_io.specs.Doors.{DoorLinks}
 use Rattle.house_io.specs.Links.{LinkBytes}
 use Rattle.house_io.specs.Told.{IfTold}
@@ -69,9 +69,10 @@ module _ {R L : Type 0} (told : R → Option (DoorLinks L)) (faults : R → ℕ)
       record {
         come = subst C (sym (came-seen vs)) (come-seen (map (λ (v : Visit HousePassOf L). v.came) vs) b.to_come a.to_come tells.come);
         free = tells.free ∙ ap (λ n. b.free - n) (sym long);
-        hung_up = λ few.
-            let few_links : length vs ≤ b.free = omega arith in
-            ap (map link) (tells.hung_up few_links) ∙ map-append link b.hung_up (map (λ (v : Visit HousePassOf L). v.went) vs) ∙ ap (λ l. map link b.hung_up ++ l) (sym (went-seen vs));
+        hung_up =
+            ap (map link) tells.hung_up
+            ∙ map-append link b.hung_up (take b.free (map (λ (v : Visit HousePassOf L). v.went) vs))
+            ∙ ap (λ l. map link b.hung_up ++ l) (sym (take-map link b.free (map (λ (v : Visit HousePassOf L). v.went) vs)) ∙ ap (take b.free) (sym (went-seen vs)));
       }
 
   run-seen : (run : DoorRun R L) → IsRun told faults link_told link_faults auction sessions run

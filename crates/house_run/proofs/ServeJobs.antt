@@ -9,7 +9,7 @@ use Rattle.auction_file.specs.Listing.{listing_of}
 use Rattle.auction_file.specs.declared.listing.Auction.{Auction}
 use Rattle.recovery.specs.Journaled.{owner_of}
 use Rattle.clock_book.specs.declared.faults.OpenFault.{OpenFault}
-use Rattle.house_run.specs.Causes.{Tells}
+use Rattle.house_run.specs.Causes.{FailedAt, Tells}
 use Rattle.house_run.specs.ClockRuns.{ClockRun, IsJournalRun, LeavesJournal}
 use Rattle.command_line.specs.Commands.{Serve}
 use Rattle.house_run.specs.Disks.{IsJournalBelow, KeepsOthers}
@@ -131,13 +131,19 @@ module _ (auction journals : List ℕ) (s : Serving) (value : Auction) (seen : O
     ran = record {
       count_is = served.ran.count_is;
       clocks_are = served.ran.clocks_are;
+      marks = λ k c below. marks-told k (served.ran.marks k c below);
       journals_are = first-told _ seen.shelf.files_before files seen.shelf.files r.read served.ran.journals_are;
     };
     doors = served.doors;
+    new = served.new;
     serving = served.serving;
     joins = served.joins;
     text_is = is ∙ (λ i. serve_text (served.ends_are i) (served.histories_are i));
   }
+    where
+      marks-told : {A : Type 0} (k : ℕ) → A ⊎ FailedAt (later seen.shelf files faults names) (journal_name journals k) → A ⊎ FailedAt seen.shelf (journal_name journals k)
+      marks-told k (inl none) = inl none
+      marks-told k (inr failed) = let e = r.steady (journal_name journals k) in inr (omega arith)
 
   pub not-served : (end : Ended) (net : NetSeen) → JournalsNotServed value journals (later seen.shelf files faults names) net end → Ends (serve_needs auction journals s) (as_found seen) net end
   not-served end net not = of end not.cause

@@ -16,13 +16,14 @@ use Rattle.lot_base.specs.declared.auction_terms.Terms.{Terms}
 use Rattle.auction_file.specs.declared.listing.Auction.{Auction}
 use Rattle.recovery.specs.Journaled.{Owner, owner_of}
 use Rattle.clock.specs.Reports.{ClockHistory}
+use Rattle.clock_book.specs.DeskHistories.{marks_in}
 use Rattle.clock_book.specs.Opening.{IsOpening, ReadsClock, StandsForHistory}
 use Rattle.clock_family.specs.Opening.{IsNotOpen}
 use Rattle.clock_book.specs.declared.faults.OpenFault.{OpenFault}
 use Rattle.clock_book.specs.declared.faults.OpenFault.TheVariants as why
 use Rattle.house_serve.specs.Houses.{DoorRun, IsRun, Joins, turns_of}
 use Rattle.house_run.specs.Causes.{FailedAt}
-use Rattle.house_run.specs.ClockRuns.{ClockRun, IsClockRun, IsJournalRun, LeavesJournal}
+use Rattle.house_run.specs.ClockRuns.{BeginNew, ClockRun, IsClockRun, IsJournalRun, LeavesJournal}
 use Rattle.house_run.specs.Disks.{AreGivenBack, AreNotOpen, AreOpen, IsJournalBelow, IsNotOpened, KeepsMoments, KeepsOthers}
 use Rattle.house_run.specs.DoorsSeen.{DoorSeen, LinkSeen, door_seen, link_seen, links_seen}
 use Rattle.house_run.specs.Frame.{RisesAmong}
@@ -31,9 +32,9 @@ use Rattle.house_run.specs.Hosting.{DoorsRan, DoorsServed, HostEnd, HostOutcome,
 use Rattle.house_run.specs.Journals.{IsFirstRefused, IsRefusal}
 use Rattle.house_run.specs.Needs.{first_journals, journal_name, with_names}
 use Rattle.command_line.specs.Parts.{Serving}
-use Rattle.house_run.specs.Nets.{DoorView, NetSeen, NetView, IsNetUntouched, door_view, net_view}
+use Rattle.house_run.specs.Nets.{NetSeen, NetView, IsNetUntouched, net_view}
 use Rattle.house_run.specs.Seen.{ShelfSeen, content}
-use Rattle.house_run.specs.Serving.{ClocksRan, DoorsServing, JoinAll, JournalsNotServed, JournalsServed, KeepsJournals, LeavesAll, NotServing, ServesAt, ServesJournals, view_of}
+use Rattle.house_run.specs.Serving.{ClocksRan, DoorsServing, JoinAll, JournalsNotServed, JournalsServed, KeepsJournals, LeavesAll, NotServing, ServesAt, ServesJournals}
 use Rattle.house_run.specs.Status.{end_at}
 use Rattle.house_run.specs.declared.ends.Ended.{Ended}
 use Rattle.house_run.specs.declared.ends.Ended.TheVariants as how
@@ -48,39 +49,29 @@ use Rattle.house_run.proofs.RunsSeen.{all-seen, run_seen, told-by, turns-seen}
 -- the net, as a contract of a run sees it
 
 module _ {R L M : Type 0} (told : R → Option (DoorLinks M)) (faults : R → ℕ) (link_told : M → Option LinkBytes) (link_faults : M → ℕ) (dialled_told : L → Option LinkBytes) where
-  abbrev shown : R → Option DoorView
-  shown door = option_map (door_view link_told) (told door)
+  abbrev shown : R → Option (DoorLinks LinkSeen)
+  shown door = option_map (links_seen link_told link_faults) (told door)
 
-  same-view : (o : Option (DoorLinks M)) → option_map (door_view (λ (l : LinkSeen). l.told)) (option_map (links_seen link_told link_faults) o) ≡ option_map (door_view link_told) o
-  unfolding door_view
-  same-view None = refl
-  same-view (Some d) = λ i. Some (record {
-    to_come = map-map (λ (l : LinkSeen). l.told) (link_seen link_told link_faults) d.to_come i;
-    hung_up = map-map (λ (l : LinkSeen). l.told) (link_seen link_told link_faults) d.hung_up i;
-    free = d.free;
-  })
-
-  views : (doors : List R) → map view_of (map (door_seen told faults link_told link_faults) doors) ≡ map shown doors
+  views : (doors : List R) → map (λ (door : DoorSeen). door.told) (map (door_seen told faults link_told link_faults) doors) ≡ map shown doors
   views [] = refl
-  views (d ∷ doors) = (λ i. same-view (told d) i ∷ views doors i)
+  views (d ∷ doors) = ap (λ l. shown d ∷ l) (views doors)
 
-  empty-view : (o : Option (DoorLinks M)) → IsEmptyDoor o → IfSome (option_map (door_view link_told) o) (λ (d : DoorView). d.to_come ≡ [])
-  unfolding door_view
+  empty-view : (o : Option (DoorLinks M)) → IsEmptyDoor o → IfSome (option_map (links_seen link_told link_faults) o) (λ (d : DoorLinks LinkSeen). d.to_come ≡ [])
   empty-view None empty = tt
-  empty-view (Some d) empty = ap (map link_told) empty
+  empty-view (Some d) empty = ap (map (link_seen link_told link_faults)) empty
 
-  empty-views : (doors : List R) → AllByRecursion (λ door. IsEmptyDoor (told door)) doors → AllByRecursion (λ (door : Option DoorView). IfSome door (λ (d : DoorView). d.to_come ≡ [])) (map shown doors)
+  empty-views : (doors : List R) → AllByRecursion (λ door. IsEmptyDoor (told door)) doors → AllByRecursion (λ (door : Option (DoorLinks LinkSeen)). IfSome door (λ (d : DoorLinks LinkSeen). d.to_come ≡ [])) (map shown doors)
   empty-views [] all = tt
   empty-views (d ∷ doors) all = (empty-view (told d) all.0, empty-views doors all.1)
 
   pub serves-at : (count : ℕ) (given back : List R) (b a : NetLists R L) → DoorsServed told count given back b a
-      → ServesAt count (map (door_seen told faults link_told link_faults) given) (map (door_seen told faults link_told link_faults) back) (net_view told link_told dialled_told b) (net_view told link_told dialled_told a)
+      → ServesAt count (map (door_seen told faults link_told link_faults) given) (map (door_seen told faults link_told link_faults) back) (net_view told link_told link_faults dialled_told b) (net_view told link_told link_faults dialled_told a)
   unfolding net_view
   serves-at count given back b a served = record {
     empty = map shown served.empty;
     given_are = views given ∙ ap (map shown) served.given_are ∙ map-append shown (take count b.doors) served.empty ∙ ap (λ l. l ++ map shown served.empty) (sym (take-map shown count b.doors));
     are_empty = empty-views served.empty served.are_empty;
-    after_is = ap (net_view told link_told dialled_told) served.after_is ∙ (λ i. record {
+    after_is = ap (net_view told link_told link_faults dialled_told) served.after_is ∙ (λ i. record {
       doors = sym (drop-map shown count b.doors) i;
       closed = (map-append shown b.closed back ∙ ap (λ l. map shown b.closed ++ l) (sym (views back))) i;
       links = map dialled_told b.links;
@@ -95,18 +86,23 @@ module _ {R L M : Type 0} (told : R → Option (DoorLinks M)) (faults : R → �
   none-seen sessions auction [] all = tt
   none-seen sessions auction (r ∷ runs) all = (all.0, none-seen sessions auction runs all.1)
 
+  pub begin-seen : (sessions : ℕ) (auction : Auction) (terms : Terms) (digest : List ℕ) (clocks : List ClockRun) (runs : List (DoorRun R M)) → BeginNew terms digest clocks runs
+      → BeginNew terms digest clocks (map (run_seen told faults link_told link_faults auction sessions) runs)
+  begin-seen sessions auction terms digest clocks [] all = tt
+  begin-seen sessions auction terms digest clocks (r ∷ runs) all = (all.0, begin-seen sessions auction terms digest clocks runs all.1)
+
   pub doors-serving : (auction : Auction) (s : Serving) (runs : List (DoorRun R M)) (ends : _) (before after : Option (NetLists R L)) (counted_before counted : ℕ)
       → DoorsRan {L = L} told faults link_told link_faults auction s.doors s.sessions runs ends before after counted_before counted
-      → DoorsServing auction s (record { told_before = option_map (net_view told link_told dialled_told) before; told = option_map (net_view told link_told dialled_told) after; faults_before = counted_before; faults = counted })
+      → DoorsServing auction s (record { told_before = option_map (net_view told link_told link_faults dialled_told) before; told = option_map (net_view told link_told link_faults dialled_told) after; faults_before = counted_before; faults = counted })
       (map (run_seen told faults link_told link_faults auction s.sessions) runs)
   doors-serving auction s runs ends before after counted_before counted ran =
       let seen = run_seen told faults link_told link_faults auction s.sessions in
       let door = door_seen told faults link_told link_faults in
       let given = map-map (λ (d : DoorRun DoorSeen LinkSeen). d.door) seen runs ∙ sym (map-map door (λ (r : DoorRun R M). r.door) runs) in
       let back = map-map (λ (d : DoorRun DoorSeen LinkSeen). d.log.door) seen runs ∙ sym (map-map door (λ (r : DoorRun R M). r.log.door) runs) in
-      let V : List DoorSeen → List DoorSeen → Type 0 = λ gs bs. IfTold (option_map (net_view told link_told dialled_told) before) (option_map (net_view told link_told dialled_told) after) (ServesAt s.doors gs bs) in
+      let V : List DoorSeen → List DoorSeen → Type 0 = λ gs bs. IfTold (option_map (net_view told link_told link_faults dialled_told) before) (option_map (net_view told link_told link_faults dialled_told) after) (ServesAt s.doors gs bs) in
       let lists : V (map door (map (λ (r : DoorRun R M). r.door) runs)) (map door (map (λ (r : DoorRun R M). r.log.door) runs)) =
-      told-by (net_view told link_told dialled_told) (DoorsServed told s.doors (map (λ (r : DoorRun R M). r.door) runs) (map (λ (r : DoorRun R M). r.log.door) runs))
+      told-by (net_view told link_told link_faults dialled_told) (DoorsServed told s.doors (map (λ (r : DoorRun R M). r.door) runs) (map (λ (r : DoorRun R M). r.log.door) runs))
       (ServesAt s.doors (map door (map (λ (r : DoorRun R M). r.door) runs)) (map door (map (λ (r : DoorRun R M). r.log.door) runs))) before after
       (serves-at s.doors (map (λ (r : DoorRun R M). r.door) runs) (map (λ (r : DoorRun R M). r.log.door) runs)) ran.lists in
       record {
@@ -211,6 +207,18 @@ module _ {D : Type 0} (tells : D → Bool) (moments : D → Moments) (faults : D
     names = given.names ∙ are.names ∙ ap (λ k. with_names (first_journals journals k) shelf.opened_before) long;
   }
 
+  -- where a disk has a fault the count of its journal rose
+  pub journal-failed : (k : ℕ) (d : D) (marks : ℕ) → k < length old → length disks ≡ length old → AreOpen tells moments faults journals old (between shelf.files_before files shelf.faults_before counts shelf.opened_before names)
+      → AreGivenBack tells moments faults journals disks (between files shelf.files counts shelf.faults names shelf.opened) → marks ≤ faults (get_or disks k d) → (marks ≡ 0) ⊎ FailedAt shelf (journal_name journals k)
+  journal-failed k d marks below same are given few = of (cases_lt 0 marks)
+    where
+      of : (0 < marks) ⊎ (marks ≤ 0) → (marks ≡ 0) ⊎ FailedAt shelf (journal_name journals k)
+      of (inl some) =
+          let a = given.added k d (omega arith) in
+          let e = are.steady (journal_name journals k) in
+          inr (omega arith)
+      of (inr none) = inl (omega arith)
+
   -- the count of a disk is that of its journal
   pub journal-rose : (k : ℕ) (d : D) → k < length old → length disks ≡ length old → AreOpen tells moments faults journals old (between shelf.files_before files shelf.faults_before counts shelf.opened_before names)
       → AreGivenBack tells moments faults journals disks (between files shelf.files counts shelf.faults names shelf.opened) → faults (get_or old k d) ≡ 0 → Rose (faults (get_or old k d)) (faults (get_or disks k d)) → FailedAt shelf (journal_name journals k)
@@ -280,7 +288,7 @@ module _ {D : Type 0} (tells : D → Bool) (moments : D → Moments) (faults : D
 
 module _ {D R L M : Type 0} (tells : D → Bool) (moments : D → Moments) (disk_faults : D → ℕ) (told : R → Option (DoorLinks M)) (faults : R → ℕ) (link_told : M → Option LinkBytes) (link_faults : M → ℕ) (dialled_told : L → Option LinkBytes) where
   abbrev seen-net : Option (NetLists R L) → Option (NetLists R L) → ℕ → ℕ → NetSeen
-  seen-net before after counted_before counted = record { told_before = option_map (net_view told link_told dialled_told) before; told = option_map (net_view told link_told dialled_told) after; faults_before = counted_before; faults = counted }
+  seen-net before after counted_before counted = record { told_before = option_map (net_view told link_told link_faults dialled_told) before; told = option_map (net_view told link_told link_faults dialled_told) after; faults_before = counted_before; faults = counted }
 
   pub served-journals : (answer : Result Hosted Ended) (value : Auction) (journals : List ℕ) (s : Serving) (old disks : List D) (shelf : ShelfSeen) (files : Option (List NamedFile)) (counts : List ℕ → ℕ) (names : List (List ℕ)) (before after : Option (NetLists R L)) (counted_before counted : ℕ)
       → length old ≡ value.terms.bidders + 1
@@ -297,6 +305,9 @@ module _ {D R L M : Type 0} (tells : D → Bool) (moments : D → Moments) (disk
         ran = record {
           count_is = is.count_is ∙ long;
           clocks_are = is.clocks_are;
+          marks = λ k c below.
+              let d = some-of old k (let e = is.count_is in omega arith) in
+              journal-failed tells moments disk_faults journals old disks shelf files counts names k d (marks_in (get_or is.clocks k c).closed.history) (let e = is.count_is in omega arith) is.disks_count are given (is.marks k c d below);
           journals_are =
               tells-map shelf.files_before shelf.files (λ x y. (k : ℕ) → k < length old → Q k (moments_at x (journal_name journals k)) (moments_at y (journal_name journals k)))
               (λ x y. (k : ℕ) (c : ClockRun) → k < length is.clocks → IsJournalRun (owner_of value.terms k value.digest) (get_or is.clocks k c) (moments_at x (journal_name journals k)) (moments_at y (journal_name journals k)))
@@ -306,6 +317,7 @@ module _ {D R L M : Type 0} (tells : D → Bool) (moments : D → Moments) (disk
         };
         histories_are = is.histories_are;
         doors = map seen is.runs;
+        new = begin-seen told faults link_told link_faults dialled_told s.sessions value value.terms value.digest is.clocks is.runs is.new;
         serving = doors-serving told faults link_told link_faults dialled_told value s is.runs (map (λ ends. ends.items) hosted.ends.items) before after counted_before counted is.ran;
         joins = λ k c below.
             subst (λ turns. Joins (get_or is.clocks k c).opening (get_or is.clocks k c).closed.history turns k) (sym (turns-seen told faults link_told link_faults value s.sessions is.runs)) (is.joins k c below);
@@ -328,7 +340,7 @@ module _ {D R L M : Type 0} (tells : D → Bool) (moments : D → Moments) (disk
       leaves owner x y told_now (inr run) = inr (run.0, run.1, run.2 told_now)
 
       untouched : IsSameNet before after counted_before counted → IsNetUntouched (seen-net before after counted_before counted)
-      untouched same = (ap (option_map (net_view told link_told dialled_told)) same.told_same, same.counted_same)
+      untouched same = (ap (option_map (net_view told link_told link_faults dialled_told)) same.told_same, same.counted_same)
 
       cause : (w : Ended) → HostEnd {N = NetLists R L} tells moments disk_faults value.terms value.digest old disks before after counted_before counted w → NotServing value journals shelf (seen-net before after counted_before counted) w
       cause (how.DiskFault clock) (not, same) =

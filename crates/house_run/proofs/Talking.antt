@@ -57,10 +57,10 @@ first-dialled : {L : Type 0} (told : L → Option LinkBytes) (link : L) (before 
 first-dialled told link before between after same (inl first) = inl (ap (map told) first ∙ ap (λ links. told link ∷ map told links) (sym same))
 first-dialled told link before between after same (inr none) = inr (ap (map told) none.0, ap (map told) (same ∙ none.1), none.2)
 
-moved : {D L M : Type 0} (door_told : D → Option (DoorLinks M)) (door_link_told : M → Option LinkBytes) (told : L → Option LinkBytes) (link hung : L) (a b c : NetLists D L) → GivesLink told link a b → TakesLink hung b c
-    → IsDialled (told link) (told hung) (net_view door_told door_link_told told a) (net_view door_told door_link_told told c)
+moved : {D L M : Type 0} (door_told : D → Option (DoorLinks M)) (door_link_told : M → Option LinkBytes) (door_link_faults : M → ℕ) (told : L → Option LinkBytes) (link hung : L) (a b c : NetLists D L) → GivesLink told link a b → TakesLink hung b c
+    → IsDialled (told link) (told hung) (net_view door_told door_link_told door_link_faults told a) (net_view door_told door_link_told door_link_faults told c)
 unfolding net_view
-moved {D = D} {L = L} door_told door_link_told told link hung a b c gives takes =
+moved {D = D} {L = L} door_told door_link_told door_link_faults told link hung a b c gives takes =
     let places : b.link_places ≡ a.link_places + 1 = ap (λ (x : NetLists D L). x.link_places) gives.rest in
     let free : 0 < b.link_places = omega arith in
     let less : c.link_places ≡ b.link_places - 1 = ap (λ (x : NetLists D L). x.link_places) takes.rest in
@@ -71,16 +71,16 @@ moved {D = D} {L = L} door_told door_link_told told link hung a b c gives takes 
     let links : c.links ≡ b.links = ap (λ (x : NetLists D L). x.links) takes.rest in
     let kept : c.hung_up ≡ a.hung_up ++ hung ∷ [] = takes.placed free ∙ ap (λ (x : NetLists D L). x.hung_up ++ hung ∷ []) gives.rest in
     let told_kept : map told c.hung_up ≡ map told a.hung_up ++ told hung ∷ [] = ap (map told) kept ∙ map-append told a.hung_up (hung ∷ []) in
-    let view : List D → List D → List (Option LinkBytes) → ℕ → ℕ → NetView = λ ds cs hs dp lp. record (net_view door_told door_link_told told (record c { doors = ds; closed = cs })) { hung_up = hs; door_places = dp; link_places = lp } in
+    let view : List D → List D → List (Option LinkBytes) → ℕ → ℕ → NetView = λ ds cs hs dp lp. record (net_view door_told door_link_told door_link_faults told (record c { doors = ds; closed = cs })) { hung_up = hs; door_places = dp; link_places = lp } in
     (first-dialled told link a.links b.links c.links links gives.given, λ i. view (doors i) (closed i) (told_kept i) (door_places i) (link_places i))
 
-pub dialled : {D L M : Type 0} (door_told : D → Option (DoorLinks M)) (door_link_told : M → Option LinkBytes) (told : L → Option LinkBytes) (link hung : L) (before between after : Option (NetLists D L))
+pub dialled : {D L M : Type 0} (door_told : D → Option (DoorLinks M)) (door_link_told : M → Option LinkBytes) (door_link_faults : M → ℕ) (told : L → Option LinkBytes) (link hung : L) (before between after : Option (NetLists D L))
     → IfTold before between (GivesLink told link) → IfTold between after (TakesLink hung)
-    → IfTold (option_map (net_view door_told door_link_told told) before) (option_map (net_view door_told door_link_told told) after) (IsDialled (told link) (told hung))
-dialled door_told door_link_told told link hung before between None gives takes = tt
-dialled door_told door_link_told told link hung before None (Some c) gives takes = absurd takes
-dialled door_told door_link_told told link hung None (Some b) (Some c) gives takes = absurd gives
-dialled door_told door_link_told told link hung (Some a) (Some b) (Some c) gives takes = moved door_told door_link_told told link hung a b c gives takes
+    → IfTold (option_map (net_view door_told door_link_told door_link_faults told) before) (option_map (net_view door_told door_link_told door_link_faults told) after) (IsDialled (told link) (told hung))
+dialled door_told door_link_told door_link_faults told link hung before between None gives takes = tt
+dialled door_told door_link_told door_link_faults told link hung before None (Some c) gives takes = absurd takes
+dialled door_told door_link_told door_link_faults told link hung None (Some b) (Some c) gives takes = absurd gives
+dialled door_told door_link_told door_link_faults told link hung (Some a) (Some b) (Some c) gives takes = moved door_told door_link_told door_link_faults told link hung a b c gives takes
 
 -- the net's count
 

@@ -13,7 +13,7 @@ use Rattle.clock_book.specs.declared.faults.OpenFault.{OpenFault}
 use Rattle.clock_book.specs.declared.faults.OpenFault.TheVariants as why
 use Rattle.clock_book.proofs.OneAnswer.{one-answer}
 use Rattle.migration.specs.Moving.{IsFront, IsMoved, IsNoFrontAt, LeavesTarget}
-use Rattle.migration.specs.Moves.{HasMoveCause, IsNotFront, IsNotOpened, Moves, TellsFaultOf}
+use Rattle.migration.specs.Moves.{HasMoveCause, IsFull, IsNotFront, IsNotOpened, Moves, TellsFaultOf}
 use Rattle.migration.specs.declared.faults.MoveFault.{MoveFault}
 use Rattle.migration.specs.declared.faults.MoveFault.TheVariants as fault
 use Rattle.house_run.specs.Disks.{AreGivenBack, AreNotOpen, AreOpen, IsJournalBelow, IsNotOpened as IsUnopened, KeepsMoments}
@@ -21,7 +21,7 @@ use Rattle.house_run.specs.Found.{told_first}
 use Rattle.house_run.specs.Frame.{RisesAmong}
 use Rattle.house_run.specs.Journals.{IsFirstRefused, IsRefusal}
 use Rattle.house_run.specs.MigrateCommand.{TellsTarget}
-use Rattle.house_run.specs.MovingJournals.{IsFirstOff, JournalsMoved, JournalsNotMoved, KeepsTargets, NotMoving, move_end}
+use Rattle.house_run.specs.MovingJournals.{IsFirstOff, IsTargetFull, JournalsMoved, JournalsNotMoved, KeepsTargets, NotMoving, move_end}
 use Rattle.house_run.specs.Needs.{journal_name}
 use Rattle.house_run.specs.Seen.{ShelfSeen, content}
 use Rattle.house_run.specs.Status.{end_at}
@@ -233,6 +233,19 @@ module _ {D : Type 0} (tells : D → Bool) (moments : D → Moments) (faults : D
             subst (λ (h : ClockHistory). IsNoFrontAt number h.reports (get_or cs clock x).reports) is off.2);
       }
 
+  target-full : (clock needed : ℕ) → length disks ≡ length old → IsFull tells moments faults value.terms value.digest cs old disks clock needed → IsTargetFull value cs target shelf clock needed first-files
+  target-full clock needed same full =
+      let w = full.within in
+      let d = some-of old clock w in
+      record {
+        within = omega arith;
+        all_open = all-told first-files (λ k. k ≤ value.terms.bidders) (λ k told. (c : ClockHistory) × StandsForHistory (owner_of value.terms k value.digest) c (content told (journal_name target k)))
+            (λ k few. open-at k d (omega arith) same (full.opened k d (omega arith)));
+        fronts = all-told first-files (λ k. k ≤ value.terms.bidders) (λ k told. (c : ClockHistory) → IsFront (owner_of value.terms k value.digest) (get_or cs k c).reports (content told (journal_name target k)))
+            (λ k few. found-at (λ file. (c : ClockHistory) → IsFront (owner_of value.terms k value.digest) (get_or cs k c).reports file) k d (omega arith) same (λ told c. full.fronts k d c (omega arith) told));
+        full = full.full;
+      }
+
   not-opened : (clock : ℕ) (refusal : OpenFault) → length disks ≡ length old → IsNotOpened tells moments faults value.terms value.digest cs old disks clock refusal
       → NotMoving value cs target shelf (move_end (fault.NotOpened clock refusal))
   not-opened clock why.DiskFault same not = failed-at clock not.within same (λ d. (not.counts d).1)
@@ -243,7 +256,7 @@ module _ {D : Type 0} (tells : D → Bool) (moments : D → Moments) (faults : D
   not-moving : (w : MoveFault) → length disks ≡ length old → HasMoveCause tells moments faults value.terms value.digest cs old disks w → NotMoving value cs target shelf (move_end w)
   not-moving (fault.NotOpened clock refusal) same cause = not-opened clock refusal same cause
   not-moving (fault.NotFront clock number) same cause = first-off clock number same cause
-  not-moving (fault.Full clock needed) same cause = ((let w = cause.within in omega arith), cause.full)
+  not-moving (fault.Full clock needed) same cause = target-full clock needed same cause
   not-moving (fault.DiskFault clock) same cause = failed-at clock cause.within same cause.rose
   not-moving fault.NoMemory same cause = tt
 

@@ -2,6 +2,7 @@
 -- command needs, so it serves every command, and an end that a command cannot have asks for what the command does not need.
 use Rattle.std.specs.Prelude.{◌≡◌, ◌≢◌, ◌≤◌, ◌⊎◌, ◌++◌, ⊤, ℕ, List, [], ◌∷◌, length, Err, codes, decimal, None}
 use Rattle.house_io.specs.Faults.{Rose}
+use Rattle.lot_base.specs.declared.auction_terms.Terms.{Terms}
 use Rattle.outcome_text.specs.Lines.{line, numerals}
 use Rattle.auction_file.specs.AuctionFile.{Listing, auction_of}
 use Rattle.auction_file.specs.declared.faults.AuctionFault.{AuctionFault}
@@ -9,7 +10,7 @@ use Rattle.auction_file.specs.declared.faults.AuctionFault.TheVariants as refuse
 use Rattle.settlement.specs.declared.outcome.Settlement.TheVariants as settlement
 use Rattle.house_run.specs.Journals.{IsBadJournal}
 use Rattle.report_log.specs.Logs.{IsFaultyAt, log_limit}
-use Rattle.house_run.specs.Markets.{IsBadValues, IsNotSubstitutesAt, IsNotSubstitutesOf}
+use Rattle.house_run.specs.Markets.{ComesToValues, IsBadValues, IsNotSubstitutesAt, IsNotSubstitutesOf}
 use Rattle.house_run.specs.Needs.{Log, Needs, Has, IsSource, journal_name}
 use Rattle.house_run.specs.Outcomes.{Settles}
 use Rattle.house_run.specs.Seen.{Outside, ShelfSeen, IsAuctionAt, IsRead, IsTooLong, auction_limit, values_limit}
@@ -90,6 +91,10 @@ pub record IsBadLog (log : Log) (place : ℕ) (shelf : ShelfSeen) : Type 0 where
   pub is_read : IsRead shelf log.name log_limit read
   pub faulty : IsFaultyAt log.terms read place
 
+-- a command that needs valuations comes to them
+abbrev pub MayReadValues : Needs → ShelfSeen → List ℕ → Type 0
+MayReadValues needs shelf auction = (terms : Terms) × ComesToValues shelf auction needs.bid terms
+
 -- When a job may end so without a text, by what it found on the shelf. Usage and a write fault are no ends of a job, want of memory is free,
 -- and the ends by the net, and those of moving journals, stand in tables of their own.
 abbrev pub MayEnd : Needs → Outside → Ended → Type 0
@@ -106,8 +111,8 @@ MayEnd needs seen (how.Halted clock good) = Settles needs seen.shelf (settlement
 MayEnd needs seen (how.BadAuction fault) = Has needs.auction (λ auction. IsBadAuction auction fault seen.shelf)
 MayEnd needs seen (how.TooLong which.Auction) = Has needs.auction (λ auction. IsTooLong seen.shelf auction auction_limit)
 MayEnd needs seen (how.TooLong which.Log) = Has needs.log (λ log. IsTooLong seen.shelf log.name log_limit)
-MayEnd needs seen (how.TooLong which.Values) = Has needs.auction (λ auction. Has needs.values (λ values. IsTooLong seen.shelf values values_limit))
-MayEnd needs seen (how.BadValues fault) = Has needs.auction (λ auction. Has needs.values (λ values. IsBadValues seen.shelf auction values fault))
+MayEnd needs seen (how.TooLong which.Values) = Has needs.auction (λ auction. Has needs.values (λ values. MayReadValues needs seen.shelf auction × IsTooLong seen.shelf values values_limit))
+MayEnd needs seen (how.BadValues fault) = Has needs.auction (λ auction. Has needs.values (λ values. MayReadValues needs seen.shelf auction × IsBadValues seen.shelf auction values fault))
 MayEnd needs seen (how.NotSubstitutes bidder x y good) = (needs.bid ≡ None)
     × (Has needs.auction (λ auction. Has needs.values (λ values. IsNotSubstitutesAt seen.shelf auction values bidder x y good)) ⊎ Has needs.number (λ number. IsNotSubstitutesOf number bidder x y good))
 MayEnd needs seen (how.BadLog place) = Has needs.log (λ log. IsBadLog log place seen.shelf)

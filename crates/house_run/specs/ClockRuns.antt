@@ -1,15 +1,20 @@
 -- What a house that was served comes to at one clock, and at its journal.
-use Rattle.std.specs.Prelude.{◌≡◌, ◌⊎◌, List, length, map}
+use Rattle.std.specs.Prelude.{◌≡◌, ◌<◌, ◌⊎◌, ℕ, List, [], length, map, slice_index_or, IfSome}
+use Rattle.std.specs.List.{AllByRecursion}
 use Rattle.house_io.specs.Moments.{Leaves, Moments, synced_at}
-use Rattle.recovery.specs.Journaled.{Owner}
+use Rattle.lot_base.specs.declared.auction_terms.Terms.{Terms}
+use Rattle.recovery.specs.Journaled.{Owner, owner_of}
 use Rattle.clock_book.specs.Books.{BookState}
-use Rattle.clock_book.specs.DeskHistories.{reports_in}
+use Rattle.clock_book.specs.DeskHistories.{EndsInMark, reports_in}
 use Rattle.clock_book.specs.Opened.{LeftUnopened}
 use Rattle.clock_book.specs.Opening.{IsHistoryOf, StandsForHistory, history_of}
-use Rattle.clock_book.specs.Past.{IsEither, KeepsPast, owner_in}
+use Rattle.clock_book.specs.Past.{IsEither, IsNext, KeepsPast, owner_in}
 use Rattle.clock_book.specs.declared.entries.Entry.{Entry}
 use Rattle.clock_book.specs.declared.entries.Entry.TheVariants.{Offered}
 use Rattle.clock_book.specs.declared.origins.Origin.{Origin}
+use Rattle.clock_family.specs.Turns.{IsOf}
+use Rattle.turn_desk.specs.Passes.{Known}
+use Rattle.house_serve.specs.Houses.{DoorRun}
 
 -- the origin of the clock's book, the history of its desk at the opening, and how the book stood at the closing
 pub record ClockRun : Type 0 where
@@ -17,12 +22,30 @@ pub record ClockRun : Type 0 where
   pub opening : List Entry
   pub closed : BookState
 
--- The book is the owner's. At the opening each report was noted as offered, and the history at the closing is a legal one.
+-- The book is the owner's. At the opening each report was noted as offered, and the history at the closing is a legal one. A report is pending
+-- only where the history ends in a mark, and the clock would take it next.
 pub record IsClockRun (owner : Owner) (run : ClockRun) : Type 0 where
   pub owner_is : owner_in run.origin ≡ owner
   pub opening_is : run.opening ≡ map Offered (reports_in run.opening)
   pub history : IsHistoryOf owner run.closed.clock
   pub reports : reports_in run.closed.history ≡ run.closed.clock.reports
+  pub next : IfSome run.closed.pending (IsNext run.closed.clock)
+  pub after : IfSome run.closed.pending (λ r. EndsInMark run.closed.history)
+
+-- A new pass of the clock's desk: it is of a book of this owner, has seen the history at the opening, and has made nothing.
+pub record IsNewPassAt (owner : Owner) (run : ClockRun) (pass : Known Entry Origin) : Type 0 where
+  pub of : IsOf owner pass
+  pub seen : pass.seen ≡ run.opening
+  pub own : pass.own ≡ []
+
+-- one of each clock, in order
+pub record AreNewPasses (terms : Terms) (digest : List ℕ) (clocks : List ClockRun) (passes : List (Known Entry Origin)) : Type 0 where
+  pub count : length passes ≡ length clocks
+  pub each : (k : ℕ) (c : ClockRun) (p : Known Entry Origin) → k < length clocks → IsNewPassAt (owner_of terms k digest) (slice_index_or clocks k c) (slice_index_or passes k p)
+
+-- each door began with such passes
+abbrev pub BeginNew : {R L : Type 0} → Terms → List ℕ → List ClockRun → List (DoorRun R L) → Type 0
+BeginNew {R = R} {L = L} terms digest clocks doors = AllByRecursion (λ (d : DoorRun R L). AreNewPasses terms digest clocks d.before.passes) doors
 
 -- The journal of the clock, which had these moments before and has these after. The reports at the opening are those that it stood for;
 -- at each moment from the sync of the opening on it stood for what the book's past says; and each image of it now stands for the reports

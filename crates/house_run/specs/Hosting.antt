@@ -12,16 +12,18 @@ use Rattle.clock.specs.Reports.{histories}
 use Rattle.lot_base.specs.declared.auction_terms.Terms.{Terms}
 use Rattle.recovery.specs.Journaled.{Owner, owner_of}
 use Rattle.clock_book.specs.Books.{BookOf, IsKept}
+use Rattle.clock_book.specs.DeskHistories.{marks_in}
 use Rattle.clock_book.specs.Opened.{LeftUnopened}
 use Rattle.clock_book.specs.declared.faults.OpenFault.{OpenFault}
 use Rattle.clock_book.specs.declared.faults.OpenFault.TheVariants as why
+use Rattle.clock_family.specs.Houses.{HousePassOf}
 use Rattle.clock_family.specs.Opening.{IsNotOpen}
 use Rattle.clock_family.specs.declared.house_books.HouseBook.{HouseBook}
 use Rattle.turn_desk.specs.Passes.{Opened}
 use Rattle.house_serve.specs.Houses.{DoorRun, IsRun, Joins, turns_of}
 use Rattle.house_serve.specs.declared.ends.SessionEnd.{SessionEnd}
 use Rattle.house_run.specs.Journals.{IsRefusal}
-use Rattle.house_run.specs.ClockRuns.{ClockRun, IsClockRun, IsJournalRun}
+use Rattle.house_run.specs.ClockRuns.{BeginNew, ClockRun, IsClockRun, IsJournalRun}
 use Rattle.house_run.specs.declared.ends.Ended.{Ended}
 use Rattle.house_run.specs.declared.ends.Ended.TheVariants as how
 use Rattle.house_run.specs.declared.hosting.Hosted.{Hosted}
@@ -67,19 +69,20 @@ pub record HouseNotServed {D : Type 0} (tells : D → Bool) (moments : D → Mom
   pub cause : HouseEnd counted_before counted end
 
 module _ {D R L M : Type 0} (tells : D → Bool) (moments : D → Moments) (disk_faults : D → ℕ) (told : R → Option (DoorLinks M)) (faults : R → ℕ) (link_told : M → Option LinkBytes) (link_faults : M → ℕ) (auction : Auction) (count sessions : ℕ) where
-  -- a house of these desks was served at doors of the net, and closed
-  pub record HouseServed (desks : List (Opened (HouseBook D))) (disks : List D) (hosted : Hosted) (told_before told_after : Option (NetLists R L)) (counted_before counted : ℕ) : Type 0 where
+  -- a house of these desks was served with these passes at doors of the net, and closed
+  pub record HouseServed (desks : List (Opened (HouseBook D))) (passes : List HousePassOf) (disks : List D) (hosted : Hosted) (told_before told_after : Option (NetLists R L)) (counted_before counted : ℕ) : Type 0 where
     pub books : List (BookOf D)
     pub back : BooksBack tells moments disk_faults desks books disks
     pub clocks : histories hosted.clocks.items ≡ map (λ (b : BookOf D). b.state.clock) books
     pub runs : List (DoorRun R M)
+    pub passes_are : passes ≡ map (λ (r : DoorRun R M). r.before) runs
     pub ran : DoorsRan {L = L} told faults link_told link_faults auction count sessions runs (map (λ ends. ends.items) hosted.ends.items) told_before told_after counted_before counted
     pub joins : (k : ℕ) (d : Opened (HouseBook D)) (b : BookOf D) → k < length desks
         → Joins (slice_index_or desks k d).book.book.state.history (slice_index_or books k b).state.history (flat_map turns_of runs) k
 
-  abbrev pub HouseOutcome : List (Opened (HouseBook D)) → Result Hosted Ended → List D → Option (NetLists R L) → Option (NetLists R L) → ℕ → ℕ → Type 0
-  HouseOutcome desks (Ok hosted) disks told_before told_after counted_before counted = HouseServed desks disks hosted told_before told_after counted_before counted
-  HouseOutcome desks (Err end) disks told_before told_after counted_before counted = HouseNotServed tells moments disk_faults desks disks end counted_before counted
+  abbrev pub HouseOutcome : List (Opened (HouseBook D)) → List HousePassOf → Result Hosted Ended → List D → Option (NetLists R L) → Option (NetLists R L) → ℕ → ℕ → Type 0
+  HouseOutcome desks passes (Ok hosted) disks told_before told_after counted_before counted = HouseServed desks passes disks hosted told_before told_after counted_before counted
+  HouseOutcome desks passes (Err end) disks told_before told_after counted_before counted = HouseNotServed tells moments disk_faults desks disks end counted_before counted
 
 -- the disks of a house whose desks these were, once it was closed
 pub record HouseBooks {D : Type 0} (tells : D → Bool) (moments : D → Moments) (faults : D → ℕ) (desks : List (Opened (HouseBook D))) (disks : List D) : Type 0 where
@@ -129,8 +132,10 @@ module _ {D R L M : Type 0} (tells : D → Bool) (moments : D → Moments) (disk
     pub clocks_are : (k : ℕ) (c : ClockRun) → k < length clocks → IsClockRun (owner_of auction.terms k auction.digest) (slice_index_or clocks k c)
     pub journals_are : (k : ℕ) (c : ClockRun) (d : D) → k < length clocks → IsTrue (tells (slice_index_or disks k d))
         → IsJournalRun (owner_of auction.terms k auction.digest) (slice_index_or clocks k c) (moments (slice_index_or old k d)) (moments (slice_index_or disks k d))
+    pub marks : (k : ℕ) (c : ClockRun) (d : D) → k < length clocks → marks_in (slice_index_or clocks k c).closed.history ≤ disk_faults (slice_index_or disks k d)
     pub histories_are : histories hosted.clocks.items ≡ map (λ (c : ClockRun). c.closed.clock) clocks
     pub runs : List (DoorRun R M)
+    pub new : BeginNew auction.terms auction.digest clocks runs
     pub ran : DoorsRan {L = L} told faults link_told link_faults auction count sessions runs (map (λ ends. ends.items) hosted.ends.items) told_before told_after counted_before counted
     pub joins : (k : ℕ) (c : ClockRun) → k < length clocks
         → Joins (slice_index_or clocks k c).opening (slice_index_or clocks k c).closed.history (flat_map turns_of runs) k

@@ -1,5 +1,5 @@
 -- A market: the terms of an auction and a valuation for each bidder, from two files or from a number; and what a trial of it gives.
-use Rattle.std.specs.Prelude.{◌≡◌, ◌≢◌, ℕ, ℤ, List, Ok, Err}
+use Rattle.std.specs.Prelude.{◌≡◌, ◌≢◌, ◌≤◌, ℕ, ℤ, List, Ok, Err, Option, IfSome}
 use Rattle.lot_base.specs.declared.auction_terms.Terms.{Terms}
 use Rattle.clock.specs.Reports.{ClockHistory}
 use Rattle.settlement.specs.declared.outcome.Outcome.{Outcome}
@@ -12,6 +12,7 @@ use Rattle.trial.specs.Bidding.{bidders_of}
 use Rattle.trial.specs.Trials.{IsTried}
 use Rattle.trial.specs.Making.{IsMade}
 use Rattle.trial.specs.Refusals.{IsFirstWithout}
+use Rattle.command_line.specs.Parts.{Bidding}
 use Rattle.house_run.specs.Journals.{IsTermsOf}
 use Rattle.house_run.specs.Seen.{ShelfSeen, IsAuctionAt, IsRead, values_limit}
 
@@ -20,6 +21,11 @@ pub record HasTerms (shelf : ShelfSeen) (auction : List ℕ) (terms : Terms) : T
   pub listing : Listing
   pub auction_is : IsAuctionAt shelf auction listing
   pub terms_are : IsTermsOf listing terms
+
+-- The valuations are come to: the auction was read, and the bidder whose part is taken, if it is one's, is a bidder of it.
+pub record ComesToValues (shelf : ShelfSeen) (auction : List ℕ) (bid : Option Bidding) (terms : Terms) : Type 0 where
+  pub terms_are : HasTerms shelf auction terms
+  pub bidder : IfSome bid (λ (b : Bidding). b.bidder ≤ terms.bidders)
 
 -- the file of this name has these valuations, one for each bidder
 pub record HasValues (shelf : ShelfSeen) (terms : Terms) (values : List ℕ) (valuations : List (List ℕ)) : Type 0 where

@@ -10,6 +10,7 @@ use Rattle.auction_file.specs.AuctionFile.{Listing}
 use Rattle.recovery.specs.Journaled.{owner_of}
 use Rattle.migration.specs.Moving.{IsMoved, LeavesTarget}
 use Rattle.house_run.specs.Causes.{Tells}
+use Rattle.house_run.specs.Disks.{IsJournalBelow}
 use Rattle.house_run.specs.Found.{found}
 use Rattle.house_run.specs.Frame.{KeepsAll, OnlySynced, OpensInOrder, RisesAmong}
 use Rattle.house_run.specs.Moves.{IsMove}
@@ -56,7 +57,7 @@ pub record MovesFiles (old journals new target : List ℕ) (shelf : ShelfSeen) :
   pub digest : List ℕ
   pub move : IsMove (found shelf) old journals new histories terms digest
   pub others : IfTells shelf.files (λ after. IfWasTold shelf.files_before (λ before. (name : List ℕ)
-      → (IsJournal journals name → ⊥) → (IsJournal target name → ⊥) → file_of after name ≡ file_of before name))
+      → (IsJournal journals name → ⊥) → (IsJournalBelow target (terms.bidders + 1) name → ⊥) → file_of after name ≡ file_of before name))
   pub synced : IfTells shelf.files (λ after. IfWasTold shelf.files_before (λ before. (name : List ℕ)
       → IsJournal journals name → OnlySynced (moments_at before name) (moments_at after name)))
   pub left : IfTells shelf.files (λ after. IfWasTold shelf.files_before (λ before. (k : ℕ) (c : ClockHistory) → k ≤ terms.bidders

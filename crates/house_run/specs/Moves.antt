@@ -7,9 +7,10 @@ use Rattle.clock.specs.Reports.{ClockHistory}
 use Rattle.auction_file.specs.AuctionFile.{Listing, auction_of}
 use Rattle.recovery.specs.Journaled.{owner_of}
 use Rattle.clock_book.specs.Opening.{StandsForHistory}
+use Rattle.clock_book.specs.declared.faults.OpenFault.{OpenFault}
 use Rattle.migration.specs.Moving.{IsFront, IsNoFrontAt}
 use Rattle.migration.specs.Moves.{IsFullAt}
-use Rattle.house_run.specs.Journals.{AreFromJournals, IsTermsOf}
+use Rattle.house_run.specs.Journals.{AreFromJournals, IsFirstRefused, IsTermsOf}
 use Rattle.house_run.specs.Needs.{Moving, journal_name}
 use Rattle.house_run.specs.Seen.{ShelfSeen, IsAuctionAt, auction_limit, content}
 
@@ -55,6 +56,15 @@ AllOpen files target terms digest = (k : ℕ) → k ≤ terms.bidders → (c : C
 abbrev pub IsFrontAt : List NamedFile → List ℕ → Terms → List ℕ → List ClockHistory → ℕ → Type 0
 IsFrontAt files target terms digest histories k = (c : ClockHistory) → IsFront (owner_of terms k digest) (slice_index_or histories k c).reports (content files (journal_name target k))
 
+-- The journals were read, and this clock's target is the first that is refused.
+pub record IsBadTarget (clock : ℕ) (fault : OpenFault) (shelf : ShelfSeen) (old journals new target : List ℕ) : Type 0 where
+  pub histories : List ClockHistory
+  pub terms : Terms
+  pub digest : List ℕ
+  pub move : IsMove shelf old journals new histories terms digest
+  pub clock_is : clock ≤ terms.bidders
+  pub first : IsFirstRefused shelf.files terms digest target clock fault
+
 -- All targets open; this clock's is the first that is no front, and this its first record that differs or is too many.
 pub record IsNotPrefix (clock number : ℕ) (shelf : ShelfSeen) (old journals new target : List ℕ) : Type 0 where
   pub histories : List ClockHistory
@@ -66,13 +76,15 @@ pub record IsNotPrefix (clock number : ℕ) (shelf : ShelfSeen) (old journals ne
   pub earlier : IfTells shelf.files (λ told. (k : ℕ) → k < clock → IsFrontAt told target terms digest histories k)
   pub off : IfTells shelf.files (λ told. (c d : ClockHistory) → StandsForHistory (owner_of terms clock digest) c (content told (journal_name target clock)) → IsNoFrontAt number c.reports (slice_index_or histories clock d).reports)
 
--- the next record of this clock's target would end behind the limit
-pub record IsFull (clock needed : ℕ) (shelf : ShelfSeen) (old journals new : List ℕ) : Type 0 where
+-- All targets open and are fronts, and the next record of this clock's would end behind the limit.
+pub record IsFull (clock needed : ℕ) (shelf : ShelfSeen) (old journals new target : List ℕ) : Type 0 where
   pub histories : List ClockHistory
   pub terms : Terms
   pub digest : List ℕ
   pub move : IsMove shelf old journals new histories terms digest
   pub clock_is : clock ≤ terms.bidders
+  pub all_open : IfTells shelf.files (λ told. AllOpen told target terms digest)
+  pub fronts : IfTells shelf.files (λ told. (k : ℕ) → k ≤ terms.bidders → IsFrontAt told target terms digest histories k)
   pub full : (c : ClockHistory) → IsFullAt needed (owner_of terms clock digest) (slice_index_or histories clock c).reports
 
 -- Nothing keeps journals from being moved: the auction can go on under the second file, each target is unformed or stands for a front of

@@ -58,6 +58,13 @@ module _ (value : Auction) (histories : List ClockHistory) (target : List ℕ) (
     pub off : IfTells files (λ told. (c d : ClockHistory) → StandsForHistory (owner_of value.terms clock value.digest) c (content told (journal_name target clock))
         → IsNoFrontAt number c.reports (slice_index_or histories clock d).reports)
 
+  -- All targets were found open and fronts of their clocks' histories, and this clock's has no room for all of its own.
+  pub record IsTargetFull (clock needed : ℕ) (files : Option (List NamedFile)) : Type 0 where
+    pub within : clock ≤ value.terms.bidders
+    pub all_open : IfTells files (λ told. AllOpen told target value.terms value.digest)
+    pub fronts : IfTells files (λ told. (k : ℕ) → k ≤ value.terms.bidders → IsFrontAt told target value.terms value.digest histories k)
+    pub full : (c : ClockHistory) → IsFullAt needed (owner_of value.terms clock value.digest) (slice_index_or histories clock c).reports
+
   -- each target now stands for the history of its clock
   pub record JournalsMoved : Type 0 where
     pub keeps : KeepsTargets how.Done
@@ -69,7 +76,7 @@ module _ (value : Auction) (histories : List ClockHistory) (target : List ℕ) (
   NotMoving (how.DiskFault clock) = (clock ≤ value.terms.bidders) × FailedAt shelf (journal_name target clock)
   NotMoving (how.BadTarget clock refusal) = (clock ≤ value.terms.bidders) × IsFirstRefused (told_first shelf.files_before shelf.files) value.terms value.digest target clock refusal
   NotMoving (how.NotPrefix clock number) = IsFirstOff clock number (told_first shelf.files_before shelf.files)
-  NotMoving (how.TargetFull clock needed) = (clock ≤ value.terms.bidders) × ((c : ClockHistory) → IsFullAt needed (owner_of value.terms clock value.digest) (slice_index_or histories clock c).reports)
+  NotMoving (how.TargetFull clock needed) = IsTargetFull clock needed (told_first shelf.files_before shelf.files)
   NotMoving how.NoMemory = ⊤
   NotMoving end = ⊥
 

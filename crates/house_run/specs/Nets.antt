@@ -1,35 +1,24 @@
--- What a contract sees of the net in one call. Doors and links are seen as what they tell.
+-- What a contract sees of the net in one call. Doors and the links that are dialled are seen as what they tell, and of the links at a door the
+-- counts of their faults too.
 use Rattle.std.specs.Prelude.{◌≡◌, ℕ, List, Option, map, option_map}
 use Rattle.house_io.specs.Doors.{DoorLinks}
 use Rattle.house_io.specs.Links.{LinkBytes}
 use Rattle.house_io.specs.Nets.{NetLists}
-
--- the links to come at a door, those that were hung up, in order, and how many places are free for more of these
-pub record DoorView : Type 0 where
-  pub to_come : List (Option LinkBytes)
-  pub hung_up : List (Option LinkBytes)
-  pub free : ℕ
+use Rattle.house_run.specs.DoorsSeen.{LinkSeen, links_seen}
 
 -- the doors and the links to come, those that were given back, in order, and how many places are free for more of these
 pub record NetView : Type 0 where
-  pub doors : List (Option DoorView)
-  pub closed : List (Option DoorView)
+  pub doors : List (Option (DoorLinks LinkSeen))
+  pub closed : List (Option (DoorLinks LinkSeen))
   pub links : List (Option LinkBytes)
   pub hung_up : List (Option LinkBytes)
   pub door_places : ℕ
   pub link_places : ℕ
 
-unfoldable pub door_view : {L : Type 0} → (L → Option LinkBytes) → DoorLinks L → DoorView
-door_view link_told door = record {
-  to_come = map link_told door.to_come;
-  hung_up = map link_told door.hung_up;
-  free = door.free;
-}
-
-unfoldable pub net_view : {D L M : Type 0} → (D → Option (DoorLinks M)) → (M → Option LinkBytes) → (L → Option LinkBytes) → NetLists D L → NetView
-net_view door_told door_link_told link_told lists = record {
-  doors = map (λ door. option_map (door_view door_link_told) (door_told door)) lists.doors;
-  closed = map (λ door. option_map (door_view door_link_told) (door_told door)) lists.closed;
+unfoldable pub net_view : {D L M : Type 0} → (D → Option (DoorLinks M)) → (M → Option LinkBytes) → (M → ℕ) → (L → Option LinkBytes) → NetLists D L → NetView
+net_view door_told door_link_told door_link_faults link_told lists = record {
+  doors = map (λ door. option_map (links_seen door_link_told door_link_faults) (door_told door)) lists.doors;
+  closed = map (λ door. option_map (links_seen door_link_told door_link_faults) (door_told door)) lists.closed;
   links = map link_told lists.links;
   hung_up = map link_told lists.hung_up;
   door_places = lists.door_places;
@@ -43,10 +32,10 @@ pub record NetSeen : Type 0 where
   pub faults_before : ℕ
   pub faults : ℕ
 
-abbrev pub net_seen : {N D L M : Type 0} → (N → Option (NetLists D L)) → (D → Option (DoorLinks M)) → (M → Option LinkBytes) → (L → Option LinkBytes) → (N → ℕ) → N → N → NetSeen
-net_seen told door_told door_link_told link_told faults before after = record {
-  told_before = option_map (net_view door_told door_link_told link_told) (told before);
-  told = option_map (net_view door_told door_link_told link_told) (told after);
+abbrev pub net_seen : {N D L M : Type 0} → (N → Option (NetLists D L)) → (D → Option (DoorLinks M)) → (M → Option LinkBytes) → (M → ℕ) → (L → Option LinkBytes) → (N → ℕ) → N → N → NetSeen
+net_seen told door_told door_link_told door_link_faults link_told faults before after = record {
+  told_before = option_map (net_view door_told door_link_told door_link_faults link_told) (told before);
+  told = option_map (net_view door_told door_link_told door_link_faults link_told) (told after);
   faults_before = faults before;
   faults = faults after;
 }

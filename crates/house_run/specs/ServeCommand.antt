@@ -5,7 +5,7 @@ use Rattle.auction_file.specs.Listing.{listing_of}
 use Rattle.auction_file.specs.declared.listing.Auction.{Auction}
 use Rattle.house_serve.specs.Houses.{DoorRun}
 use Rattle.house_run.specs.Causes.{Tells}
-use Rattle.house_run.specs.ClockRuns.{ClockRun}
+use Rattle.house_run.specs.ClockRuns.{BeginNew, ClockRun}
 use Rattle.house_run.specs.Disks.{KeepsOthers}
 use Rattle.house_run.specs.DoorsSeen.{DoorSeen, LinkSeen}
 use Rattle.house_run.specs.Found.{found}
@@ -21,13 +21,15 @@ use Rattle.house_run.specs.declared.ends.Ended.{Ended}
 abbrev pub serve_needs : List ℕ → List ℕ → Serving → Needs
 serve_needs auction journals s = record nothing_needed { auction = Some auction; journals = Some journals; serve = Some s }
 
--- The auction that was found was served. The text tells how each session at each door ended, and how the clocks stood at the closing.
+-- The auction that was found was served, at each door with new passes of its clocks. The text tells how each session at each door ended, and
+-- how the clocks stood at the closing.
 pub record ServeDone (auction journals : List ℕ) (s : Serving) (shelf : ShelfSeen) (net : NetSeen) (text : List ℕ) : Type 0 where
   pub value : Auction
   pub auction_is : IsAuctionAt (found shelf) auction (listing_of value)
   pub clocks : List ClockRun
   pub ran : ClocksRan value journals shelf clocks
   pub doors : List (DoorRun DoorSeen LinkSeen)
+  pub new : BeginNew value.terms value.digest clocks doors
   pub serving : DoorsServing value s net doors
   pub joins : JoinAll doors clocks
   pub text_is : text ≡ serve_text (map (λ (d : DoorRun DoorSeen LinkSeen). d.log.ends.items) doors) (map (λ (c : ClockRun). c.closed.clock) clocks)

@@ -1,14 +1,16 @@
 -- What serving an auction leaves of its journals and of the net.
 use Rattle.std.specs.Prelude.{◌≡◌, ◌≤◌, ◌<◌, ◌⊎◌, ◌+◌, ◌++◌, ℕ, List, length, map, take, drop, slice_index_or, Option, option_map, Result, Ok, Err, IfSome, [], false}
 use Rattle.std.specs.List.{AllByRecursion, flat_map}
+use Rattle.house_io.specs.Doors.{DoorLinks}
 use Rattle.house_io.specs.Told.{IfTold}
 use Rattle.house_io.specs.Shelves.{IfTells, IfWasTold, moments_at}
 use Rattle.auction_file.specs.declared.listing.Auction.{Auction}
 use Rattle.clock.specs.Reports.{histories}
 use Rattle.recovery.specs.Journaled.{owner_of}
+use Rattle.clock_book.specs.DeskHistories.{marks_in}
 use Rattle.house_serve.specs.Houses.{DoorRun, IsRun, Joins, turns_of}
 use Rattle.house_run.specs.Causes.{FailedAt}
-use Rattle.house_run.specs.ClockRuns.{ClockRun, IsClockRun, IsJournalRun, LeavesJournal}
+use Rattle.house_run.specs.ClockRuns.{BeginNew, ClockRun, IsClockRun, IsJournalRun, LeavesJournal}
 use Rattle.house_run.specs.Disks.{IsJournalBelow, KeepsOthers}
 use Rattle.house_run.specs.DoorsSeen.{DoorSeen, LinkSeen}
 use Rattle.house_run.specs.Found.{told_first}
@@ -17,27 +19,24 @@ use Rattle.house_run.specs.Hosting.{HouseEnd}
 use Rattle.house_run.specs.Journals.{IsFirstRefused}
 use Rattle.house_run.specs.Needs.{first_journals, journal_name, with_names}
 use Rattle.command_line.specs.Parts.{Serving}
-use Rattle.house_run.specs.Nets.{DoorView, NetSeen, NetView, IsNetUntouched, door_view}
+use Rattle.house_run.specs.Nets.{NetSeen, NetView, IsNetUntouched}
 use Rattle.house_run.specs.Seen.{ShelfSeen}
 use Rattle.house_run.specs.declared.ends.Ended.{Ended}
 use Rattle.house_run.specs.declared.ends.Ended.TheVariants as how
 use Rattle.house_run.specs.declared.hosting.Hosted.{Hosted}
 
--- a door as the lists of a net show it
-abbrev pub view_of : DoorSeen → Option DoorView
-view_of door = option_map (door_view (λ (l : LinkSeen). l.told)) door.told
-
 -- The first doors to come were given, and, in place of those that are missing, doors without links. Each was given back, in order.
 pub record ServesAt (count : ℕ) (given back : List DoorSeen) (before after : NetView) : Type 0 where
-  pub empty : List (Option DoorView)
-  pub given_are : map view_of given ≡ take count before.doors ++ empty
-  pub are_empty : AllByRecursion (λ (door : Option DoorView). IfSome door (λ (d : DoorView). d.to_come ≡ [])) empty
-  pub after_is : after ≡ record before { doors = drop count before.doors; closed = before.closed ++ map view_of back }
+  pub empty : List (Option (DoorLinks LinkSeen))
+  pub given_are : map (λ (door : DoorSeen). door.told) given ≡ take count before.doors ++ empty
+  pub are_empty : AllByRecursion (λ (door : Option (DoorLinks LinkSeen)). IfSome door (λ (d : DoorLinks LinkSeen). d.to_come ≡ [])) empty
+  pub after_is : after ≡ record before { doors = drop count before.doors; closed = before.closed ++ map (λ (door : DoorSeen). door.told) back }
 
--- The clocks of an auction came to these runs, and their journals to what these say.
+-- The clocks of an auction came to these runs, and their journals to what these say. A mark is noted only where a call on the journal failed.
 pub record ClocksRan (value : Auction) (journals : List ℕ) (shelf : ShelfSeen) (clocks : List ClockRun) : Type 0 where
   pub count_is : length clocks ≡ value.terms.bidders + 1
   pub clocks_are : (k : ℕ) (c : ClockRun) → k < length clocks → IsClockRun (owner_of value.terms k value.digest) (slice_index_or clocks k c)
+  pub marks : (k : ℕ) (c : ClockRun) → k < length clocks → (marks_in (slice_index_or clocks k c).closed.history ≡ 0) ⊎ FailedAt shelf (journal_name journals k)
   pub journals_are : IfTells shelf.files (λ after. IfWasTold shelf.files_before (λ before. (k : ℕ) (c : ClockRun) → k < length clocks
       → IsJournalRun (owner_of value.terms k value.digest) (slice_index_or clocks k c) (moments_at before (journal_name journals k)) (moments_at after (journal_name journals k))))
 
@@ -67,6 +66,7 @@ pub record JournalsServed (value : Auction) (journals : List ℕ) (s : Serving) 
   pub ran : ClocksRan value journals shelf clocks
   pub histories_are : histories hosted.clocks.items ≡ map (λ (c : ClockRun). c.closed.clock) clocks
   pub doors : List (DoorRun DoorSeen LinkSeen)
+  pub new : BeginNew value.terms value.digest clocks doors
   pub serving : DoorsServing value s net doors
   pub joins : JoinAll doors clocks
   pub ends_are : map (λ ends. ends.items) hosted.ends.items ≡ map (λ (d : DoorRun DoorSeen LinkSeen). d.log.ends.items) doors

@@ -25,9 +25,9 @@ pub(crate) fn talk<N: Net>(
     requires playable { IsPlayable (bidding_as bidding.now) }
     requires bidder { bidding.now.bidder ≤ market.now.auction.terms.bidders }
     requires valuations { AreValuationsOf market.now.auction.terms market.now.valuations.items }
-    ensures talks { IfOk result (λ seen. TalksOn (net_seen N.told N.Door.told N.Door.Link.told N.Link.told N.faults net.old net.new) (part_in market.now.auction.terms market.now.valuations.items (bidding_as bidding.now)) (Ok seen)) }
-    ensures ends { IfErr result (IsTalkEnd (net_seen N.told N.Door.told N.Door.Link.told N.Link.told N.faults net.old net.new) (part_in market.now.auction.terms market.now.valuations.items (bidding_as bidding.now))) }
-    ensures counts { NetCounts (talk_end result) (net_seen N.told N.Door.told N.Door.Link.told N.Link.told N.faults net.old net.new) }
+    ensures talks { IfOk result (λ seen. TalksOn (net_seen N.told N.Door.told N.Door.Link.told N.Door.Link.faults N.Link.told N.faults net.old net.new) (part_in market.now.auction.terms market.now.valuations.items (bidding_as bidding.now)) (Ok seen)) }
+    ensures ends { IfErr result (IsTalkEnd (net_seen N.told N.Door.told N.Door.Link.told N.Door.Link.faults N.Link.told N.faults net.old net.new) (part_in market.now.auction.terms market.now.valuations.items (bidding_as bidding.now))) }
+    ensures counts { NetCounts (talk_end result) (net_seen N.told N.Door.told N.Door.Link.told N.Door.Link.faults N.Link.told N.faults net.old net.new) }
 {
     let mut link = match net.dial(alloc, bidding.address) {
         Ok(link) => link,

@@ -11,8 +11,11 @@ use valuation::ValuesFault;
 /// A file with a limit.
 #[derive(Clone, Copy, Debug, PartialEq, Eq)]
 pub enum File {
+    /// An auction file: at most 65,536 bytes.
     Auction,
+    /// A log: at most 67,108,864 bytes.
     Log,
+    /// A valuation file: at most 1,048,576 bytes.
     Values,
 }
 
@@ -35,7 +38,7 @@ pub enum Ended {
     DiskFault(u8),
     /// A call on the net, or on what was given back to it, failed.
     NetFault,
-    /// This clock's journal is refused, the first one that is.
+    /// This clock's journal is refused for this fault, the first one that is.
     BadJournal {
         clock: u8,
         fault: OpenFault,
@@ -69,7 +72,7 @@ pub enum Ended {
     TooLong(File),
     /// The first faulty entry of the log begins behind so many bytes.
     BadLog(u64),
-    /// The house refused a frame of the bidder's agent.
+    /// The house refused a frame of the bidder's agent. `docs/FORMATS.md` says what each code, its detail and its value mean.
     Refused {
         code: u8,
         detail: u8,
@@ -88,12 +91,12 @@ pub enum Ended {
         clock: u8,
         number: u32,
     },
-    /// The next record of this clock's target would end behind the limit of a file.
+    /// The next record of this clock's target would end at `needed`, behind 67,108,864.
     TargetFull {
         clock: u8,
         needed: u64,
     },
-    /// This clock's target is refused, the first one that is.
+    /// This clock's target is refused for this fault, the first one that is.
     BadTarget {
         clock: u8,
         fault: OpenFault,

@@ -27,14 +27,19 @@ use std::thread::Threads;
 /// The clocks of a house that was served, and how the sessions at each of its doors ended.
 #[derive(Drop)]
 pub(crate) struct Hosted {
+    /// Clock 0 first, each with the reports that it had when the house was closed.
     pub(crate) clocks: Vec<Clock>,
+    /// A list for each door, in the order of the doors, of how its sessions ended.
     pub(crate) ends: Vec<Vec<SessionEnd>>,
 }
 
 /// Room for what is left of a house once it was closed. All lists are empty.
 pub(crate) struct Room<D> {
+    /// Room for each clock.
     clocks: Vec<Clock>,
+    /// Room for a list of each door.
     ends: Vec<Vec<SessionEnd>>,
+    /// Room for the disk of each clock.
     disks: Vec<D>,
 }
 
@@ -125,7 +130,7 @@ fn host_doors<T: Threads + Wait + Sync, D: Disk + Send, N: Net>(
     requires sessions { (1 ≤ sessions) × (sessions ≤ 10000) }
     requires room { IsRoom (length house.desks) (length doors.items) room }
     ensures { (before : _) → IfTold before (N.told net.old) (GivesDoors N.Door.Door.told (length doors.items) doors.items)
-        → HouseOutcome D.tells D.moments D.faults N.Door.Door.told N.Door.Door.faults N.Door.Link.Link.told N.Door.Link.Link.faults auction.now (length doors.items) sessions house.desks result.0 result.1.items before (N.told net.new) (N.faults net.old) (N.faults net.new) }
+        → HouseOutcome D.tells D.moments D.faults N.Door.Door.told N.Door.Door.faults N.Door.Link.Link.told N.Door.Link.Link.faults auction.now (length doors.items) sessions house.desks passes.items result.0 result.1.items before (N.told net.new) (N.faults net.old) (N.faults net.new) }
 {
     match serve(rt, alloc, auction, house, passes, doors, sessions) {
         Ok(served) => {
@@ -163,7 +168,7 @@ fn host_house<T: Threads + Wait + Sync, D: Disk + Send, N: Net>(
     requires doors { length passes.items ≡ doors }
     requires sessions { (1 ≤ sessions) × (sessions ≤ 10000) }
     requires room { IsRoom (length house.desks) doors room }
-    ensures { HouseOutcome D.tells D.moments D.faults N.Door.Door.told N.Door.Door.faults N.Door.Link.Link.told N.Door.Link.Link.faults auction.now doors sessions house.desks result.0 result.1.items (N.told net.old) (N.told net.new) (N.faults net.old) (N.faults net.new) }
+    ensures { HouseOutcome D.tells D.moments D.faults N.Door.Door.told N.Door.Door.faults N.Door.Link.Link.told N.Door.Link.Link.faults auction.now doors sessions house.desks passes.items result.0 result.1.items (N.told net.old) (N.told net.new) (N.faults net.old) (N.faults net.new) }
 {
     match net.doors(alloc, address, doors) {
         Ok(doors) => host_doors(

@@ -18,6 +18,7 @@ use std::alloc::Global;
 /// What the file of an auction and the journals of its clocks say.
 #[derive(Drop)]
 pub(crate) struct House {
+    /// Those of the file.
     pub terms: Terms,
     /// The clocks in the order of their numbers.
     pub clocks: Vec<Clock>,

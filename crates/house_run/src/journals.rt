@@ -18,6 +18,7 @@ use std::alloc::{AllocError, Global};
 pub(crate) struct Unread {
     /// The first clock whose journal is not read.
     pub clock: u8,
+    /// Why it is not.
     pub fault: OpenFault,
 }
 

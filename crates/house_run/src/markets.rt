@@ -27,7 +27,9 @@ use valuation::Valuation;
 /// The terms of an auction, and a valuation for each bidder.
 #[derive(Drop)]
 pub(crate) struct Market {
+    /// Those of the auction.
     pub terms: Terms,
+    /// That of bidder 1 first: one for each bidder.
     pub valuations: Vec<Valuation>,
 }
 
@@ -59,7 +61,9 @@ pub(crate) fn read_market<H: Shelf>(
 /// An auction, and a valuation for each of its bidders.
 #[derive(Drop)]
 pub(crate) struct Bidders {
+    /// What the file of the auction says.
     pub auction: Auction,
+    /// That of bidder 1 first: one for each bidder.
     pub valuations: Vec<Valuation>,
 }
 

@@ -28,7 +28,7 @@ pub(crate) fn serve_journals<T: Threads + Wait + Sync, H: Shelf, N: Net>(
     net: &mut N,
 ) -> Result<Hosted, Ended>
     requires { IsServable (serving_as serving.now) }
-    ensures { ServesJournals auction.now journals.now (serving_as serving.now) (shelf_seen H.files H.faults H.opened shelf.old shelf.new) (net_seen N.told N.Door.told N.Door.Link.told N.Link.told N.faults net.old net.new) result }
+    ensures { ServesJournals auction.now journals.now (serving_as serving.now) (shelf_seen H.files H.faults H.opened shelf.old shelf.new) (net_seen N.told N.Door.told N.Door.Link.told N.Door.Link.faults N.Link.told N.faults net.old net.new) result }
 {
     let Ok(names) = journal_names(alloc, journals, auction.terms.bidders + 1) else {
         return Err(Ended::NoMemory);

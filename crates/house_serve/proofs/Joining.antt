@@ -2,13 +2,13 @@
 use Rattle.std.proofs.Common.{◌≡◌, ◌≢◌, ◌⊎◌, inl, inr, ⊎_elim, ℕ, zero, suc, ◌+◌, ◌-◌, ◌^◌, ◌<◌, ◌≤◌, Bool, true, false, nat_eq, cond, List, [], ◌∷◌, ◌++◌, length, map, take, drop, get_or, Option, Some, None, refl, sym, ◌∙◌, ap, subst, arith, append_assoc, append-nil}
 use Rattle.std.specs.Prelude.{slice_get}
 use Rattle.std.specs.List.{AllByRecursion, flat_map}
-use Rattle.std.proofs.lemmas.Bool.{cases_eq, ne_eqb, eq-eqb}
+use Rattle.std.proofs.lemmas.Bool.{cases_eq, cases_lt, ne_eqb, eq-eqb}
 use Rattle.std.proofs.lemmas.Bool.Decides.{nat_tests}
 use Rattle.std.proofs.lemmas.Option.{slice_get_within}
 use mathlib.Core.Option.{some, some-injective, some-ne-none}
 use lib.ListN.{get_elem?}
 use Rattle.demand_set.specs.declared.reports.Report.{Report}
-use Rattle.clock_book.specs.DeskHistories.{marks_in}
+use Rattle.clock_book.specs.DeskHistories.{marks_in, EndsInMark}
 use Rattle.clock_book.specs.declared.entries.Entry.{Entry}
 use Rattle.clock_book.specs.declared.entries.Entry.TheVariants as entry
 use Rattle.clock_book.specs.declared.origins.Origin.{Origin}
@@ -18,11 +18,7 @@ use Rattle.turn_desk.proofs.Totals.{between_in}
 use Rattle.clock_family.specs.Houses.{HousePassOf, still, column}
 use Rattle.session.specs.Turns.{Turn}
 use Rattle.house_serve.specs.Houses.{DoorRun, turns_of, seen_of, mark_place, mark_places, taken_place, taken_places, times, AreDistinct, IsHeld, Joins}
-use Rattle.house_serve.proofs.Leading.{own_of, marks_own, offers_own, Leads, Led, led, starts_on, pass_of, seen_at, own_at}
-
-all-append : {A : Type 0} (P : A → Type 0) (xs ys : List A) → AllByRecursion P xs → AllByRecursion P ys → AllByRecursion P (xs ++ ys)
-all-append P [] ys px py = py
-all-append P (x ∷ xs) ys px py = (px.0, all-append P xs ys px.1 py)
+use Rattle.house_serve.proofs.Leading.{own_of, marks_own, offers_own, IsBehind, AreBehind, all-append, Leads, Led, led, starts_on, pass_of, seen_at, own_at}
 
 all-map : {A : Type 0} (P Q : A → Type 0) (xs : List A) → ((x : A) → P x → Q x) → AllByRecursion P xs → AllByRecursion Q xs
 all-map P Q [] f h = tt
@@ -125,6 +121,17 @@ offers_count closed k r ((j, entry.Mark) ∷ own) at h =
     let b = one_miss k j (elsewhere closed j k entry.Mark r h.0 at (λ e. cc)) in
     omega (arith, g, b)
 
+-- a place at which a report is noted as counted, among places of entries that stand in the history
+found_behind : (closed : List Entry) (k : ℕ) (r : Report) (own : List (ℕ × Entry)) → slice_get closed k ≡ Some (entry.Counted r) → StandIn closed own → AreBehind closed own → 1 ≤ times_at k own → EndsInMark (take k closed)
+found_behind closed k r [] at stand behind once = absurd (omega (arith, once))
+found_behind closed k r ((j, e) ∷ own) at stand behind once =
+    ⊎_elim
+    (λ (same : j ≡ k).
+    let is : e ≡ entry.Counted r = (let f : Some e ≡ Some (entry.Counted r) = sym (got closed j e stand.0) ∙ ap (slice_get closed) same ∙ at in cc) in
+    subst (λ (n : ℕ). EndsInMark (take n closed)) same (subst (λ (x : Entry). IsBehind closed (j, x)) is behind.0))
+    (λ other. let b = one_miss k j other in found_behind closed k r own at stand.1 behind.1 (omega (arith, once, b)))
+    (cases_eq j k)
+
 few_between : (a b k : ℕ) → between a b k ≤ 1
 few_between a b k = grind (arith, nat_tests, one_if)
 
@@ -187,6 +194,9 @@ module _ {R L : Type 0} (blank : Known Entry Origin) (clock : ℕ) (opening clos
     door_points goes =
         subst (λ (l : List Entry). AllByRecursion (λ (t : Turn HousePassOf). StartsWith (seen_of t.now clock) l × StartsWith closed (seen_of t.now clock)) (turns_of d)) run.opened (door.points (goes_to goes))
 
+    door_behind : StartsWith closed (last_of d).seen → AreBehind closed (last_of d).own
+    door_behind goes = subst (AreBehind closed) (sym own_is) (door.behind (goes_to goes))
+
     door_held : StartsWith closed (last_of d).seen → AllByRecursion (λ (t : Turn HousePassOf). IsHeld clock closed t.asked) (turns_of d)
     door_held goes = door.held (goes_to goes)
 
@@ -236,6 +246,14 @@ module _ {R L : Type 0} (blank : Known Entry Origin) (clock : ℕ) (opening clos
       let f = offers_count closed k r (last_of d).own at own.0 in
       omega (arith, h, a, b, e, f)
 
+  behind_all : (k : ℕ) (r : Report) (ds : List (DoorRun R L)) → slice_get closed k ≡ Some (entry.Counted r) → AllByRecursion (RunsAt clock opening) ds → Seen ds → Own ds → 1 ≤ Count k ds → EndsInMark (take k closed)
+  behind_all k r [] at runs seen own once = absurd (omega (arith, once))
+  behind_all k r (d ∷ ds) at runs seen own once =
+      ⊎_elim
+      (λ (here : 0 < times_at k (last_of d).own). found_behind closed k r (last_of d).own at own.0 (door_behind d runs.0 seen.0) (omega (arith, here)))
+      (λ none. behind_all k r ds at runs.1 seen.1 own.1 (omega (arith, none, once)))
+      (cases_lt 0 (times_at k (last_of d).own))
+
   pub joined : (ds : List (DoorRun R L)) → AllByRecursion (RunsAt clock opening) ds → ClosesOver opening closed (map last_of ds) → Joins opening closed (all_turns ds) clock
   joined ds runs c =
       let marks = mark_places clock (all_turns ds) in
@@ -249,5 +267,9 @@ module _ {R L : Type 0} (blank : Known Entry Origin) (clock : ℕ) (opening clos
             (each_in [] marks))
             (marked_all few ds runs c.seen c.own);
         taken = λ k r beyond at. takens_all k r ds at runs c.own ∙ c.places k ∙ one_between (length opening) (length closed) k beyond (slice_get_within closed k (entry.Offered r) at);
+        counted = λ k r beyond at.
+            let o = c.places k in
+            let b = one_between (length opening) (length closed) k beyond (slice_get_within closed k (entry.Counted r) at) in
+            behind_all k r ds at runs c.seen c.own (omega (arith, o, b));
         held = held_all ds runs c.seen;
       }

@@ -1,10 +1,11 @@
 -- What the turns of a door come to at one clock.
-use Rattle.std.proofs.Common.{◌≡◌, ◌⊎◌, inl, inr, ⊎_elim, ℕ, zero, suc, ◌+◌, ◌-◌, ◌^◌, ◌<◌, ◌≤◌, Bool, true, false, nat_eq, nat_lt, cond, ◌&&◌, List, [], ◌∷◌, ◌++◌, length, map, drop, get_or, Option, Some, None, refl, sym, ◌∙◌, ap, subst, arith, append_assoc, append-nil, length-append}
+use Rattle.std.proofs.Common.{◌≡◌, ◌⊎◌, inl, inr, ⊎_elim, ℕ, zero, suc, ◌+◌, ◌-◌, ◌^◌, ◌<◌, ◌≤◌, Bool, true, false, nat_eq, nat_lt, cond, ◌&&◌, List, [], ◌∷◌, ◌++◌, length, map, take, drop, get_or, Option, Some, None, refl, sym, ◌∙◌, ap, subst, arith, append_assoc, append-nil, length-append}
 use Rattle.std.specs.Prelude.{find, option_map, Contains, slice_index_or}
 use Rattle.std.specs.List.{AllByRecursion, flat_map}
 use Rattle.std.proofs.lemmas.Bool.{cases_eq, ne_eqb, eq-eqb, eqb-true, ltb-true, and_parts}
 use Rattle.std.proofs.lemmas.Bool.Decides.{nat_tests}
 use Rattle.std.proofs.lemmas.List.{drop_at}
+use Rattle.std.proofs.Math.Seq.{take-append_seam}
 use Rattle.std.proofs.lemmas.List.Elements.{Contains-append_left, Contains-append_right, Contains-push}
 use Rattle.demand_set.specs.declared.reports.Report.{Report}
 use Rattle.clock.specs.Reports.{ClockHistory, demand_in, is_named}
@@ -14,7 +15,7 @@ use Rattle.clock.specs.declared.judging.Judgement.TheVariants as judged
 use Rattle.clock.specs.declared.judging.Offered.{Offered}
 use Rattle.clock.specs.declared.judging.Offered.TheVariants as said
 use Rattle.clock.proofs.Judges.{judgement-is}
-use Rattle.clock_book.specs.DeskHistories.{marks_in, reports_in, with_mark}
+use Rattle.clock_book.specs.DeskHistories.{marks_in, reports_in, with_mark, EndsInMark}
 use Rattle.clock_book.specs.Past.{owner_in}
 use Rattle.clock_book.specs.declared.entries.Entry.{Entry}
 use Rattle.clock_book.specs.declared.entries.Entry.TheVariants as entry
@@ -49,6 +50,25 @@ marks_own own = flat_map (λ (e : ℕ × Entry). mark_in e.0 e.1) own
 
 abbrev pub offers_own : List (ℕ × Entry) → List ℕ
 offers_own own = flat_map (λ (e : ℕ × Entry). offered_in e.0 e.1) own
+
+-- an own entry that is a report noted as counted: the history before it ends with a mark
+abbrev pub IsBehind : List Entry → ℕ × Entry → Type 0
+IsBehind closed (place, entry.Offered r) = Unit {0}
+IsBehind closed (place, entry.Counted r) = EndsInMark (take place closed)
+IsBehind closed (place, entry.Mark) = Unit {0}
+
+abbrev pub AreBehind : List Entry → List (ℕ × Entry) → Type 0
+AreBehind closed own = AllByRecursion (IsBehind closed) own
+
+-- a mark, or a report that is noted as offered
+abbrev IsPlain : Entry → Type 0
+IsPlain (entry.Offered r) = Unit {0}
+IsPlain (entry.Counted r) = ⊥
+IsPlain entry.Mark = Unit {0}
+
+pub all-append : {A : Type 0} (P : A → Type 0) (xs ys : List A) → AllByRecursion P xs → AllByRecursion P ys → AllByRecursion P (xs ++ ys)
+all-append P [] ys px py = py
+all-append P (x ∷ xs) ys px py = (px.0, all-append P xs ys px.1 py)
 
 -- what was asked in a turn, if anything was, leads a pass on
 abbrev pub LeadsBy : Option Asked → HousePassOf → HousePassOf → Type 0
@@ -114,6 +134,22 @@ few_counted history (entry.Counted q ∷ e ∷ es) h = absurd h
 few_counted history (entry.Offered q ∷ es) h = absurd h
 few_counted history (entry.Mark ∷ es) h = absurd h
 
+plain_behind : (closed : List Entry) (place : ℕ) (added : List Entry) → AllByRecursion IsPlain added → AreBehind closed (placed place added)
+plain_behind closed place [] plain = tt
+plain_behind closed place (entry.Offered r ∷ added) plain = (tt, plain_behind closed (place + 1) added plain.1)
+plain_behind closed place (entry.Counted r ∷ added) plain = absurd plain.0
+plain_behind closed place (entry.Mark ∷ added) plain = (tt, plain_behind closed (place + 1) added plain.1)
+
+-- an offer counts a report only behind a mark, and what it appends behind that is not counted
+counted_behind : (closed history counted added : List Entry) → IsCounted history counted → AllByRecursion IsPlain added → StartsWith closed history → AreBehind closed (placed (length history) (counted ++ added))
+counted_behind closed history [] added is plain goes = plain_behind closed (length history) added plain
+counted_behind closed history (entry.Counted q ∷ []) added is plain goes =
+    let front : take (length history) closed ≡ history = ap (take (length history)) goes.1 ∙ take-append_seam history goes.0 in
+    (subst (λ (l : List Entry). EndsInMark l) (sym front) is, plain_behind closed (length history + 1) added plain)
+counted_behind closed history (entry.Counted q ∷ e ∷ es) added is plain goes = absurd is
+counted_behind closed history (entry.Offered q ∷ es) added is plain goes = absurd is
+counted_behind closed history (entry.Mark ∷ es) added is plain goes = absurd is
+
 -- the entries that an offer appends, behind the one that it may count
 appended : (place : ℕ) (counted added : List Entry) → (counted ≡ []) ⊎ ((q : Report) × (counted ≡ entry.Counted q ∷ []))
     → (marks_own (placed place (counted ++ added)) ≡ marks_own (placed (place + length counted) added))
@@ -160,10 +196,11 @@ record Grown (added : List Entry) (old new : Known Entry Origin) : Type 0 where
   pub own : new.own ≡ old.own ++ entries
   pub marks : marks_own entries ≡ marks_own (placed place added)
   pub offers : offers_own entries ≡ offers_own (placed place added)
+  pub behind : (closed : List Entry) → StartsWith closed new.seen → AreBehind closed entries
 
 module _ (r : Report) (answer : Offered) (old new : Known Entry Origin) (h : PassOffers r answer old new) where
-  grown : (added : List Entry) → h.after ≡ (h.before ++ h.offers.counted) ++ added → Grown added old new
-  grown added is =
+  grown : (added : List Entry) → AllByRecursion IsPlain added → h.after ≡ (h.before ++ h.offers.counted) ++ added → Grown added old new
+  grown added plain is =
       let counted = h.offers.counted in
       let front : h.after ≡ h.before ++ (counted ++ added) = is ∙ append_assoc h.before counted added in
       let rest : drop (length h.before) h.after ≡ counted ++ added = ap (drop (length h.before)) front ∙ drop_at h.before (counted ++ added) (length h.before) refl in
@@ -180,6 +217,7 @@ module _ (r : Report) (answer : Offered) (old new : Known Entry Origin) (h : Pas
         own = ap (λ (q : Known Entry Origin). q.own) h.gives ∙ ap (λ (l : List Entry). old.own ++ placed (length h.before) l) rest;
         marks = two.0;
         offers = two.1;
+        behind = λ closed goes. counted_behind closed h.before counted added h.offers.is_counted plain (starts_on h.before new.seen closed (counted ++ added, seen ∙ front) goes);
       }
 
   seen_is : new.seen ≡ h.after
@@ -193,17 +231,18 @@ record Offers (closed : List Entry) (r : Report) (answer : Offered) (old new : K
   pub marks : marks_in closed < 2 ^ 64 - 1 → StartsWith closed new.seen → marks_own entries ≡ mark_by (length new.seen - 1) answer
   pub offers : offers_own entries ≡ taken_by (length new.seen - 1) answer
   pub held : StartsWith closed new.seen → HeldBy closed r answer
+  pub behind : StartsWith closed new.seen → AreBehind closed entries
 
 module _ (closed : List Entry) (r : Report) where
   -- an offer that appended nothing behind what may have been counted
   nothing : (answer : Offered) (old new : Known Entry Origin) → Grown [] old new → mark_by (length new.seen - 1) answer ≡ [] → taken_by (length new.seen - 1) answer ≡ [] → (StartsWith closed new.seen → HeldBy closed r answer) → Offers closed r answer old new
-  nothing answer old new g no_mark no_offer held = record { entries = g.entries; starts = g.starts; own = g.own; marks = λ few goes. g.marks ∙ sym no_mark; offers = g.offers ∙ sym no_offer; held = held }
+  nothing answer old new g no_mark no_offer held = record { entries = g.entries; starts = g.starts; own = g.own; marks = λ few goes. g.marks ∙ sym no_mark; offers = g.offers ∙ sym no_offer; held = held; behind = g.behind closed }
 
   offers_by : (answer : Offered) (old new : Known Entry Origin) → PassOffers r answer old new → Offers closed r answer old new
   offers_by said.Taken old new h =
       let point = h.before ++ h.offers.counted in
       let is : h.after ≡ point ++ entry.Offered r ∷ [] = h.offers.appends.2 in
-      let g = grown r said.Taken old new h (entry.Offered r ∷ []) is in
+      let g = grown r said.Taken old new h (entry.Offered r ∷ []) (tt, tt) is in
       let n : g.place ≡ length new.seen - 1 = (let s = g.size in omega (arith, s)) in
       record {
         entries = g.entries;
@@ -212,18 +251,19 @@ module _ (closed : List Entry) (r : Report) where
         marks = λ few goes. g.marks;
         offers = g.offers ∙ ap (λ (k : ℕ). k ∷ []) n;
         held = λ goes. held_on r (point ++ entry.Offered r ∷ []) closed (held_new r point) (subst (λ (l : List Entry). StartsWith closed l) (seen_is r said.Taken old new h ∙ is) goes);
+        behind = g.behind closed;
       }
   offers_by said.Again old new h =
       let point = h.before ++ h.offers.counted in
       let is : h.after ≡ point = h.offers.appends.1 in
-      nothing said.Again old new (grown r said.Again old new h [] (is ∙ sym (append-nil point))) refl refl
+      nothing said.Again old new (grown r said.Again old new h [] tt (is ∙ sym (append-nil point))) refl refl
       (λ goes. held_on r point closed (again_held h.origin point r h.offers.appends.0) (subst (λ (l : List Entry). StartsWith closed l) (seen_is r said.Again old new h ∙ is) goes))
   offers_by (said.Refused judgement) old new h =
       let point = h.before ++ h.offers.counted in
-      nothing (said.Refused judgement) old new (grown r (said.Refused judgement) old new h [] (h.offers.appends.3 ∙ sym (append-nil point))) refl refl (λ goes. tt)
+      nothing (said.Refused judgement) old new (grown r (said.Refused judgement) old new h [] tt (h.offers.appends.3 ∙ sym (append-nil point))) refl refl (λ goes. tt)
   offers_by (said.Full needed) old new h =
       let point = h.before ++ h.offers.counted in
-      nothing (said.Full needed) old new (grown r (said.Full needed) old new h [] (h.offers.appends.3 ∙ sym (append-nil point))) refl refl (λ goes. tt)
+      nothing (said.Full needed) old new (grown r (said.Full needed) old new h [] tt (h.offers.appends.3 ∙ sym (append-nil point))) refl refl (λ goes. tt)
   offers_by said.DiskFault old new h = by (marked (h.before ++ h.offers.counted))
     where
       point : List Entry
@@ -231,11 +271,11 @@ module _ (closed : List Entry) (r : Report) where
 
       by : ((with_mark point ≡ point ++ entry.Mark ∷ [])) ⊎ ((with_mark point ≡ point) × (2 ^ 64 - 1 ≤ marks_in point)) → Offers closed r said.DiskFault old new
       by (inl e) =
-          let g = grown r said.DiskFault old new h (entry.Mark ∷ []) (h.offers.appends ∙ e) in
+          let g = grown r said.DiskFault old new h (entry.Mark ∷ []) (tt, tt) (h.offers.appends ∙ e) in
           let n : g.place ≡ length new.seen - 1 = (let s = g.size in omega (arith, s)) in
-          record { entries = g.entries; starts = g.starts; own = g.own; marks = λ few goes. g.marks ∙ ap (λ (k : ℕ). k ∷ []) n; offers = g.offers; held = λ goes. tt }
+          record { entries = g.entries; starts = g.starts; own = g.own; marks = λ few goes. g.marks ∙ ap (λ (k : ℕ). k ∷ []) n; offers = g.offers; held = λ goes. tt; behind = g.behind closed }
       by (inr e) =
-          let g = grown r said.DiskFault old new h [] (h.offers.appends ∙ e.0 ∙ sym (append-nil point)) in
+          let g = grown r said.DiskFault old new h [] tt (h.offers.appends ∙ e.0 ∙ sym (append-nil point)) in
           let is : new.seen ≡ point = seen_is r said.DiskFault old new h ∙ h.offers.appends ∙ e.0 in
           record {
             entries = g.entries;
@@ -244,6 +284,7 @@ module _ (closed : List Entry) (r : Report) where
             marks = λ few goes. absurd (let a = ap marks_in (goes.1 ∙ ap (λ (l : List Entry). l ++ goes.0) is) in let b = marks-append point goes.0 in let m = e.1 in omega (arith, a, b, m, few));
             offers = g.offers;
             held = λ goes. tt;
+            behind = g.behind closed;
           }
   offers_by said.NoMemory old new h = absurd h.offers.appends
 
@@ -334,6 +375,7 @@ module _ (blank : Known Entry Origin) (clock : ℕ) (closed : List Entry) where
     pub marks : marks_in closed < 2 ^ 64 - 1 → StartsWith closed (seen_of now clock) → marks_own new ≡ mark_place clock now a
     pub takens : offers_own new ≡ taken_place clock now a
     pub held : StartsWith closed (seen_of now clock) → IsHeld clock closed a
+    pub behind : StartsWith closed (seen_of now clock) → AreBehind closed new
 
   stays : (a : Option Asked) (before now : HousePassOf) → seen_of now clock ≡ seen_of before clock → own_of now clock ≡ own_of before clock → mark_place clock now a ≡ [] → taken_place clock now a ≡ [] → IsHeld clock closed a → Turned a before now
   stays a before now seen own no_mark no_taken held = record {
@@ -343,6 +385,7 @@ module _ (blank : Known Entry Origin) (clock : ℕ) (closed : List Entry) where
     marks = λ few goes. sym no_mark;
     takens = sym no_taken;
     held = λ goes. held;
+    behind = λ goes. tt;
   }
 
   same_seen : (before now : HousePassOf) → pass_of now ≡ pass_of before → seen_of now clock ≡ seen_of before clock
@@ -371,6 +414,7 @@ module _ (blank : Known Entry Origin) (clock : ℕ) (closed : List Entry) where
         marks = λ few goes. refl;
         takens = refl;
         held = λ goes. tt;
+        behind = λ goes. tt;
       }
 
   offered : (bidder round : ℕ) (demand : List (List ℕ)) (answer : Offered) (before now : HousePassOf) → PassOffers (record { bidder = bidder; round = round; demand = demand }) answer (pass_of before) (pass_of now) → Turned (Some (asked.Offer clock bidder round demand answer)) before now
@@ -385,6 +429,7 @@ module _ (blank : Known Entry Origin) (clock : ℕ) (closed : List Entry) where
         marks = λ few goes. o.marks few (goes_at now goes) ∙ ap (λ (k : ℕ). mark_by k answer) (sym size) ∙ sym (mark_here clock now bidder round demand answer);
         takens = o.offers ∙ ap (λ (k : ℕ). taken_by k answer) (sym size) ∙ sym (taken_here clock now bidder round demand answer);
         held = λ goes. held_here clock closed bidder round demand answer (o.held (goes_at now goes));
+        behind = λ goes. o.behind (goes_at now goes);
       }
 
   turned : (a : Option Asked) (before now : HousePassOf) → LeadsBy a before now → Turned a before now
@@ -415,6 +460,7 @@ module _ (blank : Known Entry Origin) (clock : ℕ) (closed : List Entry) where
     pub marks : marks_in closed < 2 ^ 64 - 1 → StartsWith closed (seen_of after clock) → marks_own new ≡ mark_places clock ts
     pub takens : offers_own new ≡ taken_places clock ts
     pub held : StartsWith closed (seen_of after clock) → AllByRecursion (λ (t : Turn HousePassOf). IsHeld clock closed t.asked) ts
+    pub behind : StartsWith closed (seen_of after clock) → AreBehind closed new
 
   earlier : (ts : List (Turn HousePassOf)) (x y : List Entry) → StartsWith y x → AllByRecursion (λ (t : Turn HousePassOf). StartsWith (seen_of t.now clock) y × StartsWith closed (seen_of t.now clock)) ts
       → AllByRecursion (λ (t : Turn HousePassOf). StartsWith (seen_of t.now clock) x × StartsWith closed (seen_of t.now clock)) ts
@@ -430,6 +476,7 @@ module _ (blank : Known Entry Origin) (clock : ℕ) (closed : List Entry) where
     marks = λ few goes. refl;
     takens = refl;
     held = λ goes. tt;
+    behind = λ goes. tt;
   }
   led (t ∷ ts) before after h =
       let a = turned t.asked before t.now h.0 in
@@ -443,4 +490,5 @@ module _ (blank : Known Entry Origin) (clock : ℕ) (closed : List Entry) where
         marks = λ few goes. marks_on a.new b.new ∙ (λ i. a.marks few (on goes) i ++ b.marks few goes i);
         takens = offers_on a.new b.new ∙ (λ i. a.takens i ++ b.takens i);
         held = λ goes. (a.held (on goes), b.held goes);
+        behind = λ goes. all-append (IsBehind closed) a.new b.new (a.behind (on goes)) (b.behind goes);
       }

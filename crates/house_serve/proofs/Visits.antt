@@ -1,7 +1,8 @@
 -- One session more at a door.
-use Rattle.std.proofs.Common.{◌≡◌, ◌⊎◌, inl, inr, ℕ, ◌<◌, ◌≤◌, List, [], ◌∷◌, ◌++◌, length, map, Option, refl, sym, ◌∙◌, ap, subst, arith, append_assoc, append-nil, length-append}
+use Rattle.std.proofs.Common.{◌≡◌, ◌⊎◌, inl, inr, ℕ, zero, suc, ◌<◌, List, [], ◌∷◌, ◌++◌, length, map, take, Option, refl, sym, ◌∙◌, ap, subst, arith, append_assoc, append-nil, length-append}
 use Rattle.std.specs.Prelude.{Ok}
-use Rattle.std.proofs.lemmas.List.{map-append}
+use Rattle.std.proofs.lemmas.Bool.{cases_lt}
+use Rattle.std.proofs.lemmas.List.{length-map, map-append, take-append-le}
 use Rattle.house_io.specs.Told.{IfTold}
 use Rattle.house_io.specs.Links.{LinkBytes}
 use Rattle.house_io.specs.Doors.{DoorLinks, IsEmptyLink, Accepts, HangsUp}
@@ -13,6 +14,16 @@ use Rattle.house_serve.specs.declared.ends.SessionEnd.{SessionEnd}
 use Rattle.house_serve.specs.Pieces.{HasEndCause}
 use Rattle.house_serve.specs.Serving.{IsSession}
 use Rattle.house_serve.specs.Doors.{Visit, IsVisit, AreVisits, Come, DoorTells, IsDoor}
+
+none-placed : {A : Type 0} (n : ℕ) → take {A = A} n [] ≡ []
+none-placed zero = refl
+none-placed (suc n) = refl
+
+-- one more has a place where fewer than these have
+one-placed : {A : Type 0} (n : ℕ) (xs : List A) (y : A) → length xs < n → take n (xs ++ y ∷ []) ≡ take n xs ++ y ∷ []
+one-placed zero xs y room = absurd (omega (arith, room))
+one-placed (suc n) [] y room = ap (λ l. y ∷ l) (none-placed n)
+one-placed (suc n) (x ∷ xs) y room = ap (λ l. x ∷ l) (one-placed n xs y (omega (arith, room)))
 
 module _ {M L : Type 0} (allows : M → Asked → M → Type 0) (told : L → Option LinkBytes) (faults : L → ℕ) (auction : Auction) where
   visits_on : (vs : List (Visit M L)) (v : Visit M L) (m m1 : M) → AreVisits allows told faults auction m vs m1 → IsVisit allows told faults auction m1 v → AreVisits allows told faults auction m (vs ++ v ∷ []) v.now
@@ -33,15 +44,20 @@ module _ {M L : Type 0} (allows : M → Asked → M → Type 0) (told : L → Op
       let f0 = d.free in
       let f1 = a.1 in
       let f2 = h.free in
+      let links : List L = map (λ (w : Visit M L). w.went) vs in
+      let count : length links ≡ length vs = length-map vs (λ (w : Visit M L). w.went) in
+      let kept : z.hung_up ≡ x.hung_up ++ take x.free links = a.0 ∙ d.hung_up in
+      let hung : u.hung_up ≡ x.hung_up ++ take x.free (links ++ v.went ∷ []) = elim (cases_lt (length links) x.free) [
+        | inl room ↦
+            h.placed (omega (arith, f0, f1, count, room)) ∙ ap (λ (l : List L). l ++ v.went ∷ []) kept ∙ append_assoc x.hung_up (take x.free links) (v.went ∷ [])
+            ∙ ap (λ (l : List L). x.hung_up ++ l) (sym (one-placed x.free links v.went room))
+        | inr full ↦ h.dropped (omega (arith, f0, f1, count, full)) ∙ kept ∙ ap (λ (l : List L). x.hung_up ++ l) (sym (take-append-le x.free links (v.went ∷ []) full))
+      ] in
       record {
         come = subst (λ (l : List L). Come allows told faults auction l x.to_come u.to_come) (sym (map-append (λ (w : Visit M L). w.came) vs (v ∷ [])))
             (subst (λ (l : List L). Come allows told faults auction (map (λ (w : Visit M L). w.came) vs ++ v.came ∷ []) x.to_come l) (sym h.to_come) (come_on (map (λ (w : Visit M L). w.came) vs) v.came x.to_come y.to_come z.to_come d.come a.2));
         free = omega (arith, f0, f1, f2, size);
-        hung_up = λ fits.
-            let room : 0 < z.free = omega (arith, f0, f1, size, fits) in
-            let before : length vs ≤ x.free = omega (arith, size, fits) in
-            h.placed room ∙ ap (λ (l : List L). l ++ v.went ∷ []) (a.0 ∙ d.hung_up before) ∙ append_assoc x.hung_up (map (λ (w : Visit M L). w.went) vs) (v.went ∷ [])
-            ∙ ap (λ (l : List L). x.hung_up ++ l) (sym (map-append (λ (w : Visit M L). w.went) vs (v ∷ [])));
+        hung_up = hung ∙ ap (λ (l : List L). x.hung_up ++ take x.free l) (sym (map-append (λ (w : Visit M L). w.went) vs (v ∷ [])));
       }
 
   pub door_begun : (m : M) (t : Option (DoorLinks L)) (ends : List SessionEnd) → length ends ≡ 0 → IsDoor allows told faults auction m m t t ends
@@ -49,7 +65,7 @@ module _ {M L : Type 0} (allows : M → Asked → M → Type 0) (told : L → Op
     visits = [];
     ends_are = refl;
     held = refl;
-    links = told-same t (DoorTells allows told faults auction []) (λ x. record { come = refl; free = omega arith; hung_up = λ _. sym (append-nil x.hung_up) });
+    links = told-same t (DoorTells allows told faults auction []) (λ x. record { come = refl; free = omega arith; hung_up = sym (ap (λ (l : List L). x.hung_up ++ l) (none-placed x.free) ∙ append-nil x.hung_up) });
   }
   door_begun m t (x ∷ ends) e = absurd (omega arith)
 

@@ -1,5 +1,5 @@
 -- What one door did: its links one after another, each with the session over it.
-use Rattle.std.specs.Prelude.{◌≡◌, ◌≤◌, ◌-◌, ℕ, List, [], ◌∷◌, ◌++◌, length, map, Option}
+use Rattle.std.specs.Prelude.{◌≡◌, ◌-◌, ℕ, List, [], ◌∷◌, ◌++◌, length, map, take, Option}
 use Rattle.house_io.specs.Told.{IfTold}
 use Rattle.house_io.specs.Links.{LinkBytes}
 use Rattle.house_io.specs.Doors.{DoorLinks, IsEmptyLink}
@@ -35,11 +35,11 @@ module _ {M L : Type 0} (allows : M → Asked → M → Type 0) (told : L → Op
   Come (c ∷ cs) [] after = IsEmptyLink (told c) × Come cs [] after
   Come (c ∷ cs) (l ∷ ls) after = (l ≡ c) × Come cs ls after
 
-  -- what the door tells: which links came, and that each was hung up in order where there was a place for each
+  -- what the door tells: which links came, and that each was hung up in order, as long as there was a place
   pub record DoorTells (visits : List (Visit M L)) (before after : DoorLinks L) : Type 0 where
     pub come : Come (map (λ (v : Visit M L). v.came) visits) before.to_come after.to_come
     pub free : after.free ≡ before.free - length visits
-    pub hung_up : length visits ≤ before.free → after.hung_up ≡ before.hung_up ++ map (λ (v : Visit M L). v.went) visits
+    pub hung_up : after.hung_up ≡ before.hung_up ++ take before.free (map (λ (v : Visit M L). v.went) visits)
 
   -- the whole of a door, whose ends are these
   pub record IsDoor (before after : M) (door_before door_after : Option (DoorLinks L)) (ends : List SessionEnd) : Type 0 where

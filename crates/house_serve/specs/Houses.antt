@@ -1,6 +1,6 @@
 -- What all doors of a house did, each with a pass of the house, and what it comes to at each clock. An entry of a clock's desk history
 -- is a report, noted as offered or as counted, or a mark, which stands for one answer of a disk's fault.
-use Rattle.std.specs.Prelude.{◌≡◌, ◌≢◌, ◌≤◌, ◌<◌, ◌^◌, ℕ, ◌+◌, ◌-◌, ◌==◌, true, false, List, [], ◌∷◌, length, map, Option, Some, None, slice_get, slice_index_or, if◌then◌else◌, Contains}
+use Rattle.std.specs.Prelude.{◌≡◌, ◌≢◌, ◌≤◌, ◌<◌, ◌^◌, ℕ, ◌+◌, ◌-◌, ◌==◌, true, false, List, [], ◌∷◌, length, map, take, Option, Some, None, slice_get, slice_index_or, if◌then◌else◌, Contains}
 use Rattle.std.specs.List.{AllByRecursion, flat_map}
 use Rattle.demand_set.specs.declared.reports.Report.{Report}
 use Rattle.clock.specs.declared.judging.Offered.TheVariants as said
@@ -10,7 +10,7 @@ use Rattle.house_io.specs.Links.{LinkBytes}
 use Rattle.house_io.specs.Doors.{DoorLinks}
 use Rattle.auction_file.specs.declared.listing.Auction.{Auction}
 use Rattle.clock_book.specs.Books.{BookOf}
-use Rattle.clock_book.specs.DeskHistories.{marks_in, reports_in}
+use Rattle.clock_book.specs.DeskHistories.{marks_in, reports_in, EndsInMark}
 use Rattle.clock_book.specs.declared.entries.Entry.{Entry}
 use Rattle.clock_book.specs.declared.entries.Entry.TheVariants as entry
 use Rattle.turn_desk.specs.Histories.{StartsWith}
@@ -84,6 +84,9 @@ pub record Joins (opening closed : List Entry) (turns : List (Turn HousePassOf))
   pub marked : marks_in closed < 2 ^ 64 - 1 → AllByRecursion (λ k. (length opening ≤ k) × (slice_get closed k ≡ Some entry.Mark)) (mark_places clock turns)
   -- each report that was added here and is noted as offered stands for just one turn that was answered Taken
   pub taken : (k : ℕ) (r : Report) → length opening ≤ k → slice_get closed k ≡ Some (entry.Offered r) → times k (taken_places clock turns) ≡ 1
+  -- each report that was added here and is noted as counted was in doubt: the history before it ends with a mark, while marks can be
+  -- counted
+  pub counted : (k : ℕ) (r : Report) → length opening ≤ k → slice_get closed k ≡ Some (entry.Counted r) → EndsInMark (take k closed)
   -- what was answered Taken or Again is in the history
   pub held : AllByRecursion (λ (t : Turn HousePassOf). IsHeld clock closed t.asked) turns
 

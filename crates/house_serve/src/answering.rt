@@ -21,7 +21,9 @@ use std::sync::Wait;
 /// Why a reply was not sent whole.
 #[derive(Clone, Copy, Debug, PartialEq, Eq)]
 pub(crate) enum Cut {
+    /// A call on the link failed; a front of the reply may have been written.
     LinkFault,
+    /// Memory ran out; nothing of the reply was written.
     NoMemory,
 }
 

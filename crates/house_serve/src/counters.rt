@@ -15,7 +15,9 @@ use std::thread::Threads;
 
 /// A door and a pass of a house, and what became of the door's sessions.
 pub(crate) struct Counter<P, R> {
+    /// The pass by which the sessions at the door take their turns, one session after another.
     pub(crate) pass: P,
+    /// Where the links of the sessions come in.
     pub(crate) door: R,
     /// How each session ended, in order. Room for them is reserved.
     pub(crate) ends: Vec<SessionEnd>,
@@ -26,10 +28,15 @@ pub(crate) struct Counter<P, R> {
 /// What all counters of a house share.
 #[derive(Drop)]
 struct Common<'a, H, T> {
+    /// The runtime, by which a thread waits for its turn.
     rt: &'a T,
+    /// Where the memory of the sessions comes from.
     alloc: Global,
+    /// The auction of the house: tokens are compared with its digests.
     auction: &'a Auction,
+    /// The house of which each counter has a pass.
     house: &'a H,
+    /// How many sessions each counter serves.
     sessions: u32,
 }
 

@@ -19,6 +19,7 @@ use std::thread::Threads;
 /// What became of a door.
 #[derive(Drop)]
 pub struct DoorLog<R> {
+    /// The door, with all links that it gave hung up.
     pub door: R,
     /// How each session ended, in order.
     pub ends: Vec<SessionEnd>,
@@ -28,14 +29,19 @@ pub struct DoorLog<R> {
 
 /// The books of a house that was served and closed, in order of the clocks, and what became of its doors, in order.
 pub struct Served<D: Disk, R> {
+    /// Clock 0's first: one for each clock.
     pub books: Vec<ClockBook<D>>,
+    /// In the order in which the doors were given.
     pub doors: Vec<DoorLog<R>>,
 }
 
 /// There was no memory to serve; nothing was accepted.
 pub struct NotServed<D: Disk, R> {
+    /// The house as it was given.
     pub house: House<D>,
+    /// The passes as they were given.
     pub passes: Vec<HousePass<D>>,
+    /// The doors as they were given.
     pub doors: Vec<R>,
 }
 

@@ -12,8 +12,11 @@ use std::alloc::Global;
 pub(crate) struct Room<P, R> {
     /// For each door an empty list, with room for the ends of its sessions.
     pub(crate) notes: Vec<Vec<SessionEnd>>,
+    /// For the counters, each with a pass and its door.
     pub(crate) counters: Vec<Counter<P, R>>,
+    /// For the passes, when they come back from the counters.
     pub(crate) rows: Vec<P>,
+    /// For what became of the doors.
     pub(crate) logs: Vec<DoorLog<R>>,
 }
 

@@ -23,7 +23,9 @@ const MOST: u64 = 1_099_511_627_776;
 
 /// What one pull came to: so many bytes and no end, or an end.
 pub(crate) enum Step {
+    /// So many bytes were taken, and the session goes on.
     Went(u64),
+    /// The session has ended so.
     Ended(SessionEnd),
 }
 

@@ -35,12 +35,16 @@ module _ {D : Type 0} (tells : D → Bool) (moments : D → Moments) (faults : D
   pub owner-is : owner_in b.origin ≡ owner
   owner-is = let of = opens.origin in λ i. owner_of (of.terms_are i) (of.clock_is i) (of.digest_is i)
 
-  opened-each : (reports : List Report) → IsTrue (tells b.disk) → AtEach (IsTargetLeft owner reports (moments old).now.read) (synced_at (moments old)) (moments b.disk)
-  opened-each reports t =
+  pub only-opened : IsTrue (tells b.disk) → AtEach (IsAsOpened owner (moments old).now.read) (synced_at (moments old)) (moments b.disk)
+  only-opened t =
       let leaves = opens.leaves t in
       let A : List ℕ → Type 0 = λ read. AtEach (IsAsOpened owner read) (synced_at (moments old)) (moments b.disk) in
+      subst A leaves.read_is leaves.each
+
+  opened-each : (reports : List Report) → IsTrue (tells b.disk) → AtEach (IsTargetLeft owner reports (moments old).now.read) (synced_at (moments old)) (moments b.disk)
+  opened-each reports t =
       let read = (moments old).now.read in
-      at_weaker (IsAsOpened owner read) (IsTargetLeft owner reports read) (synced_at (moments old)) (moments b.disk) (λ file is. as-opened owner reports read file is) (subst A leaves.read_is leaves.each)
+      at_weaker (IsAsOpened owner read) (IsTargetLeft owner reports read) (synced_at (moments old)) (moments b.disk) (λ file is. as-opened owner reports read file is) (only-opened t)
 
   -- a target to which nothing was offered
   pub left-opened : (reports : List Report) → IsTrue (tells b.disk) → LeavesTarget owner reports (moments old) (moments b.disk)

@@ -193,9 +193,15 @@ module _ {D : Type 0} (tells : D → Bool) (moments : D → Moments) (faults : D
     counts-at stopped.DiskFault stops b = inr (refl, (let now_is = faults-now b in let was_is = faults-was b in omega (arith, stops.0, now_is, was_is)))
     counts-at stopped.NoMemory stops b = inl (faults-now b ∙ stops ∙ faults-was b)
 
+    -- the reports of the clocks before were all offered
+    whole-before : (k : ℕ) (b : BookOf D) (d : ClockHistory) → k < n → IsWhole tells moments faults clocks old (set new n now) k b d
+    whole-before k b d less =
+        let V : BookOf D → Type 0 = λ y. IsTrue (tells y.disk) → Leaves (StandsForReports (owner_in (get_or old k b).origin) (get_or clocks k d).reports) (moments y.disk).now in
+        subst V (sym (other k b (λ same. omega (arith, same, less)))) (are.whole k b d less)
+
     stop-at : (why : Stopped) → StopsFor (faults mine.disk) (faults now.disk) (owner_in mine.origin) c.reports why → IsStop tells moments faults clocks old (set new n now) (fault_at n why)
-    stop-at (stopped.Full needed) stops = record { within = within; cause = cause-at (stopped.Full needed) stops }
-    stop-at stopped.DiskFault stops = record { within = within; cause = cause-at stopped.DiskFault stops }
+    stop-at (stopped.Full needed) stops = record { within = within; before = whole-before; cause = cause-at (stopped.Full needed) stops }
+    stop-at stopped.DiskFault stops = record { within = within; before = whole-before; cause = cause-at stopped.DiskFault stops }
     stop-at stopped.NoMemory stops = tt
 
     -- the reports of this clock were not all offered

@@ -3,11 +3,12 @@ use Rattle.std.proofs.Common.{◌≡◌, ◌⊎◌, inl, inr, ◌<◌, ◌≤◌
 use Rattle.std.proofs.lemmas.Bool.{cases_lt}
 use Rattle.std.proofs.lemmas.List.{get_or_at, reverse-append, length-map}
 use Rattle.lot_base.specs.declared.auction_terms.Terms.{Terms}
-use Rattle.house_io.specs.Moments.{Moments}
+use Rattle.house_io.specs.Moments.{Moments, AtEach, synced_at}
 use Rattle.clock.specs.Reports.{ClockHistory}
 use Rattle.recovery.specs.Journaled.{owner_of}
+use Rattle.clock_book.specs.Past.{IsAsOpened}
 use Rattle.clock_book.specs.Books.{BookOf}
-use Rattle.clock_book.specs.Opened.{Opens, IsUnopened}
+use Rattle.clock_book.specs.Opened.{Opens, IsUnopened, LeftUnopened}
 use Rattle.clock_book.specs.Opening.{CountsFaults, ReadsClock}
 use Rattle.clock_book.specs.declared.faults.OpenFault.{OpenFault}
 use Rattle.clock_book.specs.declared.faults.OpenFault.TheVariants as why
@@ -16,7 +17,7 @@ use Rattle.migration.specs.Moving.{LeavesTarget}
 use Rattle.migration.specs.Moves.{Moves, TellsFaultOf}
 use Rattle.migration.specs.Targets.{AreOpen, disks_of}
 use Rattle.migration.proofs.Lists.{some-of, get-front, get-past, IsTaken, disk-at}
-use Rattle.migration.proofs.Left.{left-unopened, left-opened, was-open}
+use Rattle.migration.proofs.Left.{left-unopened, only-opened, left-opened, was-open}
 
 module _ {D : Type 0} (tells : D → Bool) (moments : D → Moments) (faults : D → ℕ) (terms : Terms) (digest : List ℕ) where
   -- one book more
@@ -87,6 +88,18 @@ module _ {D : Type 0} (tells : D → Bool) (moments : D → Moments) (faults : D
           (λ i b opens t. left-opened tells moments faults (owner_of terms i digest) (get_or disks i d) b opens (get_or clocks i c).reports t)
           (λ t. left-unopened (owner_of terms n digest) (get_or clocks n c).reports (moments disk) (moments back) (unopened.leaves t))
           (λ i x t. inl refl);
+      unoffered = record {
+        before = λ k d less t.
+            let below : k < length books = omega (arith, less, size) in
+            let b = some-of books k below in
+            let A : D → Type 0 = λ z. AtEach (IsAsOpened (owner_of terms k digest) (moments (get_or disks k d)).now.read) (synced_at (moments (get_or disks k d))) (moments z) in
+            subst A (sym (new-before k b d less))
+            (only-opened tells moments faults (owner_of terms k digest) (get_or disks k d) (get_or books k b) (are.each k d b below) (subst (λ (z : D). IsTrue (tells z)) (new-before k b d less) t));
+        here = λ d t.
+            let L : D → D → Type 0 = λ x y. LeftUnopened (owner_of terms n digest) (moments x) (moments y) in
+            subst (L (get_or disks n d)) (sym (new-here d)) (subst (λ (z : D). L z back) (next.here d) (unopened.leaves (subst (λ (z : D). IsTrue (tells z)) (new-here d) t)));
+        later = λ k d more. new-after k d more;
+      };
       told = λ k d below. each-of (λ i x y. IsTrue (tells y) → IsTrue (tells x)) k d (λ i b opens. opens.told) unopened.told (λ i x t. t);
       counts = λ k d below. each-of (λ i x y. (faults y ≡ faults x) ⊎ (TellsFaultOf i (Err (NotOpened n fault)) × (faults x ≤ faults y))) k d
           (λ i b opens. inl opens.steady) (counts-at n fault (faults disk) (faults back) unopened.counts) (λ i x. inl refl);

@@ -3,18 +3,20 @@ use Rattle.std.proofs.Common.{◌≡◌, ◌⊎◌, inl, inr, ⊎_elim, ◌<◌,
 use Rattle.std.proofs.lemmas.List.{length-map}
 use Rattle.lot_base.specs.declared.auction_terms.Terms.{Terms}
 use Rattle.house_io.specs.Faults.{Rose}
-use Rattle.house_io.specs.Moments.{Moments, Leaves}
+use Rattle.house_io.specs.Moments.{Moments, Leaves, AtEach, synced_at}
 use Rattle.clock.specs.Reports.{ClockHistory}
 use Rattle.recovery.specs.Journaled.{Owner, owner_of, StandsForReports}
+use Rattle.clock_book.specs.Past.{IsAsOpened}
 use Rattle.clock_book.specs.Books.{BookOf, BookState}
 use Rattle.clock_book.specs.Opened.{Opens}
+use Rattle.clock_book.specs.Opening.{IsOpening}
 use Rattle.migration.specs.declared.faults.MoveFault.{MoveFault}
 use Rattle.migration.specs.declared.faults.MoveFault.TheVariants.{NotOpened, NotFront, Full, DiskFault, NoMemory}
-use Rattle.migration.specs.Moving.{AreAlike, AreClocksAs, LeavesTarget, IsMoved}
-use Rattle.migration.specs.Moves.{IsFullAt, TellsFaultOf, WasOpen, HasMoveCause, Moves}
-use Rattle.migration.specs.Targets.{disks_of, AreOpen, AreFronts, IsFrontFault, AreReady, IsStop, AreOffered}
+use Rattle.migration.specs.Moving.{AreAlike, AreClocksAs, LeavesTarget, IsFront, IsMoved}
+use Rattle.migration.specs.Moves.{IsFullAt, TellsFaultOf, WasOpen, WasFront, WasMoved, WasOnlyOpened, OnlyOpened, HasMoveCause, Moves}
+use Rattle.migration.specs.Targets.{disks_of, AreOpen, AreFronts, IsFrontFault, AreReady, IsStop, IsWhole, AreOffered}
 use Rattle.migration.proofs.Lists.{some-of, disk-at}
-use Rattle.migration.proofs.Left.{owner-is, left-opened, left-on, was-open, was-front}
+use Rattle.migration.proofs.Left.{owner-is, only-opened, left-opened, left-on, was-open, was-front}
 
 module _ {D : Type 0} (tells : D → Bool) (moments : D → Moments) (faults : D → ℕ) (terms : Terms) (digest : List ℕ) (clocks : List ClockHistory) (old : List D) (first : List (BookOf D))
     (are : AreOpen tells moments faults terms digest old first) (many : length first ≡ length old) where
@@ -59,6 +61,17 @@ module _ {D : Type 0} (tells : D → Bool) (moments : D → Moments) (faults : D
       let b = book-of k below in
       was-open tells moments faults (owner_of terms k digest) (get_or old k d) (get_or first k b) (opens-at k d b below) (told-by first many k d b below t)
 
+  only-opened-at : (k : ℕ) (d : D) → k < length old → WasOnlyOpened tells moments faults terms digest clocks old (disks_of first) k d
+  only-opened-at k d below = on-disk first many (λ z. IsTrue (tells z) → AtEach (IsAsOpened (owner_of terms k digest) (moments (get_or old k d)).now.read) (synced_at (moments (get_or old k d))) (moments z)) k d below
+      (λ b. only-opened tells moments faults (owner_of terms k digest) (get_or old k d) (get_or first k b) (opens-at k d b below))
+
+  unoffered : (answer : MoveFault) → IsFrontFault clocks first answer → OnlyOpened tells moments faults terms digest clocks old (disks_of first) (Err answer)
+  unoffered (NotOpened clock fault) is = absurd is
+  unoffered (NotFront clock number) is = only-opened-at
+  unoffered (Full clock needed) is = tt
+  unoffered (DiskFault clock) is = tt
+  unoffered NoMemory is = tt
+
   fault-cause : (answer : MoveFault) → IsFrontFault clocks first answer → HasMoveCause tells moments faults terms digest clocks old (disks_of first) answer
   fault-cause (NotOpened clock fault) is = absurd is
   fault-cause (Full clock needed) is = absurd is
@@ -88,6 +101,7 @@ module _ {D : Type 0} (tells : D → Bool) (moments : D → Moments) (faults : D
         count = length-map first (λ (b : BookOf D). b.disk) ∙ many;
         left = λ k d c below. on-disk first many (λ z. IsTrue (tells z) → LeavesTarget (owner_of terms k digest) (get_or clocks k c).reports (moments (get_or old k d)) (moments z)) k d below
             (λ b. left-opened tells moments faults (owner_of terms k digest) (get_or old k d) (get_or first k b) (opens-at k d b below) (get_or clocks k c).reports);
+        unoffered = unoffered answer why;
         told = λ k d below. on-disk first many (λ z. IsTrue (tells z) → IsTrue (tells (get_or old k d))) k d below (λ b. (opens-at k d b below).told);
         counts = λ k d below. inl (on-disk first many (λ z. faults z ≡ faults (get_or old k d)) k d below (λ b. (opens-at k d b below).steady));
         moved = tt;
@@ -119,9 +133,22 @@ module _ {D : Type 0} (tells : D → Bool) (moments : D → Moments) (faults : D
         let steady = o.steady in
         ⊎_elim (λ same. inl (same ∙ steady)) (λ rose. inr (rose.0, (let r = rose.1 in omega (arith, r, steady)))) (offered.counts k b (front-below k below)))
 
-    moved-at : (offered : AreOffered tells moments faults clocks first last (Ok tt)) (k : ℕ) (d : D) (c : ClockHistory) → k < length old → IsTrue (tells (get_or (disks_of last) k d))
-        → IsMoved (owner_of terms k digest) (get_or clocks k c).reports (moments (get_or old k d)) (moments (get_or (disks_of last) k d))
-    moved-at offered k d c below = on-disk last (long-of (Ok tt) offered) (λ z. IsTrue (tells z) → IsMoved (owner_of terms k digest) (get_or clocks k c).reports (moments (get_or old k d)) (moments z)) k d below
+    open-at : (answer : Result (Unit {0}) MoveFault) (offered : AreOffered tells moments faults clocks first last answer) (k : ℕ) (d : D) → k < length old → WasOpen tells moments faults terms digest clocks old (disks_of last) k d
+    open-at answer offered k d below = on-disk last (long-of answer offered) (λ z. IsTrue (tells z) → (c : ClockHistory) × IsOpening (owner_of terms k digest) (moments (get_or old k d)).now.read (Ok c)) k d below
+        (λ b t.
+        let goes = offered.each k b (get_or first k b).state.clock (front-below k below) in
+        was-open tells moments faults (owner_of terms k digest) (get_or old k d) (get_or first k b) (opens-at k d b below) (goes.told t))
+
+    front-at : (answer : Result (Unit {0}) MoveFault) (offered : AreOffered tells moments faults clocks first last answer) (k : ℕ) (d : D) (c : ClockHistory) → k < length old → WasFront tells moments faults terms digest clocks old (disks_of last) k d c
+    front-at answer offered k d c below = on-disk last (long-of answer offered) (λ z. IsTrue (tells z) → IsFront (owner_of terms k digest) (get_or clocks k c).reports (moments (get_or old k d)).now.read) k d below
+        (λ b t.
+        let goes = offered.each k b c (front-below k below) in
+        was-front tells moments faults (owner_of terms k digest) (get_or old k d) (get_or first k b) (opens-at k d b below) (get_or clocks k c).reports (fronts.each k b c (front-below k below)) (goes.told t))
+
+    -- the target of a clock whose reports were all offered
+    moved-from : (answer : Result (Unit {0}) MoveFault) (offered : AreOffered tells moments faults clocks first last answer) (k : ℕ) (d : D) (c : ClockHistory) → k < length old
+        → ((b : BookOf D) → IsWhole tells moments faults clocks first last k b c) → WasMoved tells moments faults terms digest clocks old (disks_of last) k d c
+    moved-from answer offered k d c below whole = on-disk last (long-of answer offered) (λ z. IsTrue (tells z) → IsMoved (owner_of terms k digest) (get_or clocks k c).reports (moments (get_or old k d)) (moments z)) k d below
         (λ b t.
         let o = opens-at k d b below in
         let goes = offered.each k b c (front-below k below) in
@@ -129,8 +156,11 @@ module _ {D : Type 0} (tells : D → Bool) (moments : D → Moments) (faults : D
         let L : Owner → Type 0 = λ w. Leaves (StandsForReports w reports) (moments (get_or last k b).disk).now in
         record {
           front = was-front tells moments faults (owner_of terms k digest) (get_or old k d) (get_or first k b) o reports (fronts.each k b c (front-below k below)) (goes.told t);
-          whole = subst L (owner-is tells moments faults (owner_of terms k digest) (get_or old k d) (get_or first k b) o) (offered.whole k b c (front-below k below) t);
+          whole = subst L (owner-is tells moments faults (owner_of terms k digest) (get_or old k d) (get_or first k b) o) (whole b t);
         })
+
+    moved-at : (offered : AreOffered tells moments faults clocks first last (Ok tt)) (k : ℕ) (d : D) (c : ClockHistory) → k < length old → WasMoved tells moments faults terms digest clocks old (disks_of last) k d c
+    moved-at offered k d c below = moved-from (Ok tt) offered k d c below (λ b. offered.whole k b c (front-below k below))
 
     stop-cause : (answer : MoveFault) → AreOffered tells moments faults clocks first last (Err answer) → IsStop tells moments faults clocks first last answer → HasMoveCause tells moments faults terms digest clocks old (disks_of last) answer
     stop-cause (NotOpened clock fault) offered is = absurd is
@@ -140,6 +170,9 @@ module _ {D : Type 0} (tells : D → Bool) (moments : D → Moments) (faults : D
         let within : clock < length old = (let w = is.within in omega (arith, w, many)) in
         record {
           within = within;
+          opened = open-at (Err (Full clock needed)) offered;
+          fronts = front-at (Err (Full clock needed)) offered;
+          before = λ k d c less. moved-from (Err (Full clock needed)) offered k d c (omega (arith, less, within)) (λ b. is.before k b c less);
           full = λ c.
               let b = book-of clock within in
               let d = b.disk in
@@ -150,6 +183,9 @@ module _ {D : Type 0} (tells : D → Bool) (moments : D → Moments) (faults : D
         let within : clock < length old = (let w = is.within in omega (arith, w, many)) in
         record {
           within = within;
+          opened = open-at (Err (DiskFault clock)) offered;
+          fronts = front-at (Err (DiskFault clock)) offered;
+          before = λ k d c less. moved-from (Err (DiskFault clock)) offered k d c (omega (arith, less, within)) (λ b. is.before k b c less);
           rose = λ d. on-disk last (long-of (Err (DiskFault clock)) offered) (λ z. Rose (faults (get_or old clock d)) (faults z)) clock d within
               (λ b.
               let o = opens-at clock d b within in
@@ -158,11 +194,19 @@ module _ {D : Type 0} (tells : D → Bool) (moments : D → Moments) (faults : D
               subst (λ (n : ℕ). Rose n (faults (get_or last clock b).disk)) steady (is.cause b c).1);
         }
 
+    never-unoffered : (answer : MoveFault) → IsStop tells moments faults clocks first last answer → OnlyOpened tells moments faults terms digest clocks old (disks_of last) (Err answer)
+    never-unoffered (NotOpened clock fault) is = absurd is
+    never-unoffered (NotFront clock number) is = absurd is
+    never-unoffered (Full clock needed) is = tt
+    never-unoffered (DiskFault clock) is = tt
+    never-unoffered NoMemory is = tt
+
     -- the reports were offered, or a clock's were not all
     pub moved : (new : List D) (answer : Result (Unit {0}) MoveFault) (c : ClockHistory) → new ≡ disks_of last → AreOffered tells moments faults clocks first last answer → Moves tells moments faults terms digest clocks old new answer
     moved new (Ok t) c is offered = subst (λ (l : List D). Moves tells moments faults terms digest clocks old l (Ok t)) (sym is) (record {
       count = length-map last (λ (b : BookOf D). b.disk) ∙ long-of (Ok t) offered;
       left = left-at (Ok t) offered;
+      unoffered = tt;
       told = λ k d below. told-at (Ok t) offered k d c below;
       counts = counts-at (Ok t) offered;
       moved = moved-at offered;
@@ -171,6 +215,7 @@ module _ {D : Type 0} (tells : D → Bool) (moments : D → Moments) (faults : D
     moved new (Err fault) c is offered = subst (λ (l : List D). Moves tells moments faults terms digest clocks old l (Err fault)) (sym is) (record {
       count = length-map last (λ (b : BookOf D). b.disk) ∙ long-of (Err fault) offered;
       left = left-at (Err fault) offered;
+      unoffered = never-unoffered fault offered.cause;
       told = λ k d below. told-at (Err fault) offered k d c below;
       counts = counts-at (Err fault) offered;
       moved = tt;

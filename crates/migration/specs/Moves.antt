@@ -4,12 +4,14 @@ use Rattle.lot_base.specs.declared.auction_terms.Terms.{Terms}
 use Rattle.lot_base.specs.declared.limits.TheConstants.{GREATEST_FILE}
 use Rattle.demand_set.specs.declared.reports.Report.{Report}
 use Rattle.house_io.specs.Faults.{Rose}
-use Rattle.house_io.specs.Moments.{Moments}
+use Rattle.house_io.specs.Moments.{Moments, AtEach, synced_at}
 use Rattle.clock.specs.Reports.{ClockHistory}
 use Rattle.recovery.specs.Journaled.{Owner, owner_of}
 use Rattle.clock_book.specs.declared.faults.OpenFault.{OpenFault}
 use Rattle.clock_book.specs.declared.faults.OpenFault.TheVariants as why
 use Rattle.clock_book.specs.Opening.{IsOpening, ReadsClock, CountsFaults}
+use Rattle.clock_book.specs.Opened.{LeftUnopened}
+use Rattle.clock_book.specs.Past.{IsAsOpened}
 use Rattle.clock_book.specs.Offers.{record_end}
 use Rattle.migration.specs.declared.faults.MoveFault.{MoveFault}
 use Rattle.migration.specs.declared.faults.MoveFault.TheVariants.{NotOpened, NotFront, Full, DiskFault, NoMemory}
@@ -57,14 +59,24 @@ module _ {D : Type 0} (tells : D → Bool) (moments : D → Moments) (faults : D
     pub differs : (d : D) (x : ClockHistory) → IsTrue (tells (slice_index_or new clock d))
         → (c : ClockHistory) × IsOpening (owner_of terms clock digest) (moments (slice_index_or old clock d)).now.read (Ok c) × IsNoFrontAt number c.reports (reports_at clock x)
 
-  -- the journal of this clock has no room for its reports
+  -- the target of the clock stood for a front of its reports, and stands for all of them now
+  abbrev pub WasMoved : ℕ → D → ClockHistory → Type 0
+  WasMoved k d c = IsTrue (tells (slice_index_or new k d)) → IsMoved (owner_of terms k digest) (reports_at k c) (moments (slice_index_or old k d)) (moments (slice_index_or new k d))
+
+  -- All targets were opened and had fronts. The journal of this clock has no room for its reports, and those of the smaller ones were moved.
   pub record IsFull (clock needed : ℕ) : Type 0 where
     pub within : clock < length old
+    pub opened : (k : ℕ) (d : D) → k < length old → WasOpen k d
+    pub fronts : (k : ℕ) (d : D) (c : ClockHistory) → k < length old → WasFront k d c
+    pub before : (k : ℕ) (d : D) (c : ClockHistory) → k < clock → WasMoved k d c
     pub full : (c : ClockHistory) → IsFullAt needed (owner_of terms clock digest) (reports_at clock c)
 
-  -- the disk of this clock failed
+  -- All targets were opened and had fronts. The disk of this clock failed, and the reports of the smaller ones were moved.
   pub record HasFailed (clock : ℕ) : Type 0 where
     pub within : clock < length old
+    pub opened : (k : ℕ) (d : D) → k < length old → WasOpen k d
+    pub fronts : (k : ℕ) (d : D) (c : ClockHistory) → k < length old → WasFront k d c
+    pub before : (k : ℕ) (d : D) (c : ClockHistory) → k < clock → WasMoved k d c
     pub rose : (d : D) → Rose (faults (slice_index_or old clock d)) (faults (slice_index_or new clock d))
 
   -- why the journals were not moved
@@ -75,12 +87,30 @@ module _ {D : Type 0} (tells : D → Bool) (moments : D → Moments) (faults : D
   HasMoveCause (DiskFault clock) = HasFailed clock
   HasMoveCause NoMemory = Unit {0}
 
+  -- nothing but the opening of a book was done to the target of the clock
+  abbrev pub WasOnlyOpened : ℕ → D → Type 0
+  WasOnlyOpened k d = IsTrue (tells (slice_index_or new k d))
+      → AtEach (IsAsOpened (owner_of terms k digest) (moments (slice_index_or old k d)).now.read) (synced_at (moments (slice_index_or old k d))) (moments (slice_index_or new k d))
+
+  -- The targets of the smaller clocks were only opened, this clock's was left by an opening that was refused, and the others are as they were.
+  pub record AreOpenedUpTo (clock : ℕ) : Type 0 where
+    pub before : (k : ℕ) (d : D) → k < clock → WasOnlyOpened k d
+    pub here : (d : D) → IsTrue (tells (slice_index_or new clock d)) → LeftUnopened (owner_of terms clock digest) (moments (slice_index_or old clock d)) (moments (slice_index_or new clock d))
+    pub later : (k : ℕ) (d : D) → clock < k → slice_index_or new k d ≡ slice_index_or old k d
+
+  -- with these answers no report was offered to any target
+  abbrev pub OnlyOpened : Result (Unit {0}) MoveFault → Type 0
+  OnlyOpened (Err (NotOpened clock fault)) = AreOpenedUpTo clock
+  OnlyOpened (Err (NotFront clock number)) = (k : ℕ) (d : D) → k < length old → WasOnlyOpened k d
+  OnlyOpened answer = Unit {0}
+
   -- The whole. The disks come back in order.
   pub record Moves (answer : Result (Unit {0}) MoveFault) : Type 0 where
     pub count : length new ≡ length old
     pub left : (k : ℕ) (d : D) (c : ClockHistory) → k < length old → IsTrue (tells (slice_index_or new k d)) → LeavesTarget (owner_of terms k digest) (reports_at k c) (moments (slice_index_or old k d)) (moments (slice_index_or new k d))
+    pub unoffered : OnlyOpened answer
     pub told : (k : ℕ) (d : D) → k < length old → IsTrue (tells (slice_index_or new k d)) → IsTrue (tells (slice_index_or old k d))
     pub counts : (k : ℕ) (d : D) → k < length old → (faults (slice_index_or new k d) ≡ faults (slice_index_or old k d))
         ⊎ (TellsFaultOf k answer × (faults (slice_index_or old k d) ≤ faults (slice_index_or new k d)))
-    pub moved : OnOk answer ((k : ℕ) (d : D) (c : ClockHistory) → k < length old → IsTrue (tells (slice_index_or new k d)) → IsMoved (owner_of terms k digest) (reports_at k c) (moments (slice_index_or old k d)) (moments (slice_index_or new k d)))
+    pub moved : OnOk answer ((k : ℕ) (d : D) (c : ClockHistory) → k < length old → WasMoved k d c)
     pub cause : IfErr answer HasMoveCause

@@ -84,9 +84,14 @@ pub record AreReady {D : Type 0} (clocks : List ClockHistory) (books : List (Boo
   pub each : (k : ℕ) (b : BookOf D) (c : ClockHistory) → k < length books → HasFirst (slice_index_or clocks k c) (length (slice_index_or books k b).state.clock.reports) (slice_index_or books k b)
 
 module _ {D : Type 0} (tells : D → Bool) (moments : D → Moments) (faults : D → ℕ) (clocks : List ClockHistory) (old new : List (BookOf D)) where
-  -- at this clock the reports were not all offered, for want of room or for a fault of the disk
+  -- the book of this clock stands for all reports of the clock
+  abbrev pub IsWhole : ℕ → BookOf D → ClockHistory → Type 0
+  IsWhole k b c = IsTrue (tells (slice_index_or new k b).disk) → Leaves (StandsForReports (owner_in (slice_index_or old k b).origin) (slice_index_or clocks k c).reports) (moments (slice_index_or new k b).disk).now
+
+  -- at this clock the reports were not all offered, for want of room or for a fault of the disk, and those of the smaller clocks were
   pub record StopsAt (clock : ℕ) (why : Stopped) : Type 0 where
     pub within : clock < length old
+    pub before : (k : ℕ) (b : BookOf D) (c : ClockHistory) → k < clock → IsWhole k b c
     pub cause : (b : BookOf D) (c : ClockHistory)
         → StopsFor (faults (slice_index_or old clock b).disk) (faults (slice_index_or new clock b).disk) (owner_in (slice_index_or old clock b).origin) (slice_index_or clocks clock c).reports why
 
@@ -95,10 +100,6 @@ module _ {D : Type 0} (tells : D → Bool) (moments : D → Moments) (faults : D
   IsStop (fault.DiskFault clock) = StopsAt clock stopped.DiskFault
   IsStop fault.NoMemory = Unit {0}
   IsStop other = ⊥
-
-  -- the book of this clock stands for all reports of the clock
-  abbrev pub IsWhole : ℕ → BookOf D → ClockHistory → Type 0
-  IsWhole k b c = IsTrue (tells (slice_index_or new k b).disk) → Leaves (StandsForReports (owner_in (slice_index_or old k b).origin) (slice_index_or clocks k c).reports) (moments (slice_index_or new k b).disk).now
 
   -- what offering the reports of all clocks to the books does
   pub record AreOffered (answer : Result (Unit {0}) MoveFault) : Type 0 where

@@ -13,13 +13,17 @@ use std::alloc::Global;
 
 /// The targets, given back in the order of the clocks, where not all books were opened, with the reason.
 pub(crate) struct GivenBack<D> {
+    /// Clock 0's first. An unformed file may have got a header.
     pub(crate) disks: Vec<D>,
+    /// `NotOpened` of the first clock whose book was refused, or `NoMemory`.
     pub(crate) fault: MoveFault,
 }
 
 /// The books on the targets, in the order of the clocks, with an empty list that has room for the disks.
 pub(crate) struct Targets<D: Disk> {
+    /// Clock 0's first: one for each target.
     pub(crate) books: Vec<ClockBook<D>>,
+    /// An empty list. A disk of each book fits in it.
     pub(crate) room: Vec<D>,
 }
 

@@ -24,14 +24,18 @@ use std::alloc::{AllocError, Global};
 /// Two files of one auction, which can go on under the second.
 #[derive(Drop)]
 struct Files {
+    /// The one that the journals belong to now.
     old: Auction,
+    /// The one that the auction goes on under, which is of version 2.
     new: Auction,
 }
 
 /// What is moved: the clocks of an auction, in the order of their numbers, and the other file of it.
 #[derive(Drop)]
 struct Move {
+    /// With the reports of the old journals, clock 0 first.
     clocks: Vec<Clock>,
+    /// What the new file says: the targets are journals of it.
     auction: Auction,
 }
 

@@ -1,5 +1,5 @@
 -- The auction is read, then it is seen whether it has the bidder, and then the valuations are read.
-use Rattle.std.proofs.Common.{inl, refl, arith}
+use Rattle.std.proofs.Common.{◌≤◌, inl, refl, arith}
 use Rattle.auction_file.specs.Listing.{listing_of}
 use Rattle.house_run.specs.BidCommand.{bid_needs}
 use Rattle.house_run.specs.Causes.{Tells}
@@ -55,5 +55,6 @@ returns-in-Err-read_values-clause-ends g c = λ b same.
     let known = known-by c.args.auction.now seen auction.terms (listing_of auction) files faults names c.in-Ok.ensures.read (terms-of auction) c.read_auction.ensures.reads.unchanged c.in-Ok.ensures.opened c.in-Ok.ensures.steady in
     let has_terms = terms-then c.args.auction.now seen auction.terms files faults names known c.read_values.ensures.reads.unchanged in
     let needs = bid_needs c.args.auction.now c.args.values.now b in
-    let leaves = values-ends c.in-Err-read_values.ended needs c.args.auction.now c.args.values.now seen auction.terms files faults names (bid-two c.args.auction.now c.args.values.now b) known has_terms c.read_values.ensures.reads c.in-Err-read_values.ensures.refused in
+    let within : b.bidder ≤ auction.terms.bidders = omega arith in
+    let leaves = values-ends c.in-Err-read_values.ended needs c.args.auction.now c.args.values.now seen auction.terms files faults names (bid-two c.args.auction.now c.args.values.now b) known (record { terms_are = has_terms; bidder = within }) c.read_values.ensures.reads c.in-Err-read_values.ensures.refused in
     record { cause = λ net. inl leaves.cause; frame = leaves.frame }

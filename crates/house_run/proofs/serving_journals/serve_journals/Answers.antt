@@ -16,13 +16,13 @@ returns-in-Err g c =
     let value = c.args.auction.now in
     let journals = c.args.journals.now in
     let shelf = shelf_seen g.H.Shelf.files g.H.Shelf.faults g.H.Shelf.opened c.args.shelf.now c.open_journals.new.shelf in
-    let net = net_seen g.N.Net.told g.N.Door.Door.told g.N.Door.Link.Link.told g.N.Link.Link.told g.N.Net.faults c.args.net.now c.args.net.now in
+    let net = net_seen g.N.Net.told g.N.Door.Door.told g.N.Door.Link.Link.told g.N.Door.Link.Link.faults g.N.Link.Link.told g.N.Net.faults c.args.net.now c.args.net.now in
     let same = c.deref.ensures.value in
     let are = subst (λ (names : List (String Global)). AreNames journals names) (sym same) c.in-Ok.ensures.names in
     let long : length c.deref.result.now ≡ value.terms.bidders + 1 = ap length same ∙ c.in-Ok.ensures.count in
     let not = subst (λ (n : ℕ). AreNotOpen journals n c.in-Err.unread.clock c.in-Err.unread.fault shelf) long (c.in-Err.ensures.refused journals are) in
     subst (λ (end : Ended). JournalsNotServed value journals shelf net end) (sym c.end_at.ensures)
-    (none-opened c.in-Err.unread.fault value journals c.in-Err.unread.clock shelf (option_map (net_view g.N.Door.Door.told g.N.Door.Link.Link.told g.N.Link.Link.told) (g.N.Net.told c.args.net.now)) (g.N.Net.faults c.args.net.now) not)
+    (none-opened c.in-Err.unread.fault value journals c.in-Err.unread.clock shelf (option_map (net_view g.N.Door.Door.told g.N.Door.Link.Link.told g.N.Door.Link.Link.faults g.N.Link.Link.told) (g.N.Net.told c.args.net.now)) (g.N.Net.faults c.args.net.now) not)
 
 pub close_journals-requires-clause-opened : goal.close_journals-requires-clause-opened
 close_journals-requires-clause-opened g c κs within =

@@ -12,7 +12,7 @@ use Rattle.house_run.proofs.commands.bid.job.Goals as goal
 
 pub returns-in-Err-clause-answer : goal.returns-in-Err-clause-answer
 returns-in-Err-clause-answer g c =
-    let net = net_seen g.N.Net.told g.N.Door.Door.told g.N.Door.Link.Link.told g.N.Link.Link.told g.N.Net.faults c.args.net.now c.args.net.now in
+    let net = net_seen g.N.Net.told g.N.Door.Door.told g.N.Door.Link.Link.told g.N.Door.Link.Link.faults g.N.Link.Link.told g.N.Net.faults c.args.net.now c.args.net.now in
     (c.in-Err.ensures.ends (bidding_as c.args.bidding.now) refl).cause net
 
 pub returns-in-Err-clause-frame : goal.returns-in-Err-clause-frame
@@ -24,7 +24,7 @@ returns-in-Err-clause-net_frame g c = bid-leaves c.args.auction.now c.args.value
 pub returns-in-Err-talk-clause-answer : goal.returns-in-Err-talk-clause-answer
 returns-in-Err-talk-clause-answer g c =
     let seen = outside g.H.Shelf.files g.H.Shelf.faults g.H.Shelf.opened c.args.shelf.now c.read_bidders.new.shelf in
-    let net = net_seen g.N.Net.told g.N.Door.Door.told g.N.Door.Link.Link.told g.N.Link.Link.told g.N.Net.faults c.args.net.now c.talk.new.net in
+    let net = net_seen g.N.Net.told g.N.Door.Door.told g.N.Door.Link.Link.told g.N.Door.Link.Link.faults g.N.Link.Link.told g.N.Net.faults c.args.net.now c.talk.new.net in
     let b = bidding_as c.args.bidding.now in
     let market = c.in-Ok.market in
     let part = part_in market.auction.terms market.valuations.items b in

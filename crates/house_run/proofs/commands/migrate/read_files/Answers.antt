@@ -1,5 +1,6 @@
 -- One file is read, and then the other one.
 use Rattle.std.proofs.Common.{[], refl}
+use Rattle.auction_file.specs.Listing.{listing_of}
 use Rattle.house_run.specs.Seen.{outside, shelf_seen}
 use Rattle.house_run.proofs.MoveSteps.{OldRead, files-read, first-stops, second-stops, terms-stop}
 use Rattle.house_run.proofs.commands.migrate.read_files.Goals as goal
@@ -16,7 +17,8 @@ returns-in-Err-read_auction-clause-stops g c = λ journals target.
     let faults = g.H.Shelf.faults c.read_auction.new.shelf in
     let names = g.H.Shelf.opened c.read_auction.new.shelf in
     let r : OldRead c.args.old.now seen.shelf files faults names = record { unchanged = c.read_auction.ensures.reads.unchanged; steady = c.in-Ok.ensures.steady; opened = c.in-Ok.ensures.opened } in
-    second-stops c.args.old.now journals c.args.new.now target seen files faults names r c.read_auction-2.ensures.reads c.in-Err-read_auction.ended c.in-Err-read_auction.ensures.refused
+    let one = shelf_seen g.H.Shelf.files g.H.Shelf.faults g.H.Shelf.opened c.args.shelf.now c.read_auction.new.shelf in
+    second-stops c.args.old.now journals c.args.new.now target seen files faults names r c.read_auction-2.ensures.reads c.in-Err-read_auction.ended (listing_of c.in-Ok.first) one refl c.in-Ok.ensures.read c.in-Err-read_auction.ensures.refused
 
 pub returns-then-is_same_auction-clause-read : goal.returns-then-is_same_auction-clause-read
 returns-then-is_same_auction-clause-read g c =

@@ -12,7 +12,7 @@ use Rattle.house_run.proofs.commands.serve.job.Goals as goal
 pub returns-in-Err-clause-answer : goal.returns-in-Err-clause-answer
 returns-in-Err-clause-answer g c =
     let seen = outside g.H.Shelf.files g.H.Shelf.faults g.H.Shelf.opened c.args.shelf.now c.read_auction.new.shelf in
-    let net = net_seen g.N.Net.told g.N.Door.Door.told g.N.Door.Link.Link.told g.N.Link.Link.told g.N.Net.faults c.args.net.now c.args.net.now in
+    let net = net_seen g.N.Net.told g.N.Door.Door.told g.N.Door.Link.Link.told g.N.Door.Link.Link.faults g.N.Link.Link.told g.N.Net.faults c.args.net.now c.args.net.now in
     refused-answer c.args.auction.now c.args.journals.now (serving_as c.args.serving.now) c.in-Err.ended seen net c.read_auction.ensures.reads c.in-Err.ensures.refused
 
 pub returns-in-Err-clause-frame : goal.returns-in-Err-clause-frame
@@ -26,7 +26,7 @@ returns-in-Err-serve_journals-clause-answer g c =
     let value = c.in-Ok.auction in
     let first = shelf_seen g.H.Shelf.files g.H.Shelf.faults g.H.Shelf.opened c.args.shelf.now c.read_auction.new.shelf in
     let seen = outside g.H.Shelf.files g.H.Shelf.faults g.H.Shelf.opened c.args.shelf.now c.serve_journals.new.shelf in
-    let net = net_seen g.N.Net.told g.N.Door.Door.told g.N.Door.Link.Link.told g.N.Link.Link.told g.N.Net.faults c.args.net.now c.serve_journals.new.net in
+    let net = net_seen g.N.Net.told g.N.Door.Door.told g.N.Door.Link.Link.told g.N.Door.Link.Link.faults g.N.Link.Link.told g.N.Net.faults c.args.net.now c.serve_journals.new.net in
     let files = g.H.Shelf.files c.read_auction.new.shelf in
     let faults = g.H.Shelf.faults c.read_auction.new.shelf in
     let names = g.H.Shelf.opened c.read_auction.new.shelf in
@@ -40,7 +40,7 @@ returns-in-Err-serve_journals-clause-frame g c =
     let value = c.in-Ok.auction in
     let first = shelf_seen g.H.Shelf.files g.H.Shelf.faults g.H.Shelf.opened c.args.shelf.now c.read_auction.new.shelf in
     let seen = outside g.H.Shelf.files g.H.Shelf.faults g.H.Shelf.opened c.args.shelf.now c.serve_journals.new.shelf in
-    let net = net_seen g.N.Net.told g.N.Door.Door.told g.N.Door.Link.Link.told g.N.Link.Link.told g.N.Net.faults c.args.net.now c.serve_journals.new.net in
+    let net = net_seen g.N.Net.told g.N.Door.Door.told g.N.Door.Link.Link.told g.N.Door.Link.Link.faults g.N.Link.Link.told g.N.Net.faults c.args.net.now c.serve_journals.new.net in
     let files = g.H.Shelf.files c.read_auction.new.shelf in
     let faults = g.H.Shelf.faults c.read_auction.new.shelf in
     let names = g.H.Shelf.opened c.read_auction.new.shelf in
@@ -54,7 +54,7 @@ returns-in-Ok-serve_text-clause-answer g c =
     let value = c.in-Ok.auction in
     let first = shelf_seen g.H.Shelf.files g.H.Shelf.faults g.H.Shelf.opened c.args.shelf.now c.read_auction.new.shelf in
     let seen = outside g.H.Shelf.files g.H.Shelf.faults g.H.Shelf.opened c.args.shelf.now c.serve_journals.new.shelf in
-    let net = net_seen g.N.Net.told g.N.Door.Door.told g.N.Door.Link.Link.told g.N.Link.Link.told g.N.Net.faults c.args.net.now c.serve_journals.new.net in
+    let net = net_seen g.N.Net.told g.N.Door.Door.told g.N.Door.Link.Link.told g.N.Door.Link.Link.faults g.N.Link.Link.told g.N.Net.faults c.args.net.now c.serve_journals.new.net in
     let files = g.H.Shelf.files c.read_auction.new.shelf in
     let faults = g.H.Shelf.faults c.read_auction.new.shelf in
     let names = g.H.Shelf.opened c.read_auction.new.shelf in
@@ -69,7 +69,7 @@ returns-in-Ok-serve_text-clause-frame g c =
     let value = c.in-Ok.auction in
     let first = shelf_seen g.H.Shelf.files g.H.Shelf.faults g.H.Shelf.opened c.args.shelf.now c.read_auction.new.shelf in
     let seen = outside g.H.Shelf.files g.H.Shelf.faults g.H.Shelf.opened c.args.shelf.now c.serve_journals.new.shelf in
-    let net = net_seen g.N.Net.told g.N.Door.Door.told g.N.Door.Link.Link.told g.N.Link.Link.told g.N.Net.faults c.args.net.now c.serve_journals.new.net in
+    let net = net_seen g.N.Net.told g.N.Door.Door.told g.N.Door.Link.Link.told g.N.Door.Link.Link.faults g.N.Link.Link.told g.N.Net.faults c.args.net.now c.serve_journals.new.net in
     let files = g.H.Shelf.files c.read_auction.new.shelf in
     let faults = g.H.Shelf.faults c.read_auction.new.shelf in
     let names = g.H.Shelf.opened c.read_auction.new.shelf in
@@ -83,7 +83,7 @@ returns-clause-frame g c =
     let value = c.in-Ok.auction in
     let first = shelf_seen g.H.Shelf.files g.H.Shelf.faults g.H.Shelf.opened c.args.shelf.now c.read_auction.new.shelf in
     let seen = outside g.H.Shelf.files g.H.Shelf.faults g.H.Shelf.opened c.args.shelf.now c.serve_journals.new.shelf in
-    let net = net_seen g.N.Net.told g.N.Door.Door.told g.N.Door.Link.Link.told g.N.Link.Link.told g.N.Net.faults c.args.net.now c.serve_journals.new.net in
+    let net = net_seen g.N.Net.told g.N.Door.Door.told g.N.Door.Link.Link.told g.N.Door.Link.Link.faults g.N.Link.Link.told g.N.Net.faults c.args.net.now c.serve_journals.new.net in
     let files = g.H.Shelf.files c.read_auction.new.shelf in
     let faults = g.H.Shelf.faults c.read_auction.new.shelf in
     let names = g.H.Shelf.opened c.read_auction.new.shelf in
