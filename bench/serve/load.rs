@@ -1,0 +1,118 @@
+//! One bidder of the benchmark of `serve`, in plain Rust, so that the bidders take little of the processors: load PORT BIDDER CLOCKS SECONDS STAY.
+//!
+//! For so many seconds it looks at each of the clocks 0 to CLOCKS - 1 but its own, in turns, and reports once in each round that it sees. Where STAY is
+//! 1 it does so in one session; where it is 0 each look, with its report, is a session of its own. It prints how many reports were taken, and in a
+//! second line how many microseconds each look took.
+use std::env;
+use std::io::{Error, ErrorKind, Read, Result, Write};
+use std::net::TcpStream;
+use std::thread::sleep;
+use std::time::{Duration, Instant};
+
+const HELLO: u8 = 1;
+const LOOK: u8 = 2;
+const REPORT: u8 = 3;
+const QUIT: u8 = 4;
+const WELCOME: u8 = 17;
+const PRICE: u8 = 18;
+const TAKEN: u8 = 19;
+const AGAIN: u8 = 20;
+const BYE: u8 = 22;
+
+/// All units of the one good, which keeps a clock running for some thousand rounds.
+const SUPPLY: u16 = 12;
+
+/// The most looks whose times are told.
+const TOLD: usize = 20_000;
+
+/// Sends a frame and takes the reply: its kind and its payload.
+fn ask(link: &mut TcpStream, kind: u8, payload: &[u8]) -> Result<(u8, Vec<u8>)> {
+    let mut frame = (payload.len() as u32).to_be_bytes().to_vec();
+    frame.push(kind);
+    frame.extend_from_slice(payload);
+    link.write_all(&frame)?;
+    let mut head = [0; 5];
+    link.read_exact(&mut head)?;
+    let mut reply = vec![0; u32::from_be_bytes([head[0], head[1], head[2], head[3]]) as usize];
+    link.read_exact(&mut reply)?;
+    Ok((head[4], reply))
+}
+
+/// The payload of a reply of one of these kinds.
+fn expect(kinds: &[u8], (kind, payload): (u8, Vec<u8>)) -> Result<Vec<u8>> {
+    if kinds.contains(&kind) {
+        return Ok(payload);
+    }
+    Err(Error::new(ErrorKind::InvalidData, format!("a reply of kind {kind}")))
+}
+
+/// A link to the house, which may not listen yet.
+fn connect(port: u16) -> Result<TcpStream> {
+    let end = Instant::now() + Duration::from_secs(10);
+    loop {
+        match TcpStream::connect(("127.0.0.1", port)) {
+            Err(error) if Instant::now() >= end => return Err(error),
+            Err(_) => sleep(Duration::from_millis(2)),
+            Ok(link) => {
+                link.set_nodelay(true)?;
+                return Ok(link);
+            }
+        }
+    }
+}
+
+/// A session of this bidder.
+fn begin(port: u16, bidder: u8) -> Result<TcpStream> {
+    let mut link = connect(port)?;
+    let mut hello = vec![bidder];
+    hello.extend_from_slice(format!("token-{bidder}").as_bytes());
+    expect(&[WELCOME], ask(&mut link, HELLO, &hello)?)?;
+    Ok(link)
+}
+
+/// The round of a clock.
+fn look(link: &mut TcpStream, clock: u8) -> Result<u32> {
+    let price = expect(&[PRICE], ask(link, LOOK, &[clock])?)?;
+    Ok(u32::from_be_bytes([price[1], price[2], price[3], price[4]]))
+}
+
+fn report(link: &mut TcpStream, clock: u8, round: u32) -> Result<()> {
+    let mut payload = vec![clock];
+    payload.extend_from_slice(&round.to_be_bytes());
+    payload.extend_from_slice(&[1, 0, 1]);
+    payload.extend_from_slice(&SUPPLY.to_be_bytes());
+    expect(&[TAKEN, AGAIN], ask(link, REPORT, &payload)?)?;
+    Ok(())
+}
+
+fn main() -> Result<()> {
+    let words: Vec<u64> = env::args().skip(1).map(|word| word.parse().expect("a number")).collect();
+    let [port, bidder, clocks, seconds, stay] = words[..] else {
+        return Err(Error::new(ErrorKind::InvalidInput, "load PORT BIDDER CLOCKS SECONDS STAY"));
+    };
+    let mut link = begin(port as u16, bidder as u8)?;
+    let mut reported = vec![0; clocks as usize];
+    let (mut reports, mut looks) = (0, Vec::new());
+    let end = Instant::now() + Duration::from_secs(seconds);
+    while Instant::now() < end {
+        for clock in (0..clocks as usize).filter(|clock| *clock != bidder as usize) {
+            let begun = Instant::now();
+            let round = look(&mut link, clock as u8)?;
+            looks.push(begun.elapsed().as_micros());
+            if reported[clock] != round {
+                report(&mut link, clock as u8, round)?;
+                reported[clock] = round;
+                reports += 1;
+            }
+            if stay == 0 {
+                expect(&[BYE], ask(&mut link, QUIT, &[])?)?;
+                link = begin(port as u16, bidder as u8)?;
+            }
+        }
+    }
+    expect(&[BYE], ask(&mut link, QUIT, &[])?)?;
+    looks.truncate(TOLD);
+    println!("{reports}");
+    println!("{}", looks.iter().map(u128::to_string).collect::<Vec<_>>().join(" "));
+    Ok(())
+}
