@@ -87,8 +87,8 @@ or-false true = refl
 or-false false = refl
 
 -- the totals with a bundle more, from the marks of those with which it fits and the table shifted by its place
-pub joined-with : (s x : List ℕ) (table marks before after : List Bool) → length table ≡ box_size s → AtMost x s → Fits s x marks → IsJoined marks (drop (index_of s x) table) before after → IsWith s table x before after
-joined-with s x table marks before after sized box fits joined = record { size = joined.size; each = λ place below. by place below (is_within s (plus (bundle_at s place) x)) refl }
+pub joined-with : (s x : List ℕ) (table marks before after : List Bool) → length table ≡ box_size s → AtMost x s → Fits s x marks → length marks ≡ length (drop (index_of s x) table) → IsJoined marks (drop (index_of s x) table) before after → IsWith s table x before after
+joined-with s x table marks before after sized box fits marked joined = record { size = joined.size; each = λ place below. by place below (is_within s (plus (bundle_at s place) x)) refl }
   where
     total : ℕ → List ℕ
     total place = plus (bundle_at s place) x
@@ -100,7 +100,7 @@ joined-with s x table marks before after sized box fits joined = record { size =
     inside place w e short =
         let z = length-drop (index_of s x) table in
         joined.each place short
-        ∙ ap (λ m. slice_index_or before place false || (m && slice_index_or (drop (index_of s x) table) place false)) (fits.each place (omega arith) ∙ e)
+        ∙ ap (λ m. slice_index_or before place false || (m && slice_index_or (drop (index_of s x) table) place false)) (fits.each place (omega (arith, short, marked)) ∙ e)
 
     outside : (place : ℕ) → (place < length (drop (index_of s x) table)) ⊎ (length (drop (index_of s x) table) ≤ place) → is_within s (total place) ≡ false → slice_index_or after place false ≡ (slice_index_or before place false || false)
     outside place (inl short) e = inside place false e short

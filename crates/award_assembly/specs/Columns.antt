@@ -18,10 +18,9 @@ pub record IsKept (column : List ℕ) (most : ℕ) (before after : List Bool) : 
   pub size : length after ≡ length before
   pub each : (place : ℕ) → place < length before → slice_index_or after place false ≡ (slice_index_or before place false && nat_le (slice_index column place) most)
 
--- a mark at the place of each bundle of the box: whether it is within the supply together with this one
+-- a mark at the place of each of the first bundles of the box: whether it is within the supply together with this one
 pub record Fits (supply bundle : List ℕ) (marks : List Bool) : Type 0 where
-  pub size : length marks ≡ box_size supply
-  pub each : (place : ℕ) → place < box_size supply → slice_index_or marks place false ≡ is_within supply (plus (bundle_at supply place) bundle)
+  pub each : (place : ℕ) → place < length marks → slice_index_or marks place false ≡ is_within supply (plus (bundle_at supply place) bundle)
 
 -- with the truth values of a further list, where they are marked, joined to those before
 pub record IsJoined (marks further before after : List Bool) : Type 0 where

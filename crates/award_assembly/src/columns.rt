@@ -36,11 +36,12 @@ impl Column {
 
     /// Leaves the marks of the bundles that have no more than this of the good.
     fn keep_within(&self, most: u16, marks: &mut [bool])
-        requires { length marks.old ≡ length self.now }
+        requires { length marks.old ≤ length self.now }
         ensures { IsKept self.now most marks.old marks.new }
     {
+        let quantities = self.quantities.as_slice();
         for place in 0..marks.len() {
-            marks[place] = marks[place] & (self.quantities[place] <= most);
+            marks[place] = marks[place] & (quantities[place] <= most);
         }
     }
 }
@@ -56,12 +57,13 @@ pub(crate) fn columns_of(alloc: Global, goods: &Goods) -> Result<Vec<Column>, Al
     Ok(columns)
 }
 
-/// Marks the bundles that are within the supply together with this one.
+/// Marks those of the first bundles that are within the supply together with this one.
 pub(crate) fn mark_fitting(goods: &Goods, columns: &[Column], bundle: &Bundle, marks: &mut [bool])
     requires columns { AreColumns goods.now columns.now }
     requires bundle { AtMost bundle.now goods.now }
-    requires size { length marks.old ≡ box_size goods.now }
-    ensures { Fits goods.now bundle.now marks.new }
+    requires size { length marks.old ≤ box_size goods.now }
+    ensures fits { Fits goods.now bundle.now marks.new }
+    ensures size { length marks.new ≡ length marks.old }
 {
     marks.fill(true);
     for good in 0..goods.count() {

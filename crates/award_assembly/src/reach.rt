@@ -66,9 +66,11 @@ impl Reach {
         let size = goods.box_size() as usize;
         let mut totals = vec![in alloc; false; size]?;
         let mut marks = vec![in alloc; false; size]?;
+        let mut all = false;
         for number in 0..demand.len() {
-            if !are_all_true(&totals) {
+            if !all {
                 self.join(goods, columns, &demand.get(number), &mut totals, &mut marks);
+                all = are_all_true(&totals);
             }
         }
         Ok(Reach { totals })
@@ -89,9 +91,10 @@ impl Reach {
         ensures totals { IsWith goods.now self.now bundle.now totals.old totals.new }
         ensures marks { length marks.new ≡ length marks.old }
     {
-        mark_fitting(goods, columns, bundle, marks);
         let further = self.totals.split_at(goods.index(bundle) as usize).1;
-        join_marked(totals, marks, further);
+        let fitting = &mut marks[..further.len()];
+        mark_fitting(goods, columns, bundle, fitting);
+        join_marked(totals, fitting, further);
     }
 
     /// The first bundle of a demand that makes a true total with what is taken.
@@ -138,7 +141,7 @@ fn are_all_true(totals: &[bool]) -> bool
 
 /// Joins further truth values to the totals, where they are marked.
 fn join_marked(totals: &mut [bool], marks: &[bool], further: &[bool])
-    requires marks { length marks.now ≡ length totals.old }
+    requires marks { length marks.now ≡ length further.now }
     requires further { length further.now ≤ length totals.old }
     ensures { IsJoined marks.now further.now totals.old totals.new }
 {

@@ -6,14 +6,14 @@ use Rattle.lot_base.proofs.Vec.{length-below}
 use Rattle.award_assembly.proofs.Marking.{Marks, marks-all}
 use Rattle.award_assembly.proofs.columns.mark_fitting.Goals as goal
 
-pub returns : goal.returns
-returns c =
+pub returns-clause-fits : goal.returns-clause-fits
+returns-clause-fits c =
     let s = c.args.goods.now in
     let x = c.args.bundle.now in
     let all : c.loop-good.good ≡ length s = omega (arith, c.count-good-end.ensures.length) in
     record {
-      size = c.loop-good.invariant.0;
       each = λ place below.
-          let m = c.loop-good.invariant.1 place below in
+          let size = c.loop-good.invariant.0 in
+          let m = c.loop-good.invariant.1 place (omega (arith, below, size)) in
           marks-all s (bundle_at s place) x (slice_index_or c.loop-good.marks place false) (length-bundle_at s place) (length-below x s c.requires.bundle) (subst (λ (n : ℕ). Marks s (bundle_at s place) x n (slice_index_or c.loop-good.marks place false)) all m);
     }

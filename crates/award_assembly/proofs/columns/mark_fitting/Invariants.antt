@@ -5,4 +5,4 @@ use Rattle.award_assembly.proofs.Marking.{Marks}
 use Rattle.award_assembly.proofs.columns.mark_fitting.Given as goal
 
 abbrev pub invariant-loop-good : goal.invariant-loop-good
-invariant-loop-good l = (length l.marks ≡ box_size l.goods) × ((place : ℕ) → place < box_size l.goods → Marks l.goods (bundle_at l.goods place) l.bundle l.good (slice_index_or l.marks place false))
+invariant-loop-good l = (length l.marks ≡ length l.initial.marks) × ((place : ℕ) → place < length l.initial.marks → Marks l.goods (bundle_at l.goods place) l.bundle l.good (slice_index_or l.marks place false))

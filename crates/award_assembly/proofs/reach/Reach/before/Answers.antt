@@ -1,34 +1,35 @@
 use Rattle.std.proofs.Common.{◌≡◌, ◌∙◌, ◌+◌, sym, ap, subst, length, List, Bool, arith}
 use Rattle.std.proofs.lemmas.List.{with_items_is}
-use Rattle.lot_base.specs.Goods.{box_size}
 use Rattle.award_assembly.specs.Remaining.{IsWith, AreAllTrue}
 use Rattle.award_assembly.proofs.Searching.{IsSearched, searched-more, searched-still, searched-all}
-use Rattle.award_assembly.proofs.reach.Reach.before.Goals.{then-not-are_all_true, else-not-are_all_true}
+use Rattle.award_assembly.proofs.reach.Reach.before.Goals.{then-not-all, else-not-all}
 use Rattle.award_assembly.proofs.reach.Reach.before.Goals as goal
 
 pub loop-number-preserved : goal.loop-number-preserved
 loop-number-preserved c =
     let s = c.args.goods.now in
-    elim c.if-not-are_all_true.branch [
-      | then-not-are_all_true w ↦
-          let totals : c.if-not-are_all_true.totals.items ≡ w.join.new.totals =
+    elim c.if-not-all.branch [
+      | then-not-all w ↦
+          let totals : c.if-not-all.totals.items ≡ w.join.new.totals =
           ap (λ v. v.items) w.totals-is
           ∙ with_items_is c.loop-number.totals w.join.new.totals (w.join.ensures.totals.size ∙ ap length w.deref_mut.ensures.value ∙ sym c.loop-number.totals.ok.0) in
-          let marks : c.if-not-are_all_true.marks.items ≡ w.join.new.marks =
+          let marks : c.if-not-all.marks.items ≡ w.join.new.marks =
           ap (λ v. v.items) w.marks-is
-          ∙ with_items_is c.loop-number.marks w.join.new.marks (w.join.ensures.marks ∙ ap length w.deref_mut-then-not-are_all_true.ensures.value ∙ sym c.loop-number.marks.ok.0) in
+          ∙ with_items_is c.loop-number.marks w.join.new.marks (w.join.ensures.marks ∙ ap length w.deref_mut-then-not-all.ensures.value ∙ sym c.loop-number.marks.ok.0) in
           let joined = subst (λ (before : List Bool). IsWith s c.args.self.now w.get.result before w.join.new.totals) w.deref_mut.ensures.value w.join.ensures.totals in
-          let more = searched-more s c.args.self.now c.args.demand.now c.loop-number.number w.get.result c.loop-number.totals.items w.join.new.totals w.get.ensures c.loop-number.invariant.0 joined in (
-            subst (λ (xs : List Bool). IsSearched s c.args.self.now c.args.demand.now (c.loop-number.number + 1) xs) (sym totals) more,
-            ap length marks ∙ w.join.ensures.marks ∙ ap length w.deref_mut-then-not-are_all_true.ensures.value ∙ c.loop-number.invariant.1,
-          )
-      | else-not-are_all_true w ↦
-          let all = subst (λ (xs : List Bool). AreAllTrue xs) c.deref.ensures.value (c.are_all_true.ensures w.if-not-are_all_true.false) in
-          let still = searched-still s c.args.self.now c.args.demand.now c.loop-number.number c.loop-number.totals.items c.loop-number.invariant.0 all in (
-            subst (λ (xs : List Bool). IsSearched s c.args.self.now c.args.demand.now (c.loop-number.number + 1) xs) (sym (ap (λ v. v.items) w.totals-is)) still,
-            ap (λ v. length v.items) w.marks-is ∙ c.loop-number.invariant.1,
-          )
+          let more = searched-more s c.args.self.now c.args.demand.now c.loop-number.number w.get.result c.loop-number.totals.items w.join.new.totals w.get.ensures c.loop-number.invariant.searched joined in record {
+            searched = subst (λ (xs : List Bool). IsSearched s c.args.self.now c.args.demand.now (c.loop-number.number + 1) xs) (sym totals) more;
+            marks = ap length marks ∙ w.join.ensures.marks ∙ ap length w.deref_mut-then-not-all.ensures.value ∙ c.loop-number.invariant.marks;
+            all = λ is. subst (λ (xs : List Bool). AreAllTrue xs) (w.deref.ensures.value ∙ sym (ap (λ v. v.items) w.totals-is)) (w.are_all_true-all.ensures (sym w.all-is ∙ is));
+          }
+      | else-not-all w ↦
+          let all = c.loop-number.invariant.all w.if-not-all.false in
+          let still = searched-still s c.args.self.now c.args.demand.now c.loop-number.number c.loop-number.totals.items c.loop-number.invariant.searched all in record {
+            searched = subst (λ (xs : List Bool). IsSearched s c.args.self.now c.args.demand.now (c.loop-number.number + 1) xs) (sym (ap (λ v. v.items) w.totals-is)) still;
+            marks = ap (λ v. length v.items) w.marks-is ∙ c.loop-number.invariant.marks;
+            all = λ is. subst (λ (xs : List Bool). AreAllTrue xs) (sym (ap (λ v. v.items) w.totals-is)) all;
+          }
     ]
 
 pub returns : goal.returns
-returns c = λ opening p behind reach. searched-all c.args.goods.now opening p c.args.self.now c.args.demand.now behind c.loop-number.number c.loop-number.totals.items reach c.requires.demand.in_box (omega (arith, c.len-number-end.ensures.value)) c.loop-number.invariant.0
+returns c = λ opening p behind reach. searched-all c.args.goods.now opening p c.args.self.now c.args.demand.now behind c.loop-number.number c.loop-number.totals.items reach c.requires.demand.in_box (omega (arith, c.len-number-end.ensures.value)) c.loop-number.invariant.searched

@@ -1,4 +1,5 @@
-use Rattle.std.proofs.Common.{◌≡◌, ◌≤◌, ◌∙◌, sym, ap, subst, drop, length, List, Bool, ℕ, arith}
+use Rattle.std.proofs.Common.{◌≡◌, ◌≤◌, ◌∙◌, sym, ap, subst, drop, length, length-drop, List, Bool, ℕ, arith}
+use Rattle.std.proofs.lemmas.List.{length-take-le}
 use Rattle.lot_base.specs.Goods.{box_size}
 use Rattle.lot_base.specs.Box.{index_of}
 use Rattle.lot_base.proofs.Index.{index_of-small}
@@ -16,5 +17,8 @@ pub returns-clause-totals : goal.returns-clause-totals
 returns-clause-totals c =
     let whole : c.deref.result.now ≡ c.args.self.now = c.deref.ensures.value ∙ c.self.view_is in
     let back : c.split_at.result.1.now ≡ drop (index_of c.args.goods.now c.args.bundle.now) c.args.self.now = c.split_at.ensures.back ∙ (λ i. drop (c.index.ensures.digits i) (whole i)) in
-    joined-with c.args.goods.now c.args.bundle.now c.args.self.now c.mark_fitting.new.marks c.args.totals.now c.join_marked.new.totals c.requires.size.0 c.requires.bundle c.mark_fitting.ensures
+    let marked : length c.mark_fitting.new.marks ≡ length (drop (index_of c.args.goods.now c.args.bundle.now) c.args.self.now) =
+    let l = ap length back ∙ length-drop (index_of c.args.goods.now c.args.bundle.now) c.args.self.now in
+    c.mark_fitting.ensures.size ∙ length-take-le (length c.split_at.result.1.now) c.args.marks.now (omega (arith, l, c.requires.size.0, c.requires.size.2)) ∙ ap length back in
+    joined-with c.args.goods.now c.args.bundle.now c.args.self.now c.mark_fitting.new.marks c.args.totals.now c.join_marked.new.totals c.requires.size.0 c.requires.bundle c.mark_fitting.ensures.fits marked
     (subst (λ (further : List Bool). IsJoined c.mark_fitting.new.marks further c.args.totals.now c.join_marked.new.totals) back c.join_marked.ensures)
