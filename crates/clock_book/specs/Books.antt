@@ -3,6 +3,7 @@ use Rattle.std.specs.Prelude.{◌≡◌, ℕ, ◌+◌, ◌*◌, ◌≤◌, min, 
 use Rattle.std.specs.List.{concat}
 use Rattle.std.specs.Option.{option_map}
 use Rattle.lot_base.specs.Goods.{box_size}
+use Rattle.lot_base.specs.declared.limits.TheConstants.{GREATEST_FILE}
 use Rattle.lot_base.specs.declared.auction_terms.Terms.{Terms}
 use Rattle.demand_set.specs.declared.reports.Report.{Report}
 use Rattle.clock.specs.Reports.{ClockHistory, most_reports}
@@ -28,15 +29,16 @@ pub record BookOf (D : Type 0) : Type 0 where
   pub state : BookState
   pub origin : Origin
 
--- What a book keeps, as its callers see it. Its history is legal. The disk's file stands for its reports, or for these and the
--- pending one, at each image that a crash may leave now; and it stood for a front of them since the opening was answered. A disk that
--- tells told then.
+-- What a book keeps, as its callers see it. Its history is legal, and its records and their gate end within the limit of a file. The
+-- disk's file stands for its reports, or for these and the pending one, at each image that a crash may leave now; and it stood for a
+-- front of them since the opening was answered. A disk that tells told then.
 pub record IsKept {D : Type 0} (told : Type 0) (ms : Moments) (faults : ℕ) (b : BookOf D) : Type 0 where
   pub legal : IsLegal b.state.clock
   pub terms : b.state.clock.terms ≡ b.origin.terms
   pub number : b.state.clock.number ≡ b.origin.clock
   pub reports : reports_in b.state.history ≡ b.state.clock.reports
   pub marks : marks_in b.state.history ≤ faults
+  pub limit : length (front (contents_of (owner_in b.origin) b.state.clock.reports)) + 1 ≤ GREATEST_FILE
   pub next : IfSome b.state.pending (IsNext b.state.clock)
   pub after : IfSome b.state.pending (λ r. EndsInMark b.state.history)
   pub stands : told → Leaves (IsEither (owner_in b.origin) b.state.clock.reports b.state.pending) ms.now

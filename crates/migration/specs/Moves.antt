@@ -1,12 +1,13 @@
 -- What a move of journals answers, and what it leaves.
-use Rattle.std.specs.Prelude.{◌≡◌, ◌⊎◌, ℕ, ◌<◌, ◌≤◌, Bool, IsTrue, List, length, take, slice_get, slice_index_or, Some, Result, Ok, Err, OnOk, IfErr}
+use Rattle.std.specs.Prelude.{◌≡◌, ◌⊎◌, ℕ, ◌+◌, ◌<◌, ◌≤◌, Bool, IsTrue, List, length, take, slice_get, slice_index_or, Some, Result, Ok, Err, OnOk, IfErr}
 use Rattle.lot_base.specs.declared.auction_terms.Terms.{Terms}
 use Rattle.lot_base.specs.declared.limits.TheConstants.{GREATEST_FILE}
 use Rattle.demand_set.specs.declared.reports.Report.{Report}
 use Rattle.house_io.specs.Faults.{Rose}
 use Rattle.house_io.specs.Moments.{Moments, AtEach, synced_at}
 use Rattle.clock.specs.Reports.{ClockHistory}
-use Rattle.recovery.specs.Journaled.{Owner, owner_of}
+use Rattle.report_journal.specs.Format.{front}
+use Rattle.recovery.specs.Journaled.{Owner, contents_of, owner_of}
 use Rattle.clock_book.specs.declared.faults.OpenFault.{OpenFault}
 use Rattle.clock_book.specs.declared.faults.OpenFault.TheVariants as why
 use Rattle.clock_book.specs.Opening.{IsOpening, ReadsClock, CountsFaults}
@@ -17,11 +18,12 @@ use Rattle.migration.specs.declared.faults.MoveFault.{MoveFault}
 use Rattle.migration.specs.declared.faults.MoveFault.TheVariants.{NotOpened, NotFront, Full, DiskFault, NoMemory}
 use Rattle.migration.specs.Moving.{LeavesTarget, IsFront, IsMoved, IsNoFrontAt}
 
--- a front of the reports, whose next record would end behind the limit
+-- The front of the reports that fits a journal with its gate, and whose next record would end behind the limit. There is one at most.
 pub record IsFullAt (needed : ℕ) (owner : Owner) (reports : List Report) : Type 0 where
   pub count : ℕ
   pub report : Report
   pub next : slice_get reports count ≡ Some report
+  pub fits : length (front (contents_of owner (take count reports))) + 1 ≤ GREATEST_FILE
   pub needed_is : needed ≡ record_end owner (take count reports) report
   pub beyond : GREATEST_FILE < needed
 

@@ -1,3 +1,4 @@
+use Rattle.std.proofs.Common.{arith, ◌≤◌, ◌+◌}
 use Rattle.clock_book.specs.Past.{owner_in}
 use Rattle.clock_book.proofs.Mending.{stands-either, next-of, reports-of}
 use Rattle.clock_book.proofs.books.ClockBook.clock.Goals as goal
@@ -12,6 +13,7 @@ returns-clause-kept g c =
       number = kept.number;
       reports = c.clock.ensures.reports;
       marks = kept.marks;
+      limit = omega (arith, kept.end, c.count-kept.ensures.limit);
       next = next-of b.noted b.pending kept.waits;
       after = kept.after;
       stands = λ t. stands-either (owner_in b.start) b.noted.clock.reports b.pending b.journal.contents b.journal.pending (g.D.Disk.moments b.journal.disk) kept.are (reports-of b.start.terms b.noted b.pending kept.terms kept.waits) (kept.contents t) kept.in_doubt (c.count-kept.ensures.kept t).stands;
