@@ -44,3 +44,23 @@ zip-length R [] [] all = refl
 zip-length R [] (v ∷ vs) all = absurd all
 zip-length R (u ∷ us) [] all = absurd all
 zip-length R (u ∷ us) (v ∷ vs) all = ap suc (zip-length R us vs all.1)
+
+-- of two lists side by side, what is left behind the first so many of the first
+pub zip-first : {A B : Type 0} (R : A → B → Type 0) (xs : List A) (ys rest : List B) (i : ℕ) (x : A) (y : B) → i < length xs → x ≡ get_or xs i x → AllZip R (drop i xs) ys → ys ≡ y ∷ rest → R x y
+zip-first R [] ys rest i x y below e all is = absurd (omega arith)
+zip-first R (z ∷ xs) ys rest zero x y below e all is = subst (λ w. R w y) (sym e) (subst (AllZip R (z ∷ xs)) is all).0
+zip-first R (z ∷ xs) ys rest (suc i) x y below e all is = zip-first R xs ys rest i x y (omega arith) e all is
+
+pub zip-rest : {A B : Type 0} (R : A → B → Type 0) (xs : List A) (ys rest : List B) (i : ℕ) (y : B) → i < length xs → AllZip R (drop i xs) ys → ys ≡ y ∷ rest → AllZip R (drop (i + 1) xs) rest
+zip-rest {A} {B} R xs ys rest i y below all is = let n : suc i ≡ i + 1 = omega arith in subst (λ k. AllZip R (drop k xs) rest) n (by xs i below (subst (AllZip R (drop i xs)) is all))
+  where
+    by : (xs : List A) (i : ℕ) → i < length xs → AllZip R (drop i xs) (y ∷ rest) → AllZip R (drop (suc i) xs) rest
+    by [] i below all = absurd (omega arith)
+    by (z ∷ xs) zero below all = all.1
+    by (z ∷ xs) (suc i) below all = by xs i (omega arith) all
+
+pub zip-some : {A B : Type 0} (R : A → B → Type 0) (xs : List A) (ys : List B) (i : ℕ) → i < length xs → AllZip R (drop i xs) ys → 0 < length ys
+zip-some R [] ys i below all = absurd (omega arith)
+zip-some R (z ∷ xs) [] zero below all = absurd all
+zip-some R (z ∷ xs) (y ∷ ys) zero below all = omega arith
+zip-some R (z ∷ xs) ys (suc i) below all = zip-some R xs ys i (omega arith) all

@@ -1,17 +1,17 @@
 //! What the members of a clock demand in its last round, and the first choice among it that clears.
 ghost use Rattle.std.specs.Prelude.{◌≡◌, ◌++◌, ◌∷◌, [], map, IfOk, OnOk, IsSome};
-ghost use Rattle.std.specs.List.{AllByRecursion};
+ghost use Rattle.std.specs.List.{AllByRecursion, AllZip};
 ghost use Rattle.lot_base.specs.Demands.{IsDemand};
 ghost use Rattle.lot_base.specs.declared.phases.Phase.TheVariants.{Ended};
 ghost use Rattle.clock.specs.Reports.{ClockHistory, histories, members_of, demand_in};
 ghost use Rattle.clock.specs.Standing.{phase_of, last_round, last_demands};
-ghost use Rattle.settlement.specs.Found.{IsRowOf, AreChoicesOf};
+ghost use Rattle.settlement.specs.Found.{IsFoundOf, IsRowOf, AreChoicesOf};
 
 use crate::outcome::ClockRow;
 use award_assembly::{Assembly, assemble};
 use clock::Clock;
 use demand_set::Demand;
-use lot_base::{NoMemory, Sequence, Terms};
+use lot_base::{NoMemory, Phase, Sequence, Terms};
 use std::alloc::Global;
 
 /// The rows of all clocks, or the first clock of which no choice clears.
@@ -41,6 +41,40 @@ pub(crate) fn clock_rows(
         }
     }
     Ok(Choices::All(Sequence::from_vec(rows)))
+}
+
+/// The rows of clocks that have ended, where each was found before.
+pub(crate) fn found_rows(
+    alloc: Global,
+    clocks: &[Clock],
+    found: Vec<Option<ClockRow>>,
+) -> Result<Choices, NoMemory>
+    requires found { AllZip IsFoundOf (histories clocks.now) found.items }
+    requires ended { AllByRecursion (λ (c : ClockHistory). phase_of c ≡ Ended) (histories clocks.now) }
+    ensures { IfOk result (AreChoicesOf (histories clocks.now)) }
+{
+    let mut rows = Vec::new(alloc);
+    let mut found = found.into_iter();
+    for clock in clocks {
+        let number = clock.number();
+        match found.next() {
+            Some(Some(row)) => rows.push(row)?,
+            Some(None) => return Ok(Choices::NoneOf(number)),
+            None => unreachable!(),
+        }
+    }
+    Ok(Choices::All(Sequence::from_vec(rows)))
+}
+
+/// The row of a clock, if it has ended and a choice clears.
+pub fn row_of(alloc: Global, terms: &Terms, clock: &Clock) -> Result<Option<ClockRow>, NoMemory>
+    requires { clock.now.history.terms ≡ terms.now }
+    ensures { IfOk result (IsFoundOf clock.now.history) }
+{
+    match clock.look().phase {
+        Phase::Ended => clock_row(alloc, terms, clock),
+        Phase::Running | Phase::Halted(_) => Ok(None),
+    }
 }
 
 /// The row of a clock that has ended, if a choice clears.

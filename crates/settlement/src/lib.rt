@@ -5,6 +5,7 @@ ghost use Rattle.std.specs.Prelude.{◌≡◌, ℕ, ℤ, List, IfOk};
 ghost use Rattle.std.specs.List.{AllZip};
 ghost use Rattle.clock.specs.Reports.{histories};
 ghost use Rattle.settlement.specs.Clocks.{AreClocksOf, opening_of};
+ghost use Rattle.settlement.specs.Found.{IsFoundOf};
 ghost use Rattle.settlement.specs.Settling.{IsClockRow, IsSettled, IsOutcomeOf};
 ghost use Rattle.settlement.specs.Efficient.{ExplainsAll, IsEfficientSettlement};
 ghost use Rattle.settlement.specs.Shapes.{IsWholeSettlement};
@@ -16,6 +17,7 @@ pub mod outcome;
 mod standing;
 
 use choosing::Choices;
+pub use choosing::row_of;
 use clock::Clock;
 use lot_base::{NoMemory, Prices, Sequence, Terms};
 pub use outcome::{AwardRow, ClockRow, Outcome, Settlement};
@@ -50,6 +52,34 @@ fn settle_exactly(alloc: Global, terms: &Terms, clocks: &[Clock]) -> Result<Sett
         return Ok(settlement);
     }
     match choosing::clock_rows(alloc, terms, clocks) {
+        Ok(Choices::NoneOf(clock)) => Ok(Settlement::NoAward { clock }),
+        Ok(Choices::All(rows)) => match outcome_of(alloc, terms, clocks, rows) {
+            Ok(outcome) => Ok(Settlement::Settled(outcome)),
+            Err(NoMemory) => Err(NoMemory),
+        },
+        Err(NoMemory) => Err(NoMemory),
+    }
+}
+
+/// What `settle` answers, where the row of each clock was found before.
+pub fn settle_found(
+    alloc: Global,
+    terms: &Terms,
+    clocks: &[Clock],
+    found: Vec<Option<ClockRow>>,
+) -> Result<Settlement, NoMemory>
+    requires clocks { AreClocksOf terms.now (histories clocks.now) }
+    requires found { AllZip IsFoundOf (histories clocks.now) found.items }
+    ensures outcome { IfOk result (IsOutcomeOf (histories clocks.now)) }
+    ensures whole { IfOk result IsWholeSettlement }
+{
+    if let Some(settlement) = standing::open(clocks) {
+        return Ok(settlement);
+    }
+    if let Some(settlement) = standing::halted(clocks) {
+        return Ok(settlement);
+    }
+    match choosing::found_rows(alloc, clocks, found) {
         Ok(Choices::NoneOf(clock)) => Ok(Settlement::NoAward { clock }),
         Ok(Choices::All(rows)) => match outcome_of(alloc, terms, clocks, rows) {
             Ok(outcome) => Ok(Settlement::Settled(outcome)),
