@@ -9,3 +9,4 @@ pub mod Made
 pub mod Risen
 pub mod Leading
 pub mod Leaping
+pub mod Checking

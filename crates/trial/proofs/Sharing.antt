@@ -1,21 +1,25 @@
 -- Clocks that several workers ran, put together.
 use Rattle.std.proofs.Common.{◌≡◌, ◌≢◌, ◌<◌, ◌≤◌, ◌⊎◌, inl, inr, ℕ, zero, suc, ◌+◌, ◌%◌, List, [], ◌∷◌, ◌++◌, length, map, get_or, set, Option, Some, None, is_some, true, false, refl, sym, ◌∙◌, ap, arith, subst}
 use Rattle.std.specs.Prelude.{slice_get, IfSome, IfOk, Result, Ok, ℤ}
-use Rattle.std.specs.List.{AllByRecursion, range_with_len}
+use Rattle.std.specs.List.{AllByRecursion, AllZip, range_with_len}
 use Rattle.std.proofs.Math.Seq.{get_or-append_seam}
 use Rattle.std.proofs.Math.ListN.{get_or-append}
 use Rattle.std.proofs.Math.Nat.{eq-or-lt_of_le}
 use Rattle.std.proofs.lemmas.List.{get_or-set_same, get_or-set_other, length-append, length-set}
 use Rattle.lot_base.specs.declared.auction_terms.Terms.{Terms}
 use Rattle.clock.specs.Reports.{ClockHistory, ClockOf, histories}
+use Rattle.settlement.specs.Found.{IsFoundOf}
+use Rattle.settlement.specs.declared.outcome.ClockRow.{ClockRow}
 use Rattle.settlement.proofs.Histories.{histories-push}
+use Rattle.settlement.proofs.Zips.{zip-push}
 use Rattle.trial.specs.Trials.{IsTrialHistory, IsTrial}
 use Rattle.trial.specs.Rounds.{IsTrialOf}
-use Rattle.trial.specs.Workers.{HasClock, slot_at, AreFilled, AreOfWorker, laid_over, AreLaidOver}
+use Rattle.trial.specs.declared.workers.Told.{Told}
+use Rattle.trial.specs.Workers.{IsToldOf, HasClock, slot_at, AreFilled, AreOfWorker, laid_over, AreLaidOver}
 use Rattle.trial.proofs.Finding.{all-both}
 
 -- one place more
-pub worker-next : (terms : Terms) (u : ℕ → List ℕ → ℤ) (workers worker count : ℕ) (slots next : List (Option ClockOf)) (slot : Option ClockOf) → AreOfWorker terms u workers worker count slots → next ≡ slots ++ slot ∷ []
+pub worker-next : (terms : Terms) (u : ℕ → List ℕ → ℤ) (workers worker count : ℕ) (slots next : List (Option Told)) (slot : Option Told) → AreOfWorker terms u workers worker count slots → next ≡ slots ++ slot ∷ []
     → (count % workers ≡ worker → HasClock terms u count slot) → (count % workers ≢ worker → slot ≡ None) → AreOfWorker terms u workers worker (count + 1) next
 worker-next terms u workers worker count slots next slot of is own other =
     let long : length next ≡ count + 1 = (let e = ap length is in let f = length-append slots (slot ∷ []) in let g = of.places in omega arith) in
@@ -44,15 +48,15 @@ worker-next terms u workers worker count slots next slot of is own other =
         by (inr less) = sym (before n less) ∙ of.others n less mine
 
 -- places over which so many of a part were laid
-pub record IsLaying (part old now : List (Option ClockOf)) (count : ℕ) : Type 0 where
+pub record IsLaying (part old now : List (Option Told)) (count : ℕ) : Type 0 where
   pub places : length now ≡ length old
   pub done : (n : ℕ) → n < count → n < length old → slot_at now n ≡ laid_over (slot_at part n) (slot_at old n)
   pub rest : (n : ℕ) → count ≤ n → slot_at now n ≡ slot_at old n
 
-pub laying-first : (part old : List (Option ClockOf)) → IsLaying part old old 0
+pub laying-first : (part old : List (Option Told)) → IsLaying part old old 0
 laying-first part old = record { places = refl; done = λ n below in_old. absurd (omega arith); rest = λ n above. refl }
 
-laying-by : (part old now next : List (Option ClockOf)) (count : ℕ) → IsLaying part old now count → length next ≡ length now → slot_at next count ≡ laid_over (slot_at part count) (slot_at old count)
+laying-by : (part old now next : List (Option Told)) (count : ℕ) → IsLaying part old now count → length next ≡ length now → slot_at next count ≡ laid_over (slot_at part count) (slot_at old count)
     → ((n : ℕ) → n ≢ count → slot_at next n ≡ slot_at now n) → IsLaying part old next (count + 1)
 laying-by part old now next count laying places here others = record {
   places = places ∙ laying.places;
@@ -64,7 +68,7 @@ laying-by part old now next count laying places here others = record {
     by n in_old (inl same) = ap (slot_at next) same ∙ here ∙ (λ i. laid_over (slot_at part (sym same i)) (slot_at old (sym same i)))
     by n in_old (inr less) = others n (λ same. omega arith) ∙ laying.done n less in_old
 
-pub laying-some : (part old now next : List (Option ClockOf)) (count : ℕ) (slot : Option ClockOf) → IsLaying part old now count → is_some slot ≡ true → slot_at part count ≡ slot → count < length now
+pub laying-some : (part old now next : List (Option Told)) (count : ℕ) (slot : Option Told) → IsLaying part old now count → is_some slot ≡ true → slot_at part count ≡ slot → count < length now
     → next ≡ set now count slot → IsLaying part old next (count + 1)
 laying-some part old now next count None laying some there below is = absurd (let e : false ≡ true = some in cc)
 laying-some part old now next count (Some c) laying some there below is =
@@ -72,12 +76,12 @@ laying-some part old now next count (Some c) laying some there below is =
     (ap (λ xs. get_or xs count None) is ∙ get_or-set_same now count (Some c) None below ∙ ap (λ o. laid_over o (slot_at old count)) (sym there))
     (λ n other. ap (λ xs. get_or xs n None) is ∙ get_or-set_other now count n (Some c) None other)
 
-pub laying-none : (part old now next : List (Option ClockOf)) (count : ℕ) (slot : Option ClockOf) → IsLaying part old now count → is_some slot ≡ false → slot_at part count ≡ slot → next ≡ now → IsLaying part old next (count + 1)
+pub laying-none : (part old now next : List (Option Told)) (count : ℕ) (slot : Option Told) → IsLaying part old now count → is_some slot ≡ false → slot_at part count ≡ slot → next ≡ now → IsLaying part old next (count + 1)
 laying-none part old now next count (Some c) laying none there is = absurd (let e : true ≡ false = none in cc)
 laying-none part old now next count None laying none there is =
     laying-by part old now next count laying (ap length is) (ap (λ xs. get_or xs count None) is ∙ laying.rest count (omega arith) ∙ ap (λ o. laid_over o (slot_at old count)) (sym there)) (λ n other. ap (λ xs. get_or xs n None) is)
 
-pub laid-over : (part old now : List (Option ClockOf)) (count : ℕ) → IsLaying part old now count → length old ≤ count → AreLaidOver part old now
+pub laid-over : (part old now : List (Option Told)) (count : ℕ) → IsLaying part old now count → length old ≤ count → AreLaidOver part old now
 laid-over part old now count laying all = record { places = laying.places; each = λ n below. laying.done n (omega arith) below }
 
 -- what stands at a place of a list that goes on behind some front
@@ -92,7 +96,7 @@ got {X = X} front rest all x is = ap (λ xs. slice_get xs (length front)) (sym i
     at-seam (y ∷ front) = at-seam front
 
 -- one worker's clocks more
-pub filled-next : (terms : Terms) (u : ℕ → List ℕ → ℤ) (workers before : ℕ) (part old now : List (Option ClockOf)) → AreFilled terms u workers before old → AreOfWorker terms u workers before (terms.bidders + 1) part → AreLaidOver part old now
+pub filled-next : (terms : Terms) (u : ℕ → List ℕ → ℤ) (workers before : ℕ) (part old now : List (Option Told)) → AreFilled terms u workers before old → AreOfWorker terms u workers before (terms.bidders + 1) part → AreLaidOver part old now
     → AreFilled terms u workers (before + 1) now
 filled-next terms u workers before part old now filled of over = record {
   places = over.places ∙ filled.places;
@@ -101,7 +105,7 @@ filled-next terms u workers before part old now filled of over = record {
       subst (HasClock terms u n) (sym (over.each n inside)) (by n low (eq-or-lt_of_le (let l : n % workers ≤ before = omega arith in l)));
 }
   where
-    kept : (n : ℕ) (new old : Option ClockOf) → HasClock terms u n new → HasClock terms u n (laid_over new old)
+    kept : (n : ℕ) (new old : Option Told) → HasClock terms u n new → HasClock terms u n (laid_over new old)
     kept n None old has = absurd has
     kept n (Some c) old has = has
 
@@ -144,11 +148,19 @@ order-next terms u count clocks next c order one is =
 pub in-order : (terms : Terms) (u : ℕ → List ℕ → ℤ) (count : ℕ) (clocks : List ClockHistory) → AreInOrder terms u count clocks → count ≡ terms.bidders + 1 → IsTrial terms u clocks
 in-order terms u count clocks order all = record { clocks_are = record { numbers = order.numbers ∙ ap (range_with_len 0) all; terms_are = order.terms_are }; each = order.each }
 
--- the clock at a place that has its clock
-pub clock-at : (terms : Terms) (u : ℕ → List ℕ → ℤ) (number : ℕ) (slot : Option ClockOf) (c : ClockOf) → HasClock terms u number slot → slot ≡ Some c → IsTrialOf terms u number c.history
-clock-at terms u number slot c has is = subst (HasClock terms u number) is has
+-- a row more
+pub rows-next : (clocks next : List ClockOf) (rows more : List (Option ClockRow)) (c : ClockOf) (row : Option ClockRow) → AllZip IsFoundOf (histories clocks) rows → IsFoundOf c.history row → next ≡ clocks ++ c ∷ [] → more ≡ rows ++ row ∷ []
+    → AllZip IsFoundOf (histories next) more
+rows-next clocks next rows more c row all found is more-is =
+    let Y : List ClockHistory → Type 0 = λ hs. AllZip IsFoundOf hs more in
+    let Z : List (Option ClockRow) → Type 0 = λ rs. AllZip IsFoundOf (histories clocks ++ c.history ∷ []) rs in
+    subst Y (sym (ap histories is ∙ histories-push clocks c)) (subst Z (sym more-is) (zip-push IsFoundOf (histories clocks) rows c.history row all found))
 
-pub not-empty : (terms : Terms) (u : ℕ → List ℕ → ℤ) (number : ℕ) (slot : Option ClockOf) → HasClock terms u number slot → slot ≡ None → ⊥
+-- the clock at a place that has its clock
+pub told-at : (terms : Terms) (u : ℕ → List ℕ → ℤ) (number : ℕ) (slot : Option Told) (t : Told) → HasClock terms u number slot → slot ≡ Some t → IsToldOf terms u number t
+told-at terms u number slot t has is = subst (HasClock terms u number) is has
+
+pub not-empty : (terms : Terms) (u : ℕ → List ℕ → ℤ) (number : ℕ) (slot : Option Told) → HasClock terms u number slot → slot ≡ None → ⊥
 not-empty terms u number slot has is = subst (HasClock terms u number) is has
 
 -- a part of which something is known

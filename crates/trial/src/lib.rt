@@ -2,9 +2,11 @@
 #![tactic(auto)]
 
 ghost use Rattle.std.specs.Prelude.{◌≡◌, IfOk, IfErr};
+ghost use Rattle.std.specs.List.{AllZip};
 ghost use Rattle.lot_base.specs.Economy.{AllStrongSubstitutes};
 ghost use Rattle.lot_base.specs.Goods.{IsRange};
 ghost use Rattle.clock.specs.Reports.{all_bidders, histories};
+ghost use Rattle.settlement.specs.Found.{IsFoundOf};
 ghost use Rattle.trial.specs.Bidding.{bidders_of};
 ghost use Rattle.trial.specs.Trials.{IsTrial, IsTried, AreValuationsOf};
 ghost use Rattle.trial.specs.Refusals.{IsRefusal};
@@ -21,13 +23,13 @@ use clock::Clock;
 pub use faults::TrialFault;
 use lot_base::{NoMemory, Terms};
 pub use making::make;
-use settlement::{Settlement, settle};
+use settlement::{Settlement, settle_found};
 use std::alloc::Global;
 use std::sync::Wait;
 use std::thread::Threads;
 use substitutes::check_all;
 use valuation::Valuation;
-use workers::run_clocks;
+use workers::{Run, run_clocks};
 
 /// The clocks of a trial, in the order of their numbers, and what they settle.
 #[derive(Debug, Drop)]
@@ -53,12 +55,12 @@ pub fn trial<T: Threads + Wait + Sync>(
     ensures tried { IfOk result (λ t. IsTried terms.now (bidders_of terms.now.goods valuations.now) (histories t.clocks.items) t.settlement) }
     ensures refused { IfErr result (IsRefusal terms.now (bidders_of terms.now.goods valuations.now)) }
 {
-    match check_all(terms, valuations) {
+    match check_all(rt, alloc, terms, valuations, workers) {
         Ok(()) => {}
         Err(fault) => return Err(fault),
     }
     match run_clocks(rt, alloc, terms, valuations, workers) {
-        Ok(clocks) => settle_all(alloc, terms, valuations, clocks),
+        Ok(run) => settle_all(alloc, terms, valuations, run),
         Err(NoMemory) => Err(TrialFault::NoMemory),
     }
 }
@@ -68,15 +70,17 @@ fn settle_all(
     alloc: Global,
     terms: &Terms,
     valuations: &[Valuation],
-    clocks: Vec<Clock>,
+    run: Run,
 ) -> Result<Tried, TrialFault>
     requires valuations { AreValuationsOf terms.now valuations.now }
     requires substitutes { AllStrongSubstitutes terms.now.goods (bidders_of terms.now.goods valuations.now) (all_bidders terms.now.bidders) }
-    requires trial { IsTrial terms.now (bidders_of terms.now.goods valuations.now) (histories clocks.items) }
+    requires trial { IsTrial terms.now (bidders_of terms.now.goods valuations.now) (histories run.clocks.items) }
+    requires rows { AllZip IsFoundOf (histories run.clocks.items) run.rows.items }
     ensures tried { IfOk result (λ t. IsTried terms.now (bidders_of terms.now.goods valuations.now) (histories t.clocks.items) t.settlement) }
     ensures refused { IfErr result (λ fault. fault ≡ TrialFault.NoMemory) }
 {
-    match settle(alloc, terms, clocks.as_slice()) {
+    let Run { clocks, rows } = run;
+    match settle_found(alloc, terms, clocks.as_slice(), rows) {
         Ok(settlement) => Ok(Tried { clocks, settlement }),
         Err(NoMemory) => Err(TrialFault::NoMemory),
     }

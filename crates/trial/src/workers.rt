@@ -1,6 +1,8 @@
-//! The clocks of a trial, shared among workers.
+//! The clocks of a trial and their rows, shared among workers.
 ghost use Rattle.std.specs.Prelude.{◌≡◌, ◌≤◌, ◌<◌, ◌+◌, ◌%◌, ◌≢◌, ℕ, length, slice_get, IfOk, IfSome, None};
+ghost use Rattle.std.specs.List.{AllZip};
 ghost use Rattle.clock.specs.Reports.{histories};
+ghost use Rattle.settlement.specs.Found.{IsFoundOf};
 ghost use Rattle.trial.specs.Bidding.{bidders_of};
 ghost use Rattle.trial.specs.Rounds.{AreColumns};
 ghost use Rattle.trial.specs.Trials.{IsTrial};
@@ -10,23 +12,43 @@ use crate::carrying::columns_of;
 use crate::rounds::run_clock;
 use clock::Clock;
 use lot_base::{NoMemory, Terms};
+use settlement::{ClockRow, row_of};
 use std::alloc::Global;
 use std::thread;
 use std::thread::Threads;
 use valuation::{Column, Valuation};
 
-/// All clocks of a trial, in the order of their numbers, run by so many workers. Where no thread can be made the workers run one
-/// after another.
+/// A clock that was run to its end, and its row.
+#[derive(Drop)]
+struct Told {
+    /// It has ended, or was halted at the ceiling.
+    clock: Clock,
+    /// None where it was halted, or no choice clears.
+    row: Option<ClockRow>,
+}
+
+/// The clocks of a trial, and the row of each.
+#[derive(Drop)]
+pub(crate) struct Run {
+    /// Clock 0 first.
+    pub clocks: Vec<Clock>,
+    /// The row of each clock, in the same order.
+    pub rows: Vec<Option<ClockRow>>,
+}
+
+/// All clocks of a trial, in the order of their numbers, run by so many workers, each of which finds the rows of its clocks. Where no
+/// thread can be made the workers run one after another.
 pub(crate) fn run_clocks<T: Threads + Sync>(
     rt: &T,
     alloc: Global,
     terms: &Terms,
     valuations: &[Valuation],
     workers: u32,
-) -> Result<Vec<Clock>, NoMemory>
+) -> Result<Run, NoMemory>
     requires count { length valuations.now ≡ terms.now.bidders }
     requires workers { 1 ≤ workers }
-    ensures { IfOk result (λ clocks. IsTrial terms.now (bidders_of terms.now.goods valuations.now) (histories clocks.items)) }
+    ensures trial { IfOk result (λ run. IsTrial terms.now (bidders_of terms.now.goods valuations.now) (histories run.clocks.items)) }
+    ensures rows { IfOk result (λ run. AllZip IsFoundOf (histories run.clocks.items) run.rows.items) }
 {
     let workers = workers as usize;
     match thread::map_indices(
@@ -47,7 +69,7 @@ fn run_share(
     valuations: &[Valuation],
     workers: usize,
     worker: usize,
-) -> Result<Vec<Option<Clock>>, NoMemory>
+) -> Result<Vec<Option<Told>>, NoMemory>
     requires count { length valuations.now ≡ terms.now.bidders }
     requires workers { 1 ≤ workers }
     ensures { IfOk result (λ slots. AreOfWorker terms.now (bidders_of terms.now.goods valuations.now) workers worker (terms.now.bidders + 1) slots.items) }
@@ -69,7 +91,7 @@ fn run_share(
     Ok(slots)
 }
 
-/// The clock of this number, if it is one of the worker's.
+/// The clock of this number and its row, if it is one of the worker's.
 fn run_own(
     alloc: Global,
     terms: &Terms,
@@ -78,7 +100,7 @@ fn run_own(
     workers: usize,
     worker: usize,
     number: u8,
-) -> Result<Option<Clock>, NoMemory>
+) -> Result<Option<Told>, NoMemory>
     requires columns { AreColumns terms.now.goods columns.now }
     requires count { length valuations.now ≡ terms.now.bidders }
     requires workers { 1 ≤ workers }
@@ -90,7 +112,10 @@ fn run_own(
         return Ok(None);
     }
     match run_clock(alloc, terms, valuations, columns, number) {
-        Ok(clock) => Ok(Some(clock)),
+        Ok(clock) => match row_of(alloc, terms, &clock) {
+            Ok(row) => Ok(Some(Told { clock, row })),
+            Err(NoMemory) => Err(NoMemory),
+        },
         Err(NoMemory) => Err(NoMemory),
     }
 }
@@ -101,12 +126,13 @@ fn put_together(
     terms: &Terms,
     valuations: &[Valuation],
     workers: usize,
-    parts: Vec<Result<Vec<Option<Clock>>, NoMemory>>,
-) -> Result<Vec<Clock>, NoMemory>
+    parts: Vec<Result<Vec<Option<Told>>, NoMemory>>,
+) -> Result<Run, NoMemory>
     requires workers { 1 ≤ workers }
     requires count { length parts.items ≡ workers }
     requires parts { (worker : ℕ) → IfSome (slice_get parts.items worker) (λ part. IfOk part (λ slots. AreOfWorker terms.now (bidders_of terms.now.goods valuations.now) workers worker (terms.now.bidders + 1) slots.items)) }
-    ensures { IfOk result (λ clocks. IsTrial terms.now (bidders_of terms.now.goods valuations.now) (histories clocks.items)) }
+    ensures trial { IfOk result (λ run. IsTrial terms.now (bidders_of terms.now.goods valuations.now) (histories run.clocks.items)) }
+    ensures rows { IfOk result (λ run. AllZip IsFoundOf (histories run.clocks.items) run.rows.items) }
 {
     let mut slots = match empty_slots(alloc, terms.bidders) {
         Ok(slots) => slots,
@@ -122,7 +148,7 @@ fn put_together(
 }
 
 /// An empty place for each clock.
-fn empty_slots(alloc: Global, bidders: u8) -> Result<Vec<Option<Clock>>, NoMemory>
+fn empty_slots(alloc: Global, bidders: u8) -> Result<Vec<Option<Told>>, NoMemory>
     ensures { IfOk result (λ slots. length slots.items ≡ bidders + 1) }
 {
     let mut slots = Vec::new(alloc);
@@ -136,7 +162,7 @@ fn empty_slots(alloc: Global, bidders: u8) -> Result<Vec<Option<Clock>>, NoMemor
 }
 
 /// Puts each clock of a part at its place.
-fn lay_over(slots: &mut Vec<Option<Clock>>, part: Vec<Option<Clock>>)
+fn lay_over(slots: &mut Vec<Option<Told>>, part: Vec<Option<Told>>)
     requires { length part.items ≡ length slots.old.items }
     ensures { AreLaidOver part.items slots.old.items slots.new.items }
 {
@@ -149,23 +175,30 @@ fn lay_over(slots: &mut Vec<Option<Clock>>, part: Vec<Option<Clock>>)
     }
 }
 
-/// The clocks of places that all have theirs.
+/// The clocks of places that all have theirs, and their rows.
 fn in_order(
     alloc: Global,
     terms: &Terms,
     valuations: &[Valuation],
-    slots: Vec<Option<Clock>>,
-) -> Result<Vec<Clock>, NoMemory>
+    slots: Vec<Option<Told>>,
+) -> Result<Run, NoMemory>
     requires count { length slots.items ≡ terms.now.bidders + 1 }
     requires full { (number : ℕ) → number ≤ terms.now.bidders → HasClock terms.now (bidders_of terms.now.goods valuations.now) number (slot_at slots.items number) }
-    ensures { IfOk result (λ clocks. IsTrial terms.now (bidders_of terms.now.goods valuations.now) (histories clocks.items)) }
+    ensures trial { IfOk result (λ run. IsTrial terms.now (bidders_of terms.now.goods valuations.now) (histories run.clocks.items)) }
+    ensures rows { IfOk result (λ run. AllZip IsFoundOf (histories run.clocks.items) run.rows.items) }
 {
     let mut clocks = Vec::new(alloc);
+    let mut rows = Vec::new(alloc);
     for slot in slots {
-        match clocks.push(slot.unwrap()) {
+        let Told { clock, row } = slot.unwrap();
+        match clocks.push(clock) {
+            Ok(()) => {}
+            Err(_) => return Err(NoMemory),
+        }
+        match rows.push(row) {
             Ok(()) => {}
             Err(_) => return Err(NoMemory),
         }
     }
-    Ok(clocks)
+    Ok(Run { clocks, rows })
 }

@@ -4,7 +4,7 @@ use Rattle.std.specs.Vec.Iter.{into_iter_items}
 use Rattle.clock.specs.Reports.{histories}
 use Rattle.trial.specs.Bidding.{bidders_of}
 use Rattle.trial.specs.Workers.{HasClock}
-use Rattle.trial.proofs.Sharing.{there, order-next, clock-at, AreInOrder}
+use Rattle.trial.proofs.Sharing.{there, order-next, rows-next, told-at, AreInOrder}
 use Rattle.trial.proofs.workers.in_order.Goals as goal
 
 pub loop-slot-preserved : goal.loop-slot-preserved
@@ -20,9 +20,11 @@ loop-slot-preserved c =
     let long : length c.loop-slot.yielded + 1 ≡ length (c.loop-slot.yielded ++ x ∷ []) = omega (arith, length-append c.loop-slot.yielded (x ∷ [])) in
     let here = there c.loop-slot.yielded (into_iter_items c.next.new.self) c.args.slots.items x None (length c.loop-slot.yielded) all refl in
     let low : length c.loop-slot.yielded ≤ terms.bidders = (let e = ap length all in let f = length-append c.loop-slot.yielded (x ∷ into_iter_items c.next.new.self) in omega (arith, c.requires.count)) in
+    let told = told-at terms u (length c.loop-slot.yielded) x c.unwrap-clock.result (subst (HasClock terms u (length c.loop-slot.yielded)) here (c.requires.full (length c.loop-slot.yielded) low)) c.unwrap-clock.ensures in
     record {
       same = append_assoc c.loop-slot.yielded (x ∷ []) _ ∙ all;
       left = omega arith;
       order = subst (λ n. AreInOrder terms u n (histories c.push.new.self.items)) long
-          (order-next terms u (length c.loop-slot.yielded) c.loop-slot.clocks.items c.push.new.self.items c.unwrap.result i.order (clock-at terms u (length c.loop-slot.yielded) x c.unwrap.result (subst (HasClock terms u (length c.loop-slot.yielded)) here (c.requires.full (length c.loop-slot.yielded) low)) c.unwrap.ensures) c.in-Ok.ensures.items);
+          (order-next terms u (length c.loop-slot.yielded) c.loop-slot.clocks.items c.push.new.self.items c.unwrap-clock.result.clock i.order told.clock_is c.in-Ok.ensures.items);
+      rows = rows-next c.loop-slot.clocks.items c.push.new.self.items c.loop-slot.rows.items c.push-in-loop-slot.new.self.items c.unwrap-clock.result.clock c.unwrap-clock.result.row i.rows told.row_is c.in-Ok.ensures.items c.in-Ok-push.ensures.items;
     }
