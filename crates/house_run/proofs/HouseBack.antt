@@ -15,13 +15,18 @@ use Rattle.house_io.specs.declared.shelves.Refusal.{Refusal}
 use Rattle.house_io.specs.declared.shelves.Refusal.TheVariants as refusal
 use Rattle.auction_file.specs.declared.listing.Auction.{Auction}
 use Rattle.clock_book.specs.Books.{BookOf, IsKept}
-use Rattle.clock_family.specs.Houses.{AreClosed, HouseOf, HousePassOf}
+use Rattle.clock_family.proofs.Unused.{same-history}
+use Rattle.clock_family.specs.Houses.{AreClosed, HouseOf, HousePassOf, IsNewPass, column}
 use Rattle.clock_family.specs.declared.house_books.HouseBook.{HouseBook}
-use Rattle.turn_desk.specs.Passes.{Opened}
+use Rattle.turn_desk.specs.Passes.{Known, Opened}
+use Rattle.clock.specs.Reports.{ClockHistory}
+use Rattle.clock_book.specs.declared.entries.Entry.{Entry}
+use Rattle.clock_book.specs.declared.origins.Origin.{Origin}
 use Rattle.house_serve.specs.Houses.{DoorRun, IsRun, IsServed}
 use Rattle.house_serve.specs.declared.houses.DoorLog.{DoorLog}
 use Rattle.house_run.specs.GivingBack.{TakesAll, raised_by_all}
-use Rattle.house_run.specs.Hosting.{BooksBack, DoorsServed, HouseBooks, HouseEnd, HouseNotServed, HouseOutcome, LogsOutcome, net_end}
+use Rattle.house_run.specs.ClockRuns.{NoneFailed}
+use Rattle.house_run.specs.Hosting.{BooksBack, DoorsServed, HouseEnd, HouseOutcome, HouseServed, HouseUnused, LeavesNet, LogsOutcome, ServedAnswer, net_end}
 use Rattle.house_run.specs.declared.ends.Ended.{Ended}
 use Rattle.house_run.specs.declared.ends.Ended.TheVariants as how
 use Rattle.house_run.specs.declared.hosting.Hosted.{Hosted}
@@ -30,6 +35,31 @@ use Rattle.house_run.proofs.GivingSteps.{map-map, raised-later, raised-none, tol
 pub books-back : {D : Type 0} (tells : D → Bool) (moments : D → Moments) (faults : D → ℕ) (desks : List (Opened (HouseBook D))) (passes : List HousePassOf) (books : List (BookOf D)) (disks : List D) → AreClosed desks passes books
     → disks ≡ map (λ (b : BookOf D). b.disk) books → AllByRecursion (λ (b : BookOf D). IsKept (IsTrue (tells b.disk)) (moments b.disk) (faults b.disk) b) books → BooksBack tells moments faults desks books disks
 books-back tells moments faults desks passes books disks closed are kept = record { count = closed.count; origins = λ k d b below. (closed.each k d b below).origin_is; disks_are = are; kept = kept }
+
+all-cell : {A : Type 0} (P : A → Type 0) (xs : List A) (k : ℕ) → ((x : A) → k < length xs → P (get_or xs k x)) → AllByRecursion P (take 1 (drop k xs))
+all-cell P [] zero holds = tt
+all-cell P [] (suc k) holds = tt
+all-cell P (x ∷ xs) zero holds = (holds x (omega arith), tt)
+all-cell P (x ∷ xs) (suc k) holds = all-cell P xs k (λ y below. holds y (omega arith))
+
+all-join : {A : Type 0} (P : A → Type 0) (xs ys : List A) → AllByRecursion P xs → AllByRecursion P ys → AllByRecursion P (xs ++ ys)
+all-join P [] ys first second = second
+all-join P (x ∷ xs) ys first second = (first.0, all-join P xs ys first.1 second)
+
+-- new passes have made nothing
+none-own : {D : Type 0} (house : HouseOf D) (passes : List HousePassOf) (k : ℕ) → AllByRecursion (IsNewPass house) passes → AllByRecursion (λ (p : Known Entry Origin). p.own ≡ []) (column k passes)
+none-own house [] k new = tt
+none-own house (p ∷ passes) k new =
+    all-join (λ (q : Known Entry Origin). q.own ≡ []) (take 1 (drop k p.passes)) (column k passes) (all-cell (λ (q : Known Entry Origin). q.own ≡ []) p.passes k (new.0.own k)) (none-own house passes k new.1)
+
+-- a house that was closed with new passes has the books that it had
+pub unused-back : {D : Type 0} (tells : D → Bool) (moments : D → Moments) (faults : D → ℕ) (house : HouseOf D) (passes : List HousePassOf) (books : List (BookOf D)) (disks : List D) → AllByRecursion (IsNewPass house) passes → AreClosed house.desks passes books
+    → disks ≡ map (λ (b : BookOf D). b.disk) books → AllByRecursion (λ (b : BookOf D). IsKept (IsTrue (tells b.disk)) (moments b.disk) (faults b.disk) b) books → HouseUnused tells moments faults house.desks disks
+unused-back {D} tells moments faults house passes books disks new closed are kept = record {
+  books = books;
+  back = books-back tells moments faults house.desks passes books disks closed are kept;
+  unused = λ k d b below. same-history (λ (x : BookOf D). x.state.history) (λ (x : BookOf D). x.origin) (get_or house.desks k d).book.book (column k passes) (get_or books k b) (none-own house passes k new) (closed.each k d b below);
+}
 
 all-zeros : {A : Type 0} (f : A → ℕ) (xs : List A) → AllByRecursion (λ x. f x ≡ 0) xs → AllByRecursion (λ n. n ≡ 0) (map f xs)
 all-zeros f [] all = tt
@@ -58,10 +88,25 @@ module _ {R L M : Type 0} (told : R → Option (DoorLinks M)) where
   doors-served count given back before between after long gives takes =
       told-then (GivesDoors told count given) (TakesAll back) (DoorsServed told count given back) before between after (λ a b c g t. both count given back a b c long g t) gives takes
 
+  -- the doors went back as they came
+  pub doors-back : (count : ℕ) (given : List R) (before between after : Option (NetLists R L)) → length given ≡ count → IfTold before between (GivesDoors told count given) → IfTold between after (TakesAll given)
+      → IfTold before after (LeavesNet told count)
+  doors-back count given before between after long gives takes =
+      told-then (GivesDoors told count given) (TakesAll given) (LeavesNet told count) before between after (λ a b c g t. inr (given, both count given given a b c long g t)) gives takes
+
+  pub as-it-was : (count : ℕ) (before after : Option (NetLists R L)) → IfTold before after (λ a b. b ≡ a) → IfTold before after (LeavesNet told count)
+  as-it-was count before None same = tt
+  as-it-was count None (Some b) same = absurd same
+  as-it-was count (Some a) (Some b) same = inl same
+
 module _ {R M : Type 0} (told : R → Option (DoorLinks M)) (faults : R → ℕ) (link_told : M → Option LinkBytes) (link_faults : M → ℕ) (auction : Auction) (sessions : ℕ) where
   runs-failed : (runs : List (DoorRun R M)) → AllByRecursion (λ (log : DoorLog R). log.failed ≡ false) (map (λ (r : DoorRun R M). r.log) runs) → AllByRecursion (λ (r : DoorRun R M). r.log.failed ≡ false) runs
   runs-failed [] all = tt
   runs-failed (r ∷ runs) all = (all.0, runs-failed runs all.1)
+
+  logs-failed : (runs : List (DoorRun R M)) → NoneFailed runs → AllByRecursion (λ (log : DoorLog R). log.failed ≡ false) (map (λ (r : DoorRun R M). r.log) runs)
+  logs-failed [] all = tt
+  logs-failed (r ∷ runs) all = (all.0, logs-failed runs all.1)
 
   -- doors that did not fail had no fault
   no-faults : (runs : List (DoorRun R M)) → AllByRecursion (IsRun told faults link_told link_faults auction sessions) runs → AllByRecursion (λ (r : DoorRun R M). r.log.failed ≡ false) runs
@@ -88,53 +133,62 @@ module _ {R M : Type 0} (told : R → Option (DoorLinks M)) (faults : R → ℕ)
           let same : raised_by before (faults r.log.door) ≡ before = (let z = (each.0.done e).1 ∙ fresh.0 in omega arith) in
           subst (λ (n : ℕ). Rose before (raised_by_all n rest)) (sym same) (later e)
 
+  -- what is told of doors that served
+  pub served-answer : {D : Type 0} (answer : Result Hosted Ended) (runs : List (DoorRun R M)) (books : List (BookOf D)) (before now : ℕ) → AllByRecursion (IsRun told faults link_told link_faults auction sessions) runs → AllByRecursion (λ door. faults door ≡ 0) (map (λ (r : DoorRun R M). r.door) runs)
+      → now ≡ raised_by_all before (map (λ (log : DoorLog R). faults log.door) (map (λ (r : DoorRun R M). r.log) runs)) → LogsOutcome books (map (λ (r : DoorRun R M). r.log) runs) answer
+      → ServedAnswer (map (λ (b : BookOf D). b.state.clock) books) runs answer before now
+  served-answer (Ok hosted) runs books before now each fresh raised outcome =
+      let never = runs-failed runs outcome.0 in
+      record {
+        none_failed = never;
+        histories_are = outcome.1;
+        ends_are = outcome.2 ∙ map-map (λ (l : DoorLog R). l.ends.items) (λ (r : DoorRun R M). r.log) runs;
+        steady = none-added (λ (l : DoorLog R). faults l.door) (map (λ (r : DoorRun R M). r.log) runs) before now (no-faults runs each never fresh) raised;
+      }
+  served-answer (Err end) runs books before now each fresh raised outcome = record {
+    some_failed = λ none. outcome.1 (logs-failed runs none);
+    cause = record {
+      end_is = outcome.0;
+      rose = subst (λ (n : ℕ). Rose before n) (sym raised) (some-fault runs before each fresh outcome.1);
+      later = subst (λ (n : ℕ). before ≤ n) (sym raised) (raised-later before (map (λ (l : DoorLog R). faults l.door) (map (λ (r : DoorRun R M). r.log) runs)));
+    };
+  }
+
 module _ {D R L M : Type 0} (tells : D → Bool) (moments : D → Moments) (disk_faults : D → ℕ) (told : R → Option (DoorLinks M)) (faults : R → ℕ) (link_told : M → Option LinkBytes) (link_faults : M → ℕ) (auction : Auction) (sessions : ℕ) where
+  as-outcome : (answer : Result Hosted Ended) (count : ℕ) (desks : List (Opened (HouseBook D))) (passes : List HousePassOf) (disks : List D) (before after : Option (NetLists R L)) (counted counted_after : ℕ)
+      → HouseServed {L = L} tells moments disk_faults told faults link_told link_faults auction count sessions desks passes disks answer before after counted counted_after
+      → HouseOutcome {L = L} tells moments disk_faults told faults link_told link_faults auction count sessions desks passes answer disks before after counted counted_after
+  as-outcome (Ok hosted) count desks passes disks before after counted counted_after served = served
+  as-outcome (Err end) count desks passes disks before after counted counted_after served = inl served
+
   -- a house was served: its doors are back at the net, and its books were taken apart
   pub served-outcome : (answer : Result Hosted Ended) (house : HouseOf D) (passes : List HousePassOf) (doors : List R) (books : List (BookOf D)) (logs : List (DoorLog R)) (disks : List D) (before between after : Option (NetLists R L)) (counted counted_after : ℕ)
       → IsServed told faults link_told link_faults auction sessions house passes doors books logs → AllByRecursion (λ door. faults door ≡ 0) doors → IfTold before between (GivesDoors told (length doors) doors)
       → disks ≡ map (λ (b : BookOf D). b.disk) books → AllByRecursion (λ (b : BookOf D). IsKept (IsTrue (tells b.disk)) (moments b.disk) (disk_faults b.disk) b) books
       → IfTold between after (TakesAll (map (λ (log : DoorLog R). log.door) logs)) → counted_after ≡ raised_by_all counted (map (λ (log : DoorLog R). faults log.door) logs) → LogsOutcome books logs answer
       → HouseOutcome {L = L} tells moments disk_faults told faults link_told link_faults auction (length doors) sessions house.desks passes answer disks before after counted counted_after
-  served-outcome (Ok hosted) house passes doors books logs disks before between after counted counted_after served fresh gives are kept takes raised outcome =
+  served-outcome answer house passes doors books logs disks before between after counted counted_after served fresh gives are kept takes raised outcome =
       let runs = served.runs in
-      let log = λ (r : DoorRun R M). r.log in
-      let none = subst (AllByRecursion (λ (l : DoorLog R). l.failed ≡ false)) served.logs_are outcome.0 in
-      let never = runs-failed told faults link_told link_faults auction sessions runs none in
       let first = subst (AllByRecursion (λ door. faults door ≡ 0)) served.doors_are fresh in
-      let back : map (λ (l : DoorLog R). l.door) logs ≡ map (λ (r : DoorRun R M). r.log.door) runs = ap (map (λ (l : DoorLog R). l.door)) served.logs_are ∙ map-map (λ (l : DoorLog R). l.door) log runs in
+      let back : map (λ (l : DoorLog R). l.door) logs ≡ map (λ (r : DoorRun R M). r.log.door) runs = ap (map (λ (l : DoorLog R). l.door)) served.logs_are ∙ map-map (λ (l : DoorLog R). l.door) (λ (r : DoorRun R M). r.log) runs in
       let long : length runs ≡ length doors = sym (ap length served.doors_are ∙ length-map runs (λ (r : DoorRun R M). r.door)) in
       let G : List R → Type 0 = λ ds. IfTold before between (GivesDoors told (length doors) ds) in
       let T : List R → Type 0 = λ ds. IfTold between after (TakesAll ds) in
-      record {
+      let O : List (DoorLog R) → Type 0 = λ ls. LogsOutcome books ls answer in
+      as-outcome answer (length doors) house.desks passes disks before after counted counted_after (record {
         books = books;
         back = books-back tells moments disk_faults house.desks (map (λ (r : DoorRun R M). r.after) runs) books disks served.closed are kept;
-        clocks = outcome.1;
         runs = runs;
         passes_are = served.passes_are;
         ran = record {
           count_is = long;
           each = served.each;
-          none_failed = never;
-          ends_are = outcome.2 ∙ ap (map (λ (l : DoorLog R). l.ends.items)) served.logs_are ∙ map-map (λ (l : DoorLog R). l.ends.items) log runs;
           lists = doors-served told (length doors) (map (λ (r : DoorRun R M). r.door) runs) (map (λ (r : DoorRun R M). r.log.door) runs) before between after (length-map runs (λ (r : DoorRun R M). r.log.door) ∙ long) (subst G served.doors_are gives) (subst T back takes);
-          steady = none-added (λ (l : DoorLog R). faults l.door) (map log runs) counted counted_after (no-faults told faults link_told link_faults auction sessions runs served.each never first) (raised ∙ ap (λ ls. raised_by_all counted (map (λ (l : DoorLog R). faults l.door) ls)) served.logs_are);
         };
         joins = served.joins;
-      }
-  served-outcome (Err end) house passes doors books logs disks before between after counted counted_after served fresh gives are kept takes raised outcome =
-      let runs = served.runs in
-      let F : List (DoorLog R) → Type 0 = λ ls. Rose counted (raised_by_all counted (map (λ (l : DoorLog R). faults l.door) ls)) in
-      let first = subst (AllByRecursion (λ door. faults door ≡ 0)) served.doors_are fresh in
-      let some = λ (all : AllByRecursion (λ (l : DoorLog R). l.failed ≡ false) (map (λ (r : DoorRun R M). r.log) runs)). outcome.1 (subst (AllByRecursion (λ (l : DoorLog R). l.failed ≡ false)) (sym served.logs_are) all) in
-      let rose : Rose counted counted_after = subst (λ (n : ℕ). Rose counted n) (sym raised) (subst F (sym served.logs_are) (some-fault told faults link_told link_faults auction sessions runs counted served.each first some)) in
-      let later : counted ≤ counted_after = subst (λ (n : ℕ). counted ≤ n) (sym raised) (raised-later counted (map (λ (l : DoorLog R). faults l.door) logs)) in
-      let P : Ended → Type 0 = λ e. HouseNotServed tells moments disk_faults house.desks disks e counted counted_after in
-      subst P (sym outcome.0) (record {
-        books = books;
-        back = books-back tells moments disk_faults house.desks (map (λ (r : DoorRun R M). r.after) runs) books disks served.closed are kept;
-        cause = (rose, later);
+        answer_is = served-answer told faults link_told link_faults auction sessions answer runs books counted counted_after served.each first (raised ∙ ap (λ ls. raised_by_all counted (map (λ (l : DoorLog R). faults l.door) ls)) served.logs_are) (subst O served.logs_are outcome);
       })
 
 pub refused-end : (why : Refusal) (before now : ℕ) → before ≤ now → IsRefused why before now → HouseEnd before now (net_end why)
-refused-end refusal.Failed before now later rose = (rose, later)
-refused-end refusal.NoMemory before now later same = same
+refused-end refusal.Failed before now later rose = inl (record { end_is = refl; rose = rose; later = later })
+refused-end refusal.NoMemory before now later same = inr (record { end_is = refl; steady = same })

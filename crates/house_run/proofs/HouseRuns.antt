@@ -27,12 +27,13 @@ use Rattle.clock_family.specs.declared.house_books.HouseBook.{HouseBook}
 use Rattle.turn_desk.specs.Passes.{Known, Opened}
 use Rattle.house_serve.specs.Houses.{DoorRun, Joins, turns_of}
 use Rattle.house_run.specs.ClockRuns.{AreNewPasses, BeginNew, ClockRun, IsClockRun, IsJournalRun, IsNewPassAt}
-use Rattle.house_run.specs.Hosting.{BooksBack, HostEnd, HostOutcome, HouseEnd, HouseOutcome, IsSameNet, IsUnhosted, LeavesDisk}
+use Rattle.house_run.specs.Hosting.{BooksBack, HostEnd, HostOutcome, HouseEnd, HouseNotServed, HouseOutcome, HouseServed, IsHosted, IsUnhosted, LeavesDisk, LeavesNet, ServedAnswer}
 use Rattle.house_run.specs.Status.{end_at}
 use Rattle.house_run.specs.declared.ends.Ended.{Ended}
 use Rattle.house_run.specs.declared.ends.Ended.TheVariants as how
 use Rattle.house_run.specs.declared.hosting.Hosted.{Hosted}
 use Rattle.house_run.proofs.DiskSteps.{some-of}
+use Rattle.house_run.proofs.GivingSteps.{told-same}
 use Rattle.house_run.proofs.ClockRunning.{clock-run, journal-run, run_of, was-journal, was-run, back_of}
 
 -- the runs of books that were opened and closed, in order of the clocks
@@ -125,49 +126,23 @@ module _ {D : Type 0} (tells : D → Bool) (moments : D → Moments) (faults : D
   begin-all count old disks house all books [] opened back new = tt
   begin-all count old disks house all books (r ∷ runs) opened back new = (new-passes count old disks house all books r.before opened back new.0, begin-all count old disks house all books runs opened back new.1)
 
-  house-end : {N : Type 0} (old disks : List D) (told_before told_after : Option N) (counted_before counted : ℕ) (end : Ended) → HouseEnd counted_before counted end → HostEnd {N = N} tells moments faults terms digest old disks told_before told_after counted_before counted end
-  house-end old disks told_before told_after counted_before counted how.NetFault cause = cause
-  house-end old disks told_before told_after counted_before counted how.NoMemory cause = cause
-  house-end old disks told_before told_after counted_before counted how.Done cause = absurd cause
-  house-end old disks told_before told_after counted_before counted how.Usage cause = absurd cause
-  house-end old disks told_before told_after counted_before counted how.ReadFault cause = absurd cause
-  house-end old disks told_before told_after counted_before counted how.WriteFault cause = absurd cause
-  house-end old disks told_before told_after counted_before counted (how.BadAuction fault) cause = absurd cause
-  house-end old disks told_before told_after counted_before counted (how.DiskFault clock) cause = absurd cause
-  house-end old disks told_before told_after counted_before counted (how.BadJournal clock fault) cause = absurd cause
-  house-end old disks told_before told_after counted_before counted (how.Open clock round missing) cause = absurd cause
-  house-end old disks told_before told_after counted_before counted (how.NoAward clock) cause = absurd cause
-  house-end old disks told_before told_after counted_before counted (how.Halted clock good) cause = absurd cause
-  house-end old disks told_before told_after counted_before counted (how.BadValues fault) cause = absurd cause
-  house-end old disks told_before told_after counted_before counted (how.NotSubstitutes bidder x y good) cause = absurd cause
-  house-end old disks told_before told_after counted_before counted (how.TooLong file) cause = absurd cause
-  house-end old disks told_before told_after counted_before counted (how.BadLog place) cause = absurd cause
-  house-end old disks told_before told_after counted_before counted (how.Refused code detail value) cause = absurd cause
-  house-end old disks told_before told_after counted_before counted (how.LooksSpent clock) cause = absurd cause
-  house-end old disks told_before told_after counted_before counted how.BadReply cause = absurd cause
-  house-end old disks told_before told_after counted_before counted (how.NoBidder bidder) cause = absurd cause
-  house-end old disks told_before told_after counted_before counted how.OtherTerms cause = absurd cause
-  house-end old disks told_before told_after counted_before counted (how.NotPrefix clock place) cause = absurd cause
-  house-end old disks told_before told_after counted_before counted (how.TargetFull clock needed) cause = absurd cause
-  house-end old disks told_before told_after counted_before counted (how.BadTarget clock fault) cause = absurd cause
-
   refused-host : {N : Type 0} (fault : OpenFault) (old disks : List D) (clock : ℕ) (told : Option N) (counted : ℕ) → IsNotOpen tells moments faults terms digest old disks clock fault
       → HostEnd {N = N} tells moments faults terms digest old disks told told counted counted (end_at clock fault)
-  refused-host why.DiskFault old disks clock told counted not = (not, record { told_same = refl; counted_same = refl })
-  refused-host why.NoMemory old disks clock told counted not = refl
-  refused-host (why.Broken broken) old disks clock told counted not = (not, tt, record { told_same = refl; counted_same = refl })
-  refused-host (why.NotAcceptable number judgement) old disks clock told counted not = (not, tt, record { told_same = refl; counted_same = refl })
+  refused-host why.DiskFault old disks clock told counted not = inl (record { clock = clock; end_is = refl; not_open = not; same = record { told_same = refl; counted_same = refl } })
+  refused-host why.NoMemory old disks clock told counted not = inr (inr (inr (record { end_is = refl; steady = refl })))
+  refused-host (why.Broken broken) old disks clock told counted not = inr (inl (record { clock = clock; fault = why.Broken broken; end_is = refl; not_open = not; refusal = tt; same = record { told_same = refl; counted_same = refl } }))
+  refused-host (why.NotAcceptable number judgement) old disks clock told counted not =
+      inr (inl (record { clock = clock; fault = why.NotAcceptable number judgement; end_is = refl; not_open = not; refusal = tt; same = record { told_same = refl; counted_same = refl } }))
 
-  -- no house was opened
-  pub not-hosted : {N : Type 0} (fault : OpenFault) (old disks : List D) (clock : ℕ) (told : Option N) (counted : ℕ) → IsNotOpen tells moments faults terms digest old disks clock fault
-      → IsUnhosted {N = N} tells moments faults terms digest old disks (end_at clock fault) told told counted counted
-  not-hosted fault old disks clock told counted not = record { disks_count = not.count; left = λ k d below. left k d (cases_lt k clock); cause = refused-host fault old disks clock told counted not }
+  -- each disk was left by an opening that was refused, or its book was closed unused
+  left-unopened : (fault : OpenFault) (old disks : List D) (clock : ℕ) → IsNotOpen tells moments faults terms digest old disks clock fault → (k : ℕ) (d : D) → LeavesDisk tells moments (owner_of terms k digest) (get_or old k d) (get_or disks k d)
+  left-unopened fault old disks clock not k d = of (cases_lt k clock)
     where
-      left : (k : ℕ) (d : D) → (k < clock) ⊎ (clock ≤ k) → LeavesDisk tells moments (owner_of terms k digest) (get_or old k d) (get_or disks k d)
-      left k d (inl before) =
+      of : (k < clock) ⊎ (clock ≤ k) → LeavesDisk tells moments (owner_of terms k digest) (get_or old k d) (get_or disks k d)
+      of (inl before) =
           let was = not.before k d before in
-          inr (run_of was.first (back_of was.first (get_or disks k d)), was-run tells moments faults (owner_of terms k digest) (get_or old k d) (get_or disks k d) was, was-journal tells moments faults (owner_of terms k digest) (get_or old k d) (get_or disks k d) was)
-      left k d (inr beyond) = elim (cases_lt clock k) [
+          inr (run_of was.first (back_of was.first (get_or disks k d)), was-run tells moments faults (owner_of terms k digest) (get_or old k d) (get_or disks k d) was, refl, was-journal tells moments faults (owner_of terms k digest) (get_or old k d) (get_or disks k d) was)
+      of (inr beyond) = elim (cases_lt clock k) [
         | inl after ↦ inl (λ told. inl (ap moments (not.after k d after)))
         | inr same ↦
             let here : clock ≡ k = omega arith in
@@ -175,17 +150,28 @@ module _ {D : Type 0} (tells : D → Bool) (moments : D → Moments) (faults : D
       ]
 
 module _ {D R L M : Type 0} (tells : D → Bool) (moments : D → Moments) (disk_faults : D → ℕ) (told : R → Option (DoorLinks M)) (faults : R → ℕ) (link_told : M → Option LinkBytes) (link_faults : M → ℕ) (auction : Auction) (count sessions : ℕ) where
-  -- a house was opened, and came to this
-  pub hosted : (answer : Result Hosted Ended) (old disks : List D) (house : HouseOf D) (passes : List HousePassOf) (told_before told_after : Option (NetLists R L)) (counted_before counted : ℕ)
+  -- no house was opened
+  pub not-hosted : (fault : OpenFault) (old disks : List D) (clock : ℕ) (lists : Option (NetLists R L)) (counted : ℕ) → IsNotOpen tells moments disk_faults auction.terms auction.digest old disks clock fault
+      → HostOutcome {L = L} tells moments disk_faults told faults link_told link_faults auction count sessions old (Err (end_at clock fault)) disks lists lists counted counted
+  not-hosted fault old disks clock lists counted not = inr (record {
+    disks_count = not.count;
+    left = λ k d below. left-unopened tells moments disk_faults auction.terms auction.digest fault old disks clock not k d;
+    net_is = told-same (LeavesNet told count) lists (λ x. inl refl);
+    cause = refused-host tells moments disk_faults auction.terms auction.digest fault old disks clock lists counted not;
+  })
+
+  -- a house was opened, and served
+  hosted-served : (answer : Result Hosted Ended) (old disks : List D) (house : HouseOf D) (passes : List HousePassOf) (told_before told_after : Option (NetLists R L)) (counted_before counted : ℕ)
       → IsOpened tells moments disk_faults auction.terms auction.digest count old house passes
-      → HouseOutcome {L = L} tells moments disk_faults told faults link_told link_faults auction count sessions house.desks passes answer disks told_before told_after counted_before counted
-      → HostOutcome {L = L} tells moments disk_faults told faults link_told link_faults auction count sessions old answer disks told_before told_after counted_before counted
-  hosted (Ok h) old disks house passes told_before told_after counted_before counted opened served =
+      → HouseServed {L = L} tells moments disk_faults told faults link_told link_faults auction count sessions house.desks passes disks answer told_before told_after counted_before counted
+      → IsHosted {L = L} tells moments disk_faults told faults link_told link_faults auction count sessions old disks answer told_before told_after counted_before counted
+  hosted-served answer old disks house passes told_before told_after counted_before counted opened served =
       let back = served.back in
       let books = served.books in
       let at = ran-at tells moments disk_faults auction.terms auction.digest old disks house books opened.clocks opened.books back in
       let long : length (runs_in house.desks books) ≡ length old = length-runs house.desks books back.count ∙ opened.clocks in
       let all : length disks ≡ length books = ap length back.disks_are ∙ length-map books (λ (b : BookOf D). b.disk) in
+      let A : List ClockHistory → Type 0 = λ cs. ServedAnswer cs served.runs answer counted_before counted in
       record {
         disks_count = all ∙ back.count ∙ opened.clocks;
         clocks = runs_in house.desks books;
@@ -197,7 +183,6 @@ module _ {D R L M : Type 0} (tells : D → Bool) (moments : D → Moments) (disk
         marks = λ k c d below.
             let r = at k (omega arith) in
             subst (λ (run : ClockRun). marks_in run.closed.history ≤ disk_faults (get_or disks k d)) (sym (r.run_is c)) (r.marks d);
-        histories_are = served.clocks ∙ histories-in house.desks books back.count;
         runs = served.runs;
         new = begin-all tells moments disk_faults auction.terms auction.digest count old disks house passes books served.runs opened back (subst (AllByRecursion (IsNewPass house)) served.passes_are opened.new);
         ran = served.ran;
@@ -205,14 +190,38 @@ module _ {D R L M : Type 0} (tells : D → Bool) (moments : D → Moments) (disk
             let r = at k (omega arith) in
             let within : k < length house.desks = (let o = opened.clocks in omega arith) in
             subst (λ (run : ClockRun). Joins run.opening run.closed.history (flat_map turns_of served.runs) k) (sym (r.run_is c)) (served.joins k r.desk r.book within);
+        answer_is = subst A (histories-in house.desks books back.count) served.answer_is;
       }
-  hosted (Err end) old disks house passes told_before told_after counted_before counted opened not =
-      let back = not.back in
-      let books = not.books in
+
+  house-end : (old disks : List D) (told_before told_after : Option (NetLists R L)) (counted_before counted : ℕ) (end : Ended) → HouseEnd counted_before counted end
+      → HostEnd {N = NetLists R L} tells moments disk_faults auction.terms auction.digest old disks told_before told_after counted_before counted end
+  house-end old disks told_before told_after counted_before counted end cause = inr (inr cause)
+
+  -- a house was opened, and closed unused
+  hosted-unused : (end : Ended) (old disks : List D) (house : HouseOf D) (passes : List HousePassOf) (told_before told_after : Option (NetLists R L)) (counted_before counted : ℕ)
+      → IsOpened tells moments disk_faults auction.terms auction.digest count old house passes
+      → HouseNotServed {L = L} tells moments disk_faults told faults link_told link_faults auction count sessions house.desks disks end told_before told_after counted_before counted
+      → IsUnhosted {L = L} tells moments disk_faults told faults link_told link_faults auction count sessions old disks end told_before told_after counted_before counted
+  hosted-unused end old disks house passes told_before told_after counted_before counted opened not =
+      let back = not.closed.back in
+      let books = not.closed.books in
       let at = ran-at tells moments disk_faults auction.terms auction.digest old disks house books opened.clocks opened.books back in
       let all : length disks ≡ length books = ap length back.disks_are ∙ length-map books (λ (b : BookOf D). b.disk) in
       record {
         disks_count = all ∙ back.count ∙ opened.clocks;
-        left = λ k d below. let r = at k below in inr (run_of (get_or house.desks k r.desk).book.book (get_or books k r.book), r.clock, r.journal d);
-        cause = house-end tells moments disk_faults auction.terms auction.digest old disks told_before told_after counted_before counted end not.cause;
+        left = λ k d below.
+            let r = at k below in
+            let within : k < length house.desks = (let o = opened.clocks in omega arith) in
+            inr (run_of (get_or house.desks k r.desk).book.book (get_or books k r.book), r.clock, not.closed.unused k r.desk r.book within, r.journal d);
+        net_is = not.net_is;
+        cause = house-end old disks told_before told_after counted_before counted end not.cause;
       }
+
+  -- a house was opened, and came to this
+  pub hosted : (answer : Result Hosted Ended) (old disks : List D) (house : HouseOf D) (passes : List HousePassOf) (told_before told_after : Option (NetLists R L)) (counted_before counted : ℕ)
+      → IsOpened tells moments disk_faults auction.terms auction.digest count old house passes
+      → HouseOutcome {L = L} tells moments disk_faults told faults link_told link_faults auction count sessions house.desks passes answer disks told_before told_after counted_before counted
+      → HostOutcome {L = L} tells moments disk_faults told faults link_told link_faults auction count sessions old answer disks told_before told_after counted_before counted
+  hosted (Ok done) old disks house passes told_before told_after counted_before counted opened served = hosted-served (Ok done) old disks house passes told_before told_after counted_before counted opened served
+  hosted (Err end) old disks house passes told_before told_after counted_before counted opened (inl served) = inl (hosted-served (Err end) old disks house passes told_before told_after counted_before counted opened served)
+  hosted (Err end) old disks house passes told_before told_after counted_before counted opened (inr not) = inr (hosted-unused end old disks house passes told_before told_after counted_before counted opened not)

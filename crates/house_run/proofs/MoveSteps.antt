@@ -22,7 +22,7 @@ use Rattle.house_run.specs.Disks.{IsJournalBelow}
 use Rattle.house_run.specs.Found.{as_found, found, told_first}
 use Rattle.house_run.specs.Frame.{KeepsAll, KeepsContents, OnlySynced, RisesAmong}
 use Rattle.house_run.specs.Journals.{AreFromJournals, IsBadJournal, IsFirstRefused, IsTermsOf}
-use Rattle.house_run.specs.MigrateCommand.{MigrateDone, MigrateFrame, MovesFiles, migrate_needs, moved_line}
+use Rattle.house_run.specs.MigrateCommand.{MigrateDone, MigrateFrame, MovesFiles, TellsLeft, migrate_needs, moved_line}
 use Rattle.house_run.specs.MoveSteps.{AreFilesRead, IsMoveRead, StopsMoving}
 use Rattle.house_run.specs.MoveEnds.{MayReadSecond}
 use Rattle.house_run.specs.Moves.{IsMove, IsSameListing}
@@ -430,7 +430,7 @@ module _ (old journals new target : List ℕ) (second : Auction) (cs : List Cloc
       from_journals = journals-reads (told_first seen.shelf.files_before files) (told_first seen.shelf.files_before seen.shelf.files) r.move.before r.move.first.digest journals (r.move.before.bidders + 1) cs found-still r.move.from_journals;
     }
 
-    moves-files : MovesFiles old journals new target seen.shelf
+    moves-files : MovesFiles old journals new target end seen.shelf
     moves-files = record {
       histories = cs;
       terms = second.terms;
@@ -439,6 +439,7 @@ module _ (old journals new target : List ℕ) (second : Auction) (cs : List Cloc
       others = others-then journals target (second.terms.bidders + 1) seen.shelf.files_before files seen.shelf.files r.files keeps.others;
       synced = synced-then journals target (second.terms.bidders + 1) seen.shelf.files_before files seen.shelf.files other (let l = few-bidders in omega arith) r.files keeps.others;
       left = target-then journals target second.terms.bidders (λ k h m n. LeavesTarget (owner_of second.terms k second.digest) (get_or cs k h).reports m n) seen.shelf.files_before files seen.shelf.files other few-bidders r.files keeps.left;
+      told = target-then journals target second.terms.bidders (λ k h m n. TellsLeft end (owner_of second.terms k second.digest) k (get_or cs k h).reports m n) seen.shelf.files_before files seen.shelf.files other few-bidders r.files keeps.told;
     }
 
     pub targets-frame : MigrateFrame old journals new target end seen

@@ -7,10 +7,11 @@ use Rattle.house_io.specs.Shelves.{NamedFile, IfTells, IfWasTold, ChangesNone, f
 use Rattle.auction_file.specs.AuctionFile.{Listing}
 use Rattle.auction_file.specs.Listing.{listing_of}
 use Rattle.auction_file.specs.declared.listing.Auction.{Auction}
-use Rattle.recovery.specs.Journaled.{owner_of}
-use Rattle.clock_book.specs.declared.faults.OpenFault.{OpenFault}
 use Rattle.house_run.specs.Causes.{FailedAt, Tells}
-use Rattle.house_run.specs.ClockRuns.{ClockRun, IsJournalRun, LeavesJournal}
+use Rattle.house_serve.specs.Houses.{DoorRun}
+use Rattle.house_run.specs.ClockRuns.{ClockRun, NoneFailed}
+use Rattle.house_run.specs.DoorsSeen.{DoorSeen, LinkSeen}
+use Rattle.house_run.specs.Hosting.{IsNetEnd}
 use Rattle.command_line.specs.Commands.{Serve}
 use Rattle.house_run.specs.Disks.{IsJournalBelow, KeepsOthers}
 use Rattle.house_run.specs.Ends.{JobAnswer}
@@ -22,19 +23,18 @@ use Rattle.command_line.specs.Parts.{Serving}
 use Rattle.house_run.specs.NetEnds.{Ends, NetFrame}
 use Rattle.house_run.specs.Nets.{NetSeen, IsNetUntouched}
 use Rattle.house_run.specs.Seen.{Outside, ShelfSeen, IsAuctionAt, content}
-use Rattle.house_run.specs.ServeCommand.{ServeDone, ServeFrame, ServesFiles, serve_needs}
+use Rattle.house_run.specs.ServeCommand.{FailedSo, ServeDone, ServeFrame, ServedThen, serve_needs}
 use Rattle.house_run.specs.ServeTexts.{serve_text}
-use Rattle.house_run.specs.Serving.{ClocksRan, JournalsNotServed, JournalsServed, KeepsJournals, LeavesAll, NotServing}
+use Rattle.house_run.specs.Serving.{AuctionNotServed, AuctionServed, JournalsServed, KeepsJournals, NotServing, ServesJournals}
 use Rattle.house_run.specs.Steps.{EndsAtAuction, EndsSo, OnlyReads}
 use Rattle.house_run.specs.declared.ends.Ended.{Ended}
 use Rattle.house_run.specs.declared.ends.Ended.TheVariants as how
 use Rattle.house_run.specs.declared.hosting.Hosted.{Hosted}
-use Rattle.house_run.proofs.DiskSteps.{Keeps, some-of}
+use Rattle.house_run.proofs.DiskSteps.{Keeps}
 use Rattle.house_run.proofs.Framing.{opens-one}
 use Rattle.house_run.proofs.HouseSteps.{terms-of}
 use Rattle.house_run.proofs.JournalSteps.{later}
 use Rattle.house_run.proofs.Rereading.{auction-reads, reads-first}
-use Rattle.house_run.proofs.ServeSteps.{tells-map}
 
 -- files that were not changed up to here
 
@@ -74,13 +74,13 @@ pub refused-answer : (auction journals : List ℕ) (s : Serving) (end : Ended) (
 refused-answer auction journals s end seen net reads ends =
     subst (λ (x : Outside). Ends (serve_needs auction journals s) x net end) (sym (found-same seen reads.unchanged)) (inl (ends (serve_needs auction journals s) refl).cause)
 
-pub refused-frame : (auction journals : List ℕ) (s : Serving) (end : Ended) (seen : Outside) → OnlyReads auction seen.shelf → EndsAtAuction auction seen end → ServeFrame auction journals s end seen
-refused-frame auction journals s end seen reads ends =
+pub refused-frame : (auction journals : List ℕ) (s : Serving) (end : Ended) (seen : Outside) (net : NetSeen) → IsNetUntouched net → OnlyReads auction seen.shelf → EndsAtAuction auction seen end → ServeFrame auction journals s end seen net
+refused-frame auction journals s end seen net same reads ends =
     let counts = (ends (serve_needs auction journals s) refl).counts in
     record {
       names = inl (opens-one (serve_needs auction journals s) auction (found seen.shelf) refl reads.names);
       counts = record { later = counts.later; others = λ name not. counts.others name (λ t. not (inl t)) };
-      files = inl reads.unchanged;
+      left = inl (record { files_same = reads.unchanged; net_same = same });
     }
 
 -- the auction was read: what is seen from then on is this part
@@ -98,8 +98,9 @@ module _ (auction journals : List ℕ) (s : Serving) (value : Auction) (seen : O
       auction-found (IsJournalBelow journals (value.terms.bidders + 1)) auction (listing_of value) first seen.shelf r.before_is (subst (ChangesNone seen.shelf.files_before) (sym r.files_are) r.read)
       (subst (λ (o : Option (List NamedFile)). KeepsOthers journals (value.terms.bidders + 1) o seen.shelf.files) (sym r.files_are) others) r.is
 
-  pub serve-frame : (end : Ended) → KeepsJournals journals (value.terms.bidders + 1) (later seen.shelf files faults names) → LeavesAll value journals (later seen.shelf files faults names) → ServeFrame auction journals s end seen
-  serve-frame end keeps left =
+  serve-frame : (end : Ended) (net : NetSeen) → KeepsJournals journals (value.terms.bidders + 1) (later seen.shelf files faults names) → ServedThen value journals s end seen.shelf net ⊎ AuctionNotServed value journals s seen.shelf net end
+      → ServeFrame auction journals s end seen net
+  serve-frame end net keeps left =
       let few = keeps.few in
       let bidders = (terms-of value).bidders_are in
       record {
@@ -114,78 +115,107 @@ module _ (auction journals : List ℕ) (s : Serving) (value : Auction) (seen : O
           later = λ name. let e = r.steady name in let l = keeps.counts.later name in omega arith;
           others = λ name not. keeps.counts.others name (λ b. not (inr (b.0, (let l = b.1 in let m = value.terms.bidders_in_range.at_most in omega arith), b.2))) ∙ r.steady name;
         };
-        files = inr (record {
+        left = inr (record {
           value = value;
           auction_is = is-found keeps.others;
           others = first-told _ seen.shelf.files_before files seen.shelf.files r.read keeps.others;
-          left = first-told _ seen.shelf.files_before files seen.shelf.files r.read left;
+          left = left;
         });
       }
 
-  pub serve-done : (net : NetSeen) (hosted : Hosted) (text : List ℕ) → JournalsServed value journals s (later seen.shelf files faults names) net hosted
+  failed-then : (k : ℕ) → FailedAt (later seen.shelf files faults names) (journal_name journals k) → FailedAt seen.shelf (journal_name journals k)
+  failed-then k failed = let e = r.steady (journal_name journals k) in omega arith
+
+  -- the auction was served, from the first look at its file on
+  served-then : (net : NetSeen) (clocks : List ClockRun) (doors : List (DoorRun DoorSeen LinkSeen)) → AuctionServed value journals s (later seen.shelf files faults names) net clocks doors → AuctionServed value journals s seen.shelf net clocks doors
+  served-then net clocks doors served = record {
+    ran = record {
+      count_is = served.ran.count_is;
+      clocks_are = served.ran.clocks_are;
+      marks = λ k c below. marks-then k (served.ran.marks k c below);
+      journals_are = first-told _ seen.shelf.files_before files seen.shelf.files r.read served.ran.journals_are;
+    };
+    new = served.new;
+    serving = served.serving;
+    joins = served.joins;
+  }
+    where
+      marks-then : {A : Type 0} (k : ℕ) → A ⊎ FailedAt (later seen.shelf files faults names) (journal_name journals k) → A ⊎ FailedAt seen.shelf (journal_name journals k)
+      marks-then k (inl none) = inl none
+      marks-then k (inr failed) = inr (failed-then k failed)
+
+  -- it was not
+  not-then : (end : Ended) (net : NetSeen) → KeepsJournals journals (value.terms.bidders + 1) (later seen.shelf files faults names) → AuctionNotServed value journals s (later seen.shelf files faults names) net end → AuctionNotServed value journals s seen.shelf net end
+  not-then end net keeps not = record { left = first-told _ seen.shelf.files_before files seen.shelf.files r.read not.left; net_is = not.net_is; cause = cause not.cause }
+    where
+      cause : NotServing value journals (later seen.shelf files faults names) net end → NotServing value journals seen.shelf net end
+      cause (inl fails) = inl (record { clock = fails.clock; end_is = fails.end_is; within = fails.within; failed = failed-then fails.clock fails.failed; untouched = fails.untouched })
+      cause (inr (inl refused)) = inr (inl (record {
+        clock = refused.clock;
+        fault = refused.fault;
+        end_is = refused.end_is;
+        within = refused.within;
+        first = subst (λ (o : Option (List NamedFile)). IsFirstRefused o value.terms value.digest journals refused.clock refused.fault)
+            (told-firsts (IsJournalBelow journals (value.terms.bidders + 1)) seen.shelf.files_before files seen.shelf.files r.read keeps.others) refused.first;
+        untouched = refused.untouched;
+      }))
+      cause (inr (inr ends)) = inr (inr ends)
+
+  pub serve-done : (net : NetSeen) (hosted : Hosted) (text : List ℕ) → JournalsServed value journals s (later seen.shelf files faults names) net (Ok hosted)
       → text ≡ serve_text (map (λ ends. ends.items) hosted.ends.items) (histories hosted.clocks.items) → ServeDone auction journals s seen.shelf net text
   serve-done net hosted text served is = record {
     value = value;
     auction_is = is-found served.keeps.others;
     clocks = served.clocks;
-    ran = record {
-      count_is = served.ran.count_is;
-      clocks_are = served.ran.clocks_are;
-      marks = λ k c below. marks-told k (served.ran.marks k c below);
-      journals_are = first-told _ seen.shelf.files_before files seen.shelf.files r.read served.ran.journals_are;
-    };
     doors = served.doors;
-    new = served.new;
-    serving = served.serving;
-    joins = served.joins;
-    text_is = is ∙ (λ i. serve_text (served.ends_are i) (served.histories_are i));
+    served = served-then net served.clocks served.doors served.served;
+    none_failed = served.answer_is.none_failed;
+    text_is = is ∙ (λ i. serve_text (served.answer_is.ends_are i) (served.answer_is.histories_are i));
   }
-    where
-      marks-told : {A : Type 0} (k : ℕ) → A ⊎ FailedAt (later seen.shelf files faults names) (journal_name journals k) → A ⊎ FailedAt seen.shelf (journal_name journals k)
-      marks-told k (inl none) = inl none
-      marks-told k (inr failed) = let e = r.steady (journal_name journals k) in inr (omega arith)
 
-  pub not-served : (end : Ended) (net : NetSeen) → JournalsNotServed value journals (later seen.shelf files faults names) net end → Ends (serve_needs auction journals s) (as_found seen) net end
-  not-served end net not = of end not.cause
-    where
-      auction_is : IsAuctionAt (found seen.shelf) auction (listing_of value)
-      auction_is = is-found not.keeps.others
+  -- the text of an auction that was served is written, or memory for it runs out
+  pub done-frame : (end : Ended) (net : NetSeen) (hosted : Hosted) → JournalsServed value journals s (later seen.shelf files faults names) net (Ok hosted) → ((doors : List (DoorRun DoorSeen LinkSeen)) → NoneFailed doors → FailedSo end doors) → ServeFrame auction journals s end seen net
+  done-frame end net hosted served so =
+      serve-frame end net served.keeps (inl (record { clocks = served.clocks; doors = served.doors; served = served-then net served.clocks served.doors served.served; failed = so served.doors served.answer_is.none_failed }))
 
-      of : (w : Ended) → NotServing value journals (later seen.shelf files faults names) net w → Ends (serve_needs auction journals s) (as_found seen) net w
-      of (how.DiskFault clock) (few, failed, same) =
-          let e = r.steady (journal_name journals clock) in
+  failed-so : (end : Ended) (doors : List (DoorRun DoorSeen LinkSeen)) → end ≡ how.NetFault → (NoneFailed doors → ⊥) → FailedSo end doors
+  failed-so end doors e some = let P : Ended → Type 0 = λ w. FailedSo w doors in subst P (sym e) some
+
+  -- the auction was served and a door failed, or it was not served
+  pub err-frame : (end : Ended) (net : NetSeen) → ServesJournals value journals s (later seen.shelf files faults names) net (Err end) → ServeFrame auction journals s end seen net
+  err-frame end net (inl served) =
+      serve-frame end net served.keeps (inl (record {
+        clocks = served.clocks;
+        doors = served.doors;
+        served = served-then net served.clocks served.doors served.served;
+        failed = failed-so end served.doors served.answer_is.cause.end_is served.answer_is.some_failed;
+      }))
+  err-frame end net (inr not) = serve-frame end net not.keeps (inr (not-then end net not.keeps not.not))
+
+  by-net : (end : Ended) (net : NetSeen) → IsNetEnd net.faults_before net.faults end → Ends (serve_needs auction journals s) (as_found seen) net end
+  by-net end net fault = let E : Ended → Type 0 = λ w. Ends (serve_needs auction journals s) (as_found seen) net w in subst E (sym fault.end_is) (inr (inl (inr tt, fault.rose)))
+
+  pub err-answer : (end : Ended) (net : NetSeen) → ServesJournals value journals s (later seen.shelf files faults names) net (Err end) → Ends (serve_needs auction journals s) (as_found seen) net end
+  err-answer end net (inl served) = by-net end net served.answer_is.cause
+  err-answer end net (inr not) = of (not-then end net not.keeps not.not).cause
+    where
+      E : Ended → Type 0
+      E w = Ends (serve_needs auction journals s) (as_found seen) net w
+
+      of : NotServing value journals seen.shelf net end → E end
+      of (inl fails) =
           let bidders = (terms-of value).bidders_are in
-          inl (record { listing = listing_of value; auction_is = auction_is; clock_is = omega arith; failed = omega arith })
-      of (how.BadJournal clock fault) (few, bad, same) =
-          inl (record {
-            terms = value.terms;
-            digest = value.digest;
-            on = record { listing = listing_of value; auction_is = auction_is; terms_are = terms-of value; digest_is = refl };
-            clock_is = few;
-            first = subst (λ (o : Option (List NamedFile)). IsFirstRefused o value.terms value.digest journals clock fault) (told-firsts (IsJournalBelow journals (value.terms.bidders + 1)) seen.shelf.files_before files seen.shelf.files r.read not.keeps.others) bad;
-          })
-      of how.NetFault cause = inr (inl (inr tt, cause.0))
-      of how.NoMemory cause = inl tt
-      of how.Done cause = absurd cause
-      of how.Usage cause = absurd cause
-      of how.ReadFault cause = absurd cause
-      of how.WriteFault cause = absurd cause
-      of (how.BadAuction fault) cause = absurd cause
-      of (how.Open clock round missing) cause = absurd cause
-      of (how.NoAward clock) cause = absurd cause
-      of (how.Halted clock good) cause = absurd cause
-      of (how.BadValues fault) cause = absurd cause
-      of (how.NotSubstitutes bidder x y good) cause = absurd cause
-      of (how.TooLong file) cause = absurd cause
-      of (how.BadLog place) cause = absurd cause
-      of (how.Refused code detail most) cause = absurd cause
-      of (how.LooksSpent clock) cause = absurd cause
-      of how.BadReply cause = absurd cause
-      of (how.NoBidder bidder) cause = absurd cause
-      of how.OtherTerms cause = absurd cause
-      of (how.NotPrefix clock place) cause = absurd cause
-      of (how.TargetFull clock needed) cause = absurd cause
-      of (how.BadTarget clock fault) cause = absurd cause
+          let few = fails.within in
+          subst E (sym fails.end_is) (inl (record { listing = listing_of value; auction_is = is-found not.keeps.others; clock_is = omega arith; failed = fails.failed }))
+      of (inr (inl refused)) = subst E (sym refused.end_is) (inl (record {
+        terms = value.terms;
+        digest = value.digest;
+        on = record { listing = listing_of value; auction_is = is-found not.keeps.others; terms_are = terms-of value; digest_is = refl };
+        clock_is = refused.within;
+        first = refused.first;
+      }))
+      of (inr (inr (inl fault))) = by-net end net fault
+      of (inr (inr (inr memory))) = subst E (sym memory.end_is) (inl tt)
 
 -- the net
 
@@ -197,51 +227,28 @@ steady-net auction journals s end net other same = record {
   early = λ clock no_bid ended. absurd (other clock ended);
 }
 
-pub net-left : (auction journals : List ℕ) (s : Serving) (value : Auction) (shelf : ShelfSeen) (end : Ended) (net : NetSeen) → NotServing value journals shelf net end → NetFrame (serve_needs auction journals s) end net
-net-left auction journals s value shelf (how.DiskFault clock) net (few, failed, same) = record {
+net-untouched : (auction journals : List ℕ) (s : Serving) (end : Ended) (net : NetSeen) → IsNetUntouched net → NetFrame (serve_needs auction journals s) end net
+net-untouched auction journals s end net same = record {
   quiet = λ differs. same.1;
   later = (let e = same.1 in omega arith);
   untouched = λ no_bid no_serve. same;
-  early = λ other no_bid ended. same;
+  early = λ clock no_bid ended. same;
 }
-net-left auction journals s value shelf (how.BadJournal clock fault) net (few, bad, same) = steady-net auction journals s (how.BadJournal clock fault) net (λ other ended. (let no : ⊥ = cc in no)) same.1
-net-left auction journals s value shelf how.NoMemory net same = steady-net auction journals s how.NoMemory net (λ other ended. (let no : ⊥ = cc in no)) same
-net-left auction journals s value shelf how.NetFault net (rose, more) = record {
-  quiet = λ differs. absurd (differs refl);
-  later = more;
-  untouched = λ no_bid no_serve. absurd (let no : ⊥ = cc in no);
-  early = λ clock no_bid ended. absurd (let no : ⊥ = cc in no);
-}
-net-left auction journals s value shelf how.Done net cause = absurd cause
-net-left auction journals s value shelf how.Usage net cause = absurd cause
-net-left auction journals s value shelf how.ReadFault net cause = absurd cause
-net-left auction journals s value shelf how.WriteFault net cause = absurd cause
-net-left auction journals s value shelf (how.BadAuction fault) net cause = absurd cause
-net-left auction journals s value shelf (how.Open clock round missing) net cause = absurd cause
-net-left auction journals s value shelf (how.NoAward clock) net cause = absurd cause
-net-left auction journals s value shelf (how.Halted clock good) net cause = absurd cause
-net-left auction journals s value shelf (how.BadValues fault) net cause = absurd cause
-net-left auction journals s value shelf (how.NotSubstitutes bidder x y good) net cause = absurd cause
-net-left auction journals s value shelf (how.TooLong file) net cause = absurd cause
-net-left auction journals s value shelf (how.BadLog place) net cause = absurd cause
-net-left auction journals s value shelf (how.Refused code detail most) net cause = absurd cause
-net-left auction journals s value shelf (how.LooksSpent clock) net cause = absurd cause
-net-left auction journals s value shelf how.BadReply net cause = absurd cause
-net-left auction journals s value shelf (how.NoBidder bidder) net cause = absurd cause
-net-left auction journals s value shelf how.OtherTerms net cause = absurd cause
-net-left auction journals s value shelf (how.NotPrefix clock place) net cause = absurd cause
-net-left auction journals s value shelf (how.TargetFull clock needed) net cause = absurd cause
-net-left auction journals s value shelf (how.BadTarget clock fault) net cause = absurd cause
 
--- journals that were served are left as said
-pub served-leaves : (value : Auction) (journals : List ℕ) (s : Serving) (shelf : ShelfSeen) (net : NetSeen) (hosted : Hosted) → JournalsServed value journals s shelf net hosted → LeavesAll value journals shelf
-served-leaves value journals s shelf net hosted served =
-    let clocks = served.clocks in
-    tells-map shelf.files_before shelf.files
-    (λ x y. (k : ℕ) (c : ClockRun) → k < length clocks → IsJournalRun (owner_of value.terms k value.digest) (get_or clocks k c) (moments_at x (journal_name journals k)) (moments_at y (journal_name journals k)))
-    (λ x y. (k : ℕ) → k ≤ value.terms.bidders → LeavesJournal (owner_of value.terms k value.digest) (moments_at x (journal_name journals k)) (moments_at y (journal_name journals k)))
-    (λ x y all k few.
-    let below : k < length clocks = (let e = served.ran.count_is in omega arith) in
-    let c = some-of clocks k below in
-    inr (get_or clocks k c, served.ran.clocks_are k c below, all k c below))
-    served.ran.journals_are
+net-failed : (auction journals : List ℕ) (s : Serving) (end : Ended) (net : NetSeen) → IsNetEnd net.faults_before net.faults end → NetFrame (serve_needs auction journals s) end net
+net-failed auction journals s end net fault = record {
+  quiet = λ differs. absurd (differs fault.end_is);
+  later = fault.later;
+  untouched = λ no_bid no_serve. absurd (let no : ⊥ = cc in no);
+  early = λ clock no_bid ended. absurd (let e : how.NetFault ≡ how.DiskFault clock = sym fault.end_is ∙ ended in cc e);
+}
+
+pub net-left : (auction journals : List ℕ) (s : Serving) (value : Auction) (shelf : ShelfSeen) (end : Ended) (net : NetSeen) → ServesJournals value journals s shelf net (Err end) → NetFrame (serve_needs auction journals s) end net
+net-left auction journals s value shelf end net (inl served) = net-failed auction journals s end net served.answer_is.cause
+net-left auction journals s value shelf end net (inr not) = of not.not.cause
+  where
+    of : NotServing value journals shelf net end → NetFrame (serve_needs auction journals s) end net
+    of (inl fails) = net-untouched auction journals s end net fails.untouched
+    of (inr (inl refused)) = net-untouched auction journals s end net refused.untouched
+    of (inr (inr (inl fault))) = net-failed auction journals s end net fault
+    of (inr (inr (inr memory))) = steady-net auction journals s end net (λ clock ended. (let e : how.NoMemory ≡ how.DiskFault clock = sym memory.end_is ∙ ended in cc e)) memory.steady

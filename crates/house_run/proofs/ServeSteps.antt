@@ -23,18 +23,18 @@ use Rattle.clock_book.specs.declared.faults.OpenFault.{OpenFault}
 use Rattle.clock_book.specs.declared.faults.OpenFault.TheVariants as why
 use Rattle.house_serve.specs.Houses.{DoorRun, IsRun, Joins, turns_of}
 use Rattle.house_run.specs.Causes.{FailedAt}
-use Rattle.house_run.specs.ClockRuns.{BeginNew, ClockRun, IsClockRun, IsJournalRun, LeavesJournal}
+use Rattle.house_run.specs.ClockRuns.{BeginNew, ClockRun, IsClockRun, IsJournalRun, LeavesJournal, NoneFailed}
 use Rattle.house_run.specs.Disks.{AreGivenBack, AreNotOpen, AreOpen, IsJournalBelow, IsNotOpened, KeepsMoments, KeepsOthers}
 use Rattle.house_run.specs.DoorsSeen.{DoorSeen, LinkSeen, door_seen, link_seen, links_seen}
 use Rattle.house_run.specs.Frame.{RisesAmong}
 use Rattle.house_run.specs.Found.{told_first}
-use Rattle.house_run.specs.Hosting.{DoorsRan, DoorsServed, HostEnd, HostOutcome, IsSameNet, LeavesDisk}
+use Rattle.house_run.specs.Hosting.{DoorsRan, DoorsServed, HostEnd, HostOutcome, IsHosted, IsSameNet, IsUnhosted, LeavesDisk, LeavesNet, ServedAnswer}
 use Rattle.house_run.specs.Journals.{IsFirstRefused, IsRefusal}
 use Rattle.house_run.specs.Needs.{first_journals, journal_name, with_names}
 use Rattle.command_line.specs.Parts.{Serving}
 use Rattle.house_run.specs.Nets.{NetSeen, NetView, IsNetUntouched, net_view}
 use Rattle.house_run.specs.Seen.{ShelfSeen, content}
-use Rattle.house_run.specs.Serving.{ClocksRan, DoorsServing, JoinAll, JournalsNotServed, JournalsServed, KeepsJournals, LeavesAll, NotServing, ServesAt, ServesJournals}
+use Rattle.house_run.specs.Serving.{AuctionServed, ClocksRan, DoorsServing, JoinAll, JournalsNotServed, JournalsServed, KeepsJournals, LeavesAll, LeavesNetAt, NotServing, ServesAt, ServesJournals}
 use Rattle.house_run.specs.Status.{end_at}
 use Rattle.house_run.specs.declared.ends.Ended.{Ended}
 use Rattle.house_run.specs.declared.ends.Ended.TheVariants as how
@@ -42,7 +42,7 @@ use Rattle.house_run.specs.declared.hosting.Hosted.{Hosted}
 use Rattle.house_run.proofs.ClockRunning.{was-told}
 use Rattle.house_run.proofs.DiskSteps.{Keeps, between, keeps-itself, keeps-then, some-of}
 use Rattle.house_run.proofs.Framing.{content-now}
-use Rattle.house_run.proofs.GivingSteps.{map-map}
+use Rattle.house_run.proofs.GivingSteps.{map-map, told-same}
 use Rattle.house_run.proofs.JournalSteps.{OneRead, first-read}
 use Rattle.house_run.proofs.RunsSeen.{all-seen, run_seen, told-by, turns-seen}
 
@@ -81,21 +81,38 @@ module _ {R L M : Type 0} (told : R → Option (DoorLinks M)) (faults : R → �
     });
   }
 
-  none-seen : (sessions : ℕ) (auction : Auction) (runs : List (DoorRun R M)) → AllByRecursion (λ (r : DoorRun R M). r.log.failed ≡ false) runs
-      → AllByRecursion (λ (d : DoorRun DoorSeen LinkSeen). d.log.failed ≡ false) (map (run_seen told faults link_told link_faults auction sessions) runs)
+  pub leaves-at : (count : ℕ) (b a : NetLists R L) → LeavesNet told count b a → LeavesNetAt count (net_view told link_told link_faults dialled_told b) (net_view told link_told link_faults dialled_told a)
+  leaves-at count b a (inl same) = inl (ap (net_view told link_told link_faults dialled_told) same)
+  leaves-at count b a (inr (given, served)) = inr (map (door_seen told faults link_told link_faults) given, serves-at count given given b a served)
+
+  none-seen : (sessions : ℕ) (auction : Auction) (runs : List (DoorRun R M)) → NoneFailed runs → NoneFailed (map (run_seen told faults link_told link_faults auction sessions) runs)
   none-seen sessions auction [] all = tt
   none-seen sessions auction (r ∷ runs) all = (all.0, none-seen sessions auction runs all.1)
+
+  none-behind : (sessions : ℕ) (auction : Auction) (runs : List (DoorRun R M)) → NoneFailed (map (run_seen told faults link_told link_faults auction sessions) runs) → NoneFailed runs
+  none-behind sessions auction [] all = tt
+  none-behind sessions auction (r ∷ runs) all = (all.0, none-behind sessions auction runs all.1)
+
+  pub answer-seen : (answer : Result Hosted Ended) (sessions : ℕ) (auction : Auction) (clocks : List ClockHistory) (runs : List (DoorRun R M)) (before now : ℕ) → ServedAnswer clocks runs answer before now
+      → ServedAnswer clocks (map (run_seen told faults link_told link_faults auction sessions) runs) answer before now
+  answer-seen (Ok hosted) sessions auction clocks runs before now told_of = record {
+    none_failed = none-seen sessions auction runs told_of.none_failed;
+    histories_are = told_of.histories_are;
+    ends_are = told_of.ends_are ∙ sym (map-map (λ (d : DoorRun DoorSeen LinkSeen). d.log.ends.items) (run_seen told faults link_told link_faults auction sessions) runs);
+    steady = told_of.steady;
+  }
+  answer-seen (Err end) sessions auction clocks runs before now told_of = record { some_failed = λ none. told_of.some_failed (none-behind sessions auction runs none); cause = told_of.cause }
 
   pub begin-seen : (sessions : ℕ) (auction : Auction) (terms : Terms) (digest : List ℕ) (clocks : List ClockRun) (runs : List (DoorRun R M)) → BeginNew terms digest clocks runs
       → BeginNew terms digest clocks (map (run_seen told faults link_told link_faults auction sessions) runs)
   begin-seen sessions auction terms digest clocks [] all = tt
   begin-seen sessions auction terms digest clocks (r ∷ runs) all = (all.0, begin-seen sessions auction terms digest clocks runs all.1)
 
-  pub doors-serving : (auction : Auction) (s : Serving) (runs : List (DoorRun R M)) (ends : _) (before after : Option (NetLists R L)) (counted_before counted : ℕ)
-      → DoorsRan {L = L} told faults link_told link_faults auction s.doors s.sessions runs ends before after counted_before counted
+  pub doors-serving : (auction : Auction) (s : Serving) (runs : List (DoorRun R M)) (before after : Option (NetLists R L)) (counted_before counted : ℕ)
+      → DoorsRan {L = L} told faults link_told link_faults auction s.doors s.sessions runs before after
       → DoorsServing auction s (record { told_before = option_map (net_view told link_told link_faults dialled_told) before; told = option_map (net_view told link_told link_faults dialled_told) after; faults_before = counted_before; faults = counted })
       (map (run_seen told faults link_told link_faults auction s.sessions) runs)
-  doors-serving auction s runs ends before after counted_before counted ran =
+  doors-serving auction s runs before after counted_before counted ran =
       let seen = run_seen told faults link_told link_faults auction s.sessions in
       let door = door_seen told faults link_told link_faults in
       let given = map-map (λ (d : DoorRun DoorSeen LinkSeen). d.door) seen runs ∙ sym (map-map door (λ (r : DoorRun R M). r.door) runs) in
@@ -108,7 +125,6 @@ module _ {R L M : Type 0} (told : R → Option (DoorLinks M)) (faults : R → �
       record {
         count_is = length-map runs seen ∙ ran.count_is;
         each = all-seen told faults link_told link_faults auction s.sessions runs ran.each;
-        none_failed = none-seen s.sessions auction runs ran.none_failed;
         lists = subst (λ gs. V gs (map (λ (d : DoorRun DoorSeen LinkSeen). d.log.door) (map seen runs))) (sym given) (subst (V (map door (map (λ (r : DoorRun R M). r.door) runs))) (sym back) lists);
       }
 
@@ -134,9 +150,9 @@ pub below-all : (journals : List ℕ) (n m : ℕ) (name : List ℕ) → n ≤ m 
 below-all journals n m name more b = (b.0, (let l = b.1 in omega arith), b.2)
 
 -- nothing was done, for want of memory
-pub none-served : (value : Auction) (journals : List ℕ) (files : Option (List NamedFile)) (counts : List ℕ → ℕ) (names : List (List ℕ)) (told : Option NetView) (counted : ℕ)
-    → JournalsNotServed value journals (between files files counts counts names names) (record { told_before = told; told = told; faults_before = counted; faults = counted }) how.NoMemory
-none-served value journals files counts names told counted = record {
+pub none-served : (value : Auction) (journals : List ℕ) (s : Serving) (files : Option (List NamedFile)) (counts : List ℕ → ℕ) (names : List (List ℕ)) (told : Option NetView) (counted : ℕ)
+    → JournalsNotServed value journals s (between files files counts counts names names) (record { told_before = told; told = told; faults_before = counted; faults = counted }) how.NoMemory
+none-served value journals s files counts names told counted = record {
   keeps = record {
     others = keeps-itself (IsJournalBelow journals (value.terms.bidders + 1)) files;
     counts = record { later = λ s. omega arith; others = λ s not. refl };
@@ -144,8 +160,11 @@ none-served value journals files counts names told counted = record {
     few = omega arith;
     names = refl;
   };
-  left = same files;
-  cause = refl;
+  not = record {
+    left = same files;
+    net_is = told-same (LeavesNetAt s.doors) told (λ x. inl refl);
+    cause = inr (inr (inr (record { end_is = refl; steady = refl })));
+  };
 }
   where
     same : (o : Option (List NamedFile)) → IfTells o (λ after. IfWasTold o (λ before. (k : ℕ) → k ≤ value.terms.bidders → LeavesJournal (owner_of value.terms k value.digest) (moments_at before (journal_name journals k)) (moments_at after (journal_name journals k))))
@@ -153,9 +172,9 @@ none-served value journals files counts names told counted = record {
     same (Some files) = λ k few. inl (inl refl)
 
 -- the journals were not all opened
-pub none-opened : (fault : OpenFault) (value : Auction) (journals : List ℕ) (clock : ℕ) (shelf : ShelfSeen) (told : Option NetView) (counted : ℕ) → AreNotOpen journals (value.terms.bidders + 1) clock fault shelf
-    → JournalsNotServed value journals shelf (record { told_before = told; told = told; faults_before = counted; faults = counted }) (end_at clock fault)
-none-opened fault value journals clock shelf told counted not = record {
+pub none-opened : (fault : OpenFault) (value : Auction) (journals : List ℕ) (s : Serving) (clock : ℕ) (shelf : ShelfSeen) (told : Option NetView) (counted : ℕ) → AreNotOpen journals (value.terms.bidders + 1) clock fault shelf
+    → JournalsNotServed value journals s shelf (record { told_before = told; told = told; faults_before = counted; faults = counted }) (end_at clock fault)
+none-opened fault value journals s clock shelf told counted not = record {
   keeps = record {
     others = keeps-then (IsJournalBelow journals clock) (λ s. ⊥) (IsJournalBelow journals n) shelf.files_before shelf.files shelf.files (λ s b. below-all journals clock n s (let w = not.within in omega arith) b) (λ s b. absurd b) not.others (keeps-itself (λ s. ⊥) shelf.files);
     counts = counts fault not.cause;
@@ -163,15 +182,15 @@ none-opened fault value journals clock shelf told counted not = record {
     few = not.few;
     names = not.names;
   };
-  left = left shelf.files_before shelf.files not.moments;
-  cause = cause fault not.cause;
+  not = record {
+    left = left shelf.files_before shelf.files not.moments;
+    net_is = told-same (LeavesNetAt s.doors) told (λ x. inl refl);
+    cause = cause fault not.cause;
+  };
 }
   where
     n : ℕ
     n = value.terms.bidders + 1
-
-    net : NetSeen
-    net = record { told_before = told; told = told; faults_before = counted; faults = counted }
 
     counts : (w : OpenFault) → IsNotOpened shelf journals clock w → RisesAmong (IsJournalBelow journals (value.terms.bidders + 1)) shelf.faults_before shelf.faults
     counts why.DiskFault failed = record { later = failed.counts.later; others = λ s other. failed.counts.others s (λ e. other (clock, (let w = not.within in w), e)) }
@@ -186,8 +205,8 @@ none-opened fault value journals clock shelf told counted not = record {
     left (Some a) (Some c) kept = λ k few. inl (inl (kept (journal_name journals k)))
 
     cause : (w : OpenFault) → IsNotOpened shelf journals clock w → NotServing value journals shelf (record { told_before = told; told = told; faults_before = counted; faults = counted }) (end_at clock w)
-    cause why.DiskFault failed = ((let w = not.within in omega arith), failed.failed, (refl, refl))
-    cause why.NoMemory steady = refl
+    cause why.DiskFault failed = inl (record { clock = clock; end_is = refl; within = let w = not.within in omega arith; failed = failed.failed; untouched = (refl, refl) })
+    cause why.NoMemory steady = inr (inr (inr (record { end_is = refl; steady = refl })))
     cause (why.Broken broken) no_such = absurd no_such
     cause (why.NotAcceptable number judgement) no_such = absurd no_such
 
@@ -290,84 +309,94 @@ module _ {D R L M : Type 0} (tells : D → Bool) (moments : D → Moments) (disk
   abbrev seen-net : Option (NetLists R L) → Option (NetLists R L) → ℕ → ℕ → NetSeen
   seen-net before after counted_before counted = record { told_before = option_map (net_view told link_told link_faults dialled_told) before; told = option_map (net_view told link_told link_faults dialled_told) after; faults_before = counted_before; faults = counted }
 
-  pub served-journals : (answer : Result Hosted Ended) (value : Auction) (journals : List ℕ) (s : Serving) (old disks : List D) (shelf : ShelfSeen) (files : Option (List NamedFile)) (counts : List ℕ → ℕ) (names : List (List ℕ)) (before after : Option (NetLists R L)) (counted_before counted : ℕ)
-      → length old ≡ value.terms.bidders + 1
-      → AreOpen tells moments disk_faults journals old (between shelf.files_before files shelf.faults_before counts shelf.opened_before names)
-      → AreGivenBack tells moments disk_faults journals disks (between files shelf.files counts shelf.faults names shelf.opened)
-      → HostOutcome {L = L} tells moments disk_faults told faults link_told link_faults value s.doors s.sessions old answer disks before after counted_before counted
-      → ServesJournals value journals s shelf (seen-net before after counted_before counted) answer
-  served-journals (Ok hosted) value journals s old disks shelf files counts names before after counted_before counted long are given is =
-      let seen = run_seen told faults link_told link_faults value s.sessions in
-      let Q : ℕ → Moments → Moments → Type 0 = λ k m n. (c : ClockRun) → IsJournalRun (owner_of value.terms k value.digest) (get_or is.clocks k c) m n in
-      record {
-        keeps = keeps-journals tells moments disk_faults journals old disks shelf files counts names (value.terms.bidders + 1) long is.disks_count are given;
-        clocks = is.clocks;
-        ran = record {
-          count_is = is.count_is ∙ long;
-          clocks_are = is.clocks_are;
-          marks = λ k c below.
-              let d = some-of old k (let e = is.count_is in omega arith) in
-              journal-failed tells moments disk_faults journals old disks shelf files counts names k d (marks_in (get_or is.clocks k c).closed.history) (let e = is.count_is in omega arith) is.disks_count are given (is.marks k c d below);
-          journals_are =
-              tells-map shelf.files_before shelf.files (λ x y. (k : ℕ) → k < length old → Q k (moments_at x (journal_name journals k)) (moments_at y (journal_name journals k)))
-              (λ x y. (k : ℕ) (c : ClockRun) → k < length is.clocks → IsJournalRun (owner_of value.terms k value.digest) (get_or is.clocks k c) (moments_at x (journal_name journals k)) (moments_at y (journal_name journals k)))
-              (λ x y all k c below. all k (let e = is.count_is in omega arith) c)
-              (journal-moments tells moments journals Q old disks shelf.files_before files shelf.files (IsJournalBelow journals (length old)) (IsJournalBelow journals (length disks)) are.others given.others are.stand given.left is.disks_count
-              (λ k d below told_now c. is.journals_are k c d (let e = is.count_is in omega arith) told_now));
-        };
-        histories_are = is.histories_are;
-        doors = map seen is.runs;
-        new = begin-seen told faults link_told link_faults dialled_told s.sessions value value.terms value.digest is.clocks is.runs is.new;
-        serving = doors-serving told faults link_told link_faults dialled_told value s is.runs (map (λ ends. ends.items) hosted.ends.items) before after counted_before counted is.ran;
-        joins = λ k c below.
-            subst (λ turns. Joins (get_or is.clocks k c).opening (get_or is.clocks k c).closed.history turns k) (sym (turns-seen told faults link_told link_faults value s.sessions is.runs)) (is.joins k c below);
-        ends_are = is.ran.ends_are ∙ sym (map-map (λ (d : DoorRun DoorSeen LinkSeen). d.log.ends.items) seen is.runs);
-        steady = is.ran.steady;
-      }
-  served-journals (Err end) value journals s old disks shelf files counts names before after counted_before counted long are given is = record {
-    keeps = keeps-journals tells moments disk_faults journals old disks shelf files counts names (value.terms.bidders + 1) long is.disks_count are given;
-    left =
-        tells-map shelf.files_before shelf.files (λ x y. (k : ℕ) → k < length old → LeavesJournal (owner_of value.terms k value.digest) (moments_at x (journal_name journals k)) (moments_at y (journal_name journals k)))
-        (λ x y. (k : ℕ) → k ≤ value.terms.bidders → LeavesJournal (owner_of value.terms k value.digest) (moments_at x (journal_name journals k)) (moments_at y (journal_name journals k)))
-        (λ x y all k few. all k (omega arith))
-        (journal-moments tells moments journals (λ k m n. LeavesJournal (owner_of value.terms k value.digest) m n) old disks shelf.files_before files shelf.files (IsJournalBelow journals (length old)) (IsJournalBelow journals (length disks)) are.others given.others
-        are.stand given.left is.disks_count (λ k d below told_now. leaves (owner_of value.terms k value.digest) (get_or old k d) (get_or disks k d) told_now (is.left k d below)));
-    cause = cause end is.cause;
-  }
-    where
-      leaves : (owner : Owner) (x y : D) → IsTrue (tells y) → LeavesDisk tells moments owner x y → LeavesJournal owner (moments x) (moments y)
-      leaves owner x y told_now (inl left) = inl (left told_now)
-      leaves owner x y told_now (inr run) = inr (run.0, run.1, run.2 told_now)
+  abbrev closed-on : Auction → Serving → List D → List D → Result Hosted Ended → Option (NetLists R L) → Option (NetLists R L) → ℕ → ℕ → Type 0
+  closed-on value s old disks answer before after counted_before counted = IsHosted {L = L} tells moments disk_faults told faults link_told link_faults value s.doors s.sessions old disks answer before after counted_before counted
 
-      untouched : IsSameNet before after counted_before counted → IsNetUntouched (seen-net before after counted_before counted)
-      untouched same = (ap (option_map (net_view told link_told link_faults dialled_told)) same.told_same, same.counted_same)
+  module _ (value : Auction) (journals : List ℕ) (s : Serving) (old disks : List D) (shelf : ShelfSeen) (files : Option (List NamedFile)) (counts : List ℕ → ℕ) (names : List (List ℕ)) (before after : Option (NetLists R L)) (counted_before counted : ℕ)
+      (long : length old ≡ value.terms.bidders + 1)
+      (are : AreOpen tells moments disk_faults journals old (between shelf.files_before files shelf.faults_before counts shelf.opened_before names))
+      (given : AreGivenBack tells moments disk_faults journals disks (between files shelf.files counts shelf.faults names shelf.opened)) where
+    -- the auction was served
+    were-served : (answer : Result Hosted Ended) → closed-on value s old disks answer before after counted_before counted → JournalsServed value journals s shelf (seen-net before after counted_before counted) answer
+    were-served answer is =
+        let seen = run_seen told faults link_told link_faults value s.sessions in
+        let Q : ℕ → Moments → Moments → Type 0 = λ k m n. (c : ClockRun) → IsJournalRun (owner_of value.terms k value.digest) (get_or is.clocks k c) m n in
+        record {
+          keeps = keeps-journals tells moments disk_faults journals old disks shelf files counts names (value.terms.bidders + 1) long is.disks_count are given;
+          clocks = is.clocks;
+          doors = map seen is.runs;
+          served = record {
+            ran = record {
+              count_is = is.count_is ∙ long;
+              clocks_are = is.clocks_are;
+              marks = λ k c below.
+                  let d = some-of old k (let e = is.count_is in omega arith) in
+                  journal-failed tells moments disk_faults journals old disks shelf files counts names k d (marks_in (get_or is.clocks k c).closed.history) (let e = is.count_is in omega arith) is.disks_count are given (is.marks k c d below);
+              journals_are =
+                  tells-map shelf.files_before shelf.files (λ x y. (k : ℕ) → k < length old → Q k (moments_at x (journal_name journals k)) (moments_at y (journal_name journals k)))
+                  (λ x y. (k : ℕ) (c : ClockRun) → k < length is.clocks → IsJournalRun (owner_of value.terms k value.digest) (get_or is.clocks k c) (moments_at x (journal_name journals k)) (moments_at y (journal_name journals k)))
+                  (λ x y all k c below. all k (let e = is.count_is in omega arith) c)
+                  (journal-moments tells moments journals Q old disks shelf.files_before files shelf.files (IsJournalBelow journals (length old)) (IsJournalBelow journals (length disks)) are.others given.others are.stand given.left is.disks_count
+                  (λ k d below told_now c. is.journals_are k c d (let e = is.count_is in omega arith) told_now));
+            };
+            new = begin-seen told faults link_told link_faults dialled_told s.sessions value value.terms value.digest is.clocks is.runs is.new;
+            serving = doors-serving told faults link_told link_faults dialled_told value s is.runs before after counted_before counted is.ran;
+            joins = λ k c below.
+                subst (λ turns. Joins (get_or is.clocks k c).opening (get_or is.clocks k c).closed.history turns k) (sym (turns-seen told faults link_told link_faults value s.sessions is.runs)) (is.joins k c below);
+          };
+          answer_is = answer-seen told faults link_told link_faults dialled_told answer s.sessions value (map (λ (c : ClockRun). c.closed.clock) is.clocks) is.runs counted_before counted is.answer_is;
+        }
 
-      cause : (w : Ended) → HostEnd {N = NetLists R L} tells moments disk_faults value.terms value.digest old disks before after counted_before counted w → NotServing value journals shelf (seen-net before after counted_before counted) w
-      cause (how.DiskFault clock) (not, same) =
-          let d = some-of old clock not.within in
-          let rose = (not.refused d).counts in
-          ((let w = not.within in omega arith), journal-rose tells moments disk_faults journals old disks shelf files counts names clock d not.within not.count are given (All-from_recursion (λ (x : D). disk_faults x ≡ 0) old are.fresh clock d not.within) rose.1, untouched same)
-      cause (how.BadJournal clock fault) (not, refusal, same) =
-          ((let w = not.within in omega arith), first-refused tells moments disk_faults value.terms value.digest journals old disks shelf files counts names are given clock fault not refusal, untouched same)
-      cause how.NetFault ended = ended
-      cause how.NoMemory ended = ended
-      cause how.Done ended = absurd ended
-      cause how.Usage ended = absurd ended
-      cause how.ReadFault ended = absurd ended
-      cause how.WriteFault ended = absurd ended
-      cause (how.BadAuction fault) ended = absurd ended
-      cause (how.Open clock round missing) ended = absurd ended
-      cause (how.NoAward clock) ended = absurd ended
-      cause (how.Halted clock good) ended = absurd ended
-      cause (how.BadValues fault) ended = absurd ended
-      cause (how.NotSubstitutes bidder x y good) ended = absurd ended
-      cause (how.TooLong file) ended = absurd ended
-      cause (how.BadLog place) ended = absurd ended
-      cause (how.Refused code detail value) ended = absurd ended
-      cause (how.LooksSpent clock) ended = absurd ended
-      cause how.BadReply ended = absurd ended
-      cause (how.NoBidder bidder) ended = absurd ended
-      cause how.OtherTerms ended = absurd ended
-      cause (how.NotPrefix clock place) ended = absurd ended
-      cause (how.TargetFull clock needed) ended = absurd ended
-      cause (how.BadTarget clock fault) ended = absurd ended
+    leaves : (owner : Owner) (x y : D) → IsTrue (tells y) → LeavesDisk tells moments owner x y → LeavesJournal owner (moments x) (moments y)
+    leaves owner x y told_now (inl left) = inl (left told_now)
+    leaves owner x y told_now (inr (run, is, unused, journal)) = inr (run, is, unused, journal told_now)
+
+    untouched : IsSameNet before after counted_before counted → IsNetUntouched (seen-net before after counted_before counted)
+    untouched same = (ap (option_map (net_view told link_told link_faults dialled_told)) same.told_same, same.counted_same)
+
+    why-not : (end : Ended) → HostEnd {N = NetLists R L} tells moments disk_faults value.terms value.digest old disks before after counted_before counted end → NotServing value journals shelf (seen-net before after counted_before counted) end
+    why-not end (inl failed) =
+        let not = failed.not_open in
+        let d = some-of old failed.clock not.within in
+        let rose = (not.refused d).counts in
+        inl (record {
+          clock = failed.clock;
+          end_is = failed.end_is;
+          within = let w = not.within in omega arith;
+          failed = journal-rose tells moments disk_faults journals old disks shelf files counts names failed.clock d not.within not.count are given (All-from_recursion (λ (x : D). disk_faults x ≡ 0) old are.fresh failed.clock d not.within) rose.1;
+          untouched = untouched failed.same;
+        })
+    why-not end (inr (inl refused)) =
+        let not = refused.not_open in
+        inr (inl (record {
+          clock = refused.clock;
+          fault = refused.fault;
+          end_is = refused.end_is;
+          within = let w = not.within in omega arith;
+          first = first-refused tells moments disk_faults value.terms value.digest journals old disks shelf files counts names are given refused.clock refused.fault not refused.refusal;
+          untouched = untouched refused.same;
+        }))
+    why-not end (inr (inr cause)) = inr (inr cause)
+
+    -- it was not
+    were-not-served : (end : Ended) → IsUnhosted {L = L} tells moments disk_faults told faults link_told link_faults value s.doors s.sessions old disks end before after counted_before counted
+        → JournalsNotServed value journals s shelf (seen-net before after counted_before counted) end
+    were-not-served end is = record {
+      keeps = keeps-journals tells moments disk_faults journals old disks shelf files counts names (value.terms.bidders + 1) long is.disks_count are given;
+      not = record {
+        left =
+            tells-map shelf.files_before shelf.files (λ x y. (k : ℕ) → k < length old → LeavesJournal (owner_of value.terms k value.digest) (moments_at x (journal_name journals k)) (moments_at y (journal_name journals k)))
+            (λ x y. (k : ℕ) → k ≤ value.terms.bidders → LeavesJournal (owner_of value.terms k value.digest) (moments_at x (journal_name journals k)) (moments_at y (journal_name journals k)))
+            (λ x y all k few. all k (omega arith))
+            (journal-moments tells moments journals (λ k m n. LeavesJournal (owner_of value.terms k value.digest) m n) old disks shelf.files_before files shelf.files (IsJournalBelow journals (length old)) (IsJournalBelow journals (length disks)) are.others given.others
+            are.stand given.left is.disks_count (λ k d below told_now. leaves (owner_of value.terms k value.digest) (get_or old k d) (get_or disks k d) told_now (is.left k d below)));
+        net_is = told-by (net_view told link_told link_faults dialled_told) (LeavesNet told s.doors) (LeavesNetAt s.doors) before after (leaves-at told faults link_told link_faults dialled_told s.doors) is.net_is;
+        cause = why-not end is.cause;
+      };
+    }
+
+    pub served-journals : (answer : Result Hosted Ended) → HostOutcome {L = L} tells moments disk_faults told faults link_told link_faults value s.doors s.sessions old answer disks before after counted_before counted
+        → ServesJournals value journals s shelf (seen-net before after counted_before counted) answer
+    served-journals (Ok hosted) is = were-served (Ok hosted) is
+    served-journals (Err end) (inl is) = inl (were-served (Err end) is)
+    served-journals (Err end) (inr is) = inr (were-not-served end is)

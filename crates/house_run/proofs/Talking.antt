@@ -17,17 +17,19 @@ use Rattle.bidder_agent.specs.Talks.{Agrees, HasCauseOf, Part}
 use Rattle.bidder_agent.specs.declared.agents.AgentEnd.{AgentEnd}
 use Rattle.bidder_agent.specs.declared.agents.AgentEnd.TheVariants as agent
 use Rattle.bidder_agent.specs.declared.agents.Seen.{Seen}
-use Rattle.house_run.specs.BidCommand.{bid_needs, look_line}
+use Rattle.house_run.specs.BidCommand.{BidFrame, Talked, bid_needs, look_line}
+use Rattle.house_run.specs.Frame.{Frame}
 use Rattle.command_line.specs.Parts.{IsPlayable, Bidding}
 use Rattle.command_line.specs.Commands.{Bid}
-use Rattle.house_run.specs.Dialling.{IsDialled, PlaysIn, TalksOn, part_in}
+use Rattle.house_run.specs.Dialling.{IsDialled, IsUndialled, LeavesTalk, PlaysIn, TalksOn, ended_by, part_in}
 use Rattle.house_run.specs.Ends.{JobAnswer}
 use Rattle.house_run.specs.NetEnds.{Ends, NetFrame}
 use Rattle.house_run.specs.Nets.{NetSeen, NetView, net_view}
 use Rattle.house_run.specs.Seen.{Outside}
-use Rattle.house_run.specs.Steps.{IsTalkEnd, NetCounts, ended_by}
+use Rattle.house_run.specs.Steps.{IsTalkEnd, NetCounts}
 use Rattle.house_run.specs.declared.ends.Ended.{Ended}
 use Rattle.house_run.specs.declared.ends.Ended.TheVariants as how
+use Rattle.house_run.proofs.RunsSeen.{told-by}
 
 -- the part of a bidder with these values
 abbrev pub part_with : Terms → Bidding → List ℕ → Part
@@ -82,6 +84,12 @@ dialled door_told door_link_told door_link_faults told link hung before None (So
 dialled door_told door_link_told door_link_faults told link hung None (Some b) (Some c) gives takes = absurd gives
 dialled door_told door_link_told door_link_faults told link hung (Some a) (Some b) (Some c) gives takes = moved door_told door_link_told door_link_faults told link hung a b c gives takes
 
+-- a dial that was refused
+pub undialled : {D L M : Type 0} (door_told : D → Option (DoorLinks M)) (door_link_told : M → Option LinkBytes) (door_link_faults : M → ℕ) (told : L → Option LinkBytes) (before after : Option (NetLists D L))
+    → IfTold before after (λ b a. a ≡ b) → IfTold (option_map (net_view door_told door_link_told door_link_faults told) before) (option_map (net_view door_told door_link_told door_link_faults told) after) (λ b a. a ≡ b)
+undialled door_told door_link_told door_link_faults told before after same =
+    told-by (net_view door_told door_link_told door_link_faults told) (λ b a. a ≡ b) (λ b a. a ≡ b) before after (λ b a e. ap (net_view door_told door_link_told door_link_faults told) e) same
+
 -- the net's count
 
 pub same-count : (net : NetSeen) (between fresh faults : ℕ) → between ≡ net.faults_before → fresh ≡ 0 → faults ≡ fresh → net.faults ≡ raised_by between faults → net.faults ≡ net.faults_before
@@ -113,6 +121,11 @@ stopped agent.NoMemory net p before after between fresh faults lists agrees stea
     record { ends = tt; counts = quiet-counts net _ (same-count net between fresh faults steady none cause raised) }
 stopped agent.LinkFault net p before after between fresh faults lists agrees steady none cause raised =
     record { ends = rose-count net between fresh faults steady none cause.0 raised; counts = loud-counts net between faults steady raised }
+
+-- what a bid leaves whose talk gave no looks
+pub stop-frame : (auction values : List ℕ) (b : Bidding) (end : Ended) (seen : Outside) (net : NetSeen) (p : Part) → Frame (bid_needs auction values b) end seen → PlaysIn seen.shelf auction values b p → LeavesTalk net p end → BidFrame auction values b end seen net
+stop-frame auction values b end seen net p frame plays (inl undialled) = record { frame = frame; talked = inl undialled }
+stop-frame auction values b end seen net p frame plays (inr (stop, talks, so)) = record { frame = frame; talked = inr (record { part = p; plays = plays; answer = Err stop; talks = talks; so = so }) }
 
 -- how a bid ends whose talk gave no looks
 pub bid-ends : (end : Ended) (auction values : List ℕ) (b : Bidding) (seen : Outside) (net : NetSeen) (p : Part) → PlaysIn seen.shelf auction values b p → IsTalkEnd net p end → Ends (bid_needs auction values b) seen net end

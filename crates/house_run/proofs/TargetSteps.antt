@@ -13,14 +13,17 @@ use Rattle.clock_book.specs.declared.faults.OpenFault.{OpenFault}
 use Rattle.clock_book.specs.declared.faults.OpenFault.TheVariants as why
 use Rattle.clock_book.proofs.OneAnswer.{one-answer}
 use Rattle.migration.specs.Moving.{IsFront, IsMoved, IsNoFrontAt, LeavesTarget}
-use Rattle.migration.specs.Moves.{HasMoveCause, IsFull, IsNotFront, IsNotOpened, Moves, TellsFaultOf}
+use Rattle.std.proofs.lemmas.Bool.{cases_lt}
+use Rattle.std.specs.Prelude.{◌⊎◌, ⊤}
+use Rattle.clock_book.specs.Opened.{LeftUnopened}
+use Rattle.migration.specs.Moves.{AreOpenedUpTo, HasMoveCause, IsFull, IsNotFront, IsNotOpened, Moves, OnlyOpened, TellsFaultOf}
 use Rattle.migration.specs.declared.faults.MoveFault.{MoveFault}
 use Rattle.migration.specs.declared.faults.MoveFault.TheVariants as fault
 use Rattle.house_run.specs.Disks.{AreGivenBack, AreNotOpen, AreOpen, IsJournalBelow, IsNotOpened as IsUnopened, KeepsMoments}
 use Rattle.house_run.specs.Found.{told_first}
 use Rattle.house_run.specs.Frame.{RisesAmong}
 use Rattle.house_run.specs.Journals.{IsFirstRefused, IsRefusal}
-use Rattle.house_run.specs.MigrateCommand.{TellsTarget}
+use Rattle.house_run.specs.MigrateCommand.{TellsLeft, TellsTarget}
 use Rattle.house_run.specs.MovingJournals.{IsFirstOff, IsTargetFull, JournalsMoved, JournalsNotMoved, KeepsTargets, NotMoving, move_end}
 use Rattle.house_run.specs.Needs.{journal_name}
 use Rattle.house_run.specs.Seen.{ShelfSeen, content}
@@ -41,6 +44,12 @@ same-targets value cs target a None kept = tt
 same-targets value cs target None (Some c) kept = absurd kept
 same-targets value cs target (Some a) (Some c) kept = λ k h few. inl (kept (journal_name target k))
 
+-- of most ends nothing is told besides
+nothing-told : (value : Auction) (target : List ℕ) (a c : Option (List NamedFile)) → KeepsMoments a c → IfTells c (λ after. IfWasTold a (λ before. (k : ℕ) (h : ClockHistory) → k ≤ value.terms.bidders → ⊤))
+nothing-told value target a None kept = tt
+nothing-told value target None (Some c) kept = absurd kept
+nothing-told value target (Some a) (Some c) kept = λ k h few. tt
+
 moments-stay : (a : Option (List NamedFile)) → KeepsMoments a a
 moments-stay None = tt
 moments-stay (Some a) = λ name. refl
@@ -52,6 +61,7 @@ none-moved value cs target files counts names = record {
   keeps = record {
     others = keeps-itself (IsJournalBelow target (value.terms.bidders + 1)) files;
     left = same-targets value cs target files files (moments-stay files);
+    told = nothing-told value target files files (moments-stay files);
     counts = record { later = λ s. omega arith; others = λ s not. refl };
     front = 0;
     few = omega arith;
@@ -68,6 +78,7 @@ none-opened refusal value cs target clock shelf not = record {
     others = keeps-then (IsJournalBelow target clock) (λ s. ⊥) (IsJournalBelow target (value.terms.bidders + 1)) shelf.files_before shelf.files shelf.files
         (λ s b. below-all target clock (value.terms.bidders + 1) s (let w = not.within in omega arith) b) (λ s b. absurd b) not.others (keeps-itself (λ s. ⊥) shelf.files);
     left = same-targets value cs target shelf.files_before shelf.files not.moments;
+    told = told refusal not.cause;
     counts = counts refusal not.cause;
     front = not.front;
     few = not.few;
@@ -81,6 +92,13 @@ none-opened refusal value cs target clock shelf not = record {
     counts why.NoMemory steady = record { later = λ s. (let e = steady s in omega arith); others = λ s other. steady s }
     counts (why.Broken broken) no_such = absurd no_such
     counts (why.NotAcceptable number judgement) no_such = absurd no_such
+
+    told : (w : OpenFault) → IsUnopened shelf target clock w → IfTells shelf.files (λ after. IfWasTold shelf.files_before (λ before. (k : ℕ) (h : ClockHistory) → k ≤ value.terms.bidders
+        → TellsLeft (end_at clock w) (owner_of value.terms k value.digest) k (get_or cs k h).reports (moments_at before (journal_name target k)) (moments_at after (journal_name target k))))
+    told why.DiskFault failed = nothing-told value target shelf.files_before shelf.files not.moments
+    told why.NoMemory steady = nothing-told value target shelf.files_before shelf.files not.moments
+    told (why.Broken broken) no_such = absurd no_such
+    told (why.NotAcceptable number judgement) no_such = absurd no_such
 
     cause : (w : OpenFault) → IsUnopened shelf target clock w → NotMoving value cs target shelf (end_at clock w)
     cause why.DiskFault failed = ((let w = not.within in omega arith), failed.failed)
@@ -169,13 +187,46 @@ module _ {D : Type 0} (tells : D → Bool) (moments : D → Moments) (faults : D
             | inr told ↦ absurd (quiet (tell k told.0))
           ]
 
+  abbrev Told : Ended → ℕ → D → ClockHistory → Type 0
+  Told end k d c = IsTrue (tells (get_or disks k d)) → TellsLeft end (owner_of value.terms k value.digest) k (get_or cs k c).reports (moments (get_or old k d)) (moments (get_or disks k d))
+
+  -- what is told besides of each target
+  unopened-at : (clock : ℕ) → AreOpenedUpTo tells moments faults value.terms value.digest cs old disks clock → (k : ℕ) (d : D) → IsTrue (tells (get_or disks k d))
+      → LeftUnopened (owner_of value.terms k value.digest) (moments (get_or old k d)) (moments (get_or disks k d))
+  unopened-at clock opened k d told = of (cases_lt k clock)
+    where
+      of : (k < clock) ⊎ (clock ≤ k) → LeftUnopened (owner_of value.terms k value.digest) (moments (get_or old k d)) (moments (get_or disks k d))
+      of (inl before) = inr (opened.before k d before told)
+      of (inr beyond) = elim (cases_lt clock k) [
+        | inl after ↦ inl (ap moments (opened.later k d after))
+        | inr same ↦
+            let here : clock ≡ k = omega arith in
+            let U : ℕ → Type 0 = λ n. IsTrue (tells (get_or disks n d)) → LeftUnopened (owner_of value.terms n value.digest) (moments (get_or old n d)) (moments (get_or disks n d)) in
+            subst U here (opened.here d) told
+      ]
+
+  told-opened : (clock : ℕ) (refusal : OpenFault) → AreOpenedUpTo tells moments faults value.terms value.digest cs old disks clock → (k : ℕ) (d : D) (c : ClockHistory) → Told (move_end (fault.NotOpened clock refusal)) k d c
+  told-opened clock why.DiskFault opened k d c told = tt
+  told-opened clock why.NoMemory opened k d c told = tt
+  told-opened clock (why.Broken broken) opened k d c told = unopened-at clock opened k d told
+  told-opened clock (why.NotAcceptable number judgement) opened k d c told = unopened-at clock opened k d told
+
+  told-left : (w : MoveFault) → OnlyOpened tells moments faults value.terms value.digest cs old disks (Err w) → HasMoveCause tells moments faults value.terms value.digest cs old disks w
+      → (k : ℕ) (d : D) (c : ClockHistory) → k < length old → Told (move_end w) k d c
+  told-left (fault.NotOpened clock refusal) only cause k d c below = told-opened clock refusal only k d c
+  told-left (fault.NotFront clock number) only cause k d c below = λ told. inr (only k d below told)
+  told-left (fault.Full clock needed) only cause k d c below = λ told less. cause.before k d c less told
+  told-left (fault.DiskFault clock) only cause k d c below = λ told. tt
+  told-left fault.NoMemory only cause k d c below = λ told. tt
+
   targets-kept : (answer : Result (Unit {0}) MoveFault) (end : Ended) → Moves tells moments faults value.terms value.digest cs old disks answer → ((k : ℕ) → TellsFaultOf k answer → TellsTarget target end (journal_name target k))
-      → KeepsTargets value cs target shelf end
-  targets-kept answer end moves tell =
+      → ((k : ℕ) (d : D) (c : ClockHistory) → k < length old → Told end k d c) → KeepsTargets value cs target shelf end
+  targets-kept answer end moves tell besides =
       let keeps = keeps-journals tells moments faults target old disks shelf files counts names (value.terms.bidders + 1) long moves.count are given in
       record {
         others = keeps.others;
         left = at-each (λ k c m n. LeavesTarget (owner_of value.terms k value.digest) (get_or cs k c).reports m n) moves.count moves.left;
+        told = at-each (λ k c m n. TellsLeft end (owner_of value.terms k value.digest) k (get_or cs k c).reports m n) moves.count besides;
         counts = counts-kept answer end moves tell;
         front = keeps.front;
         few = keeps.few;
@@ -184,7 +235,7 @@ module _ {D : Type 0} (tells : D → Bool) (moments : D → Moments) (faults : D
 
   pub journals-moved : (done : Unit {0}) → Moves tells moments faults value.terms value.digest cs old disks (Ok done) → JournalsMoved value cs target shelf
   journals-moved done moves = record {
-    keeps = targets-kept (Ok done) how.Done moves (λ k told. absurd told);
+    keeps = targets-kept (Ok done) how.Done moves (λ k told. absurd told) (λ k d c below told. tt);
     moved = at-each (λ k c m n. IsMoved (owner_of value.terms k value.digest) (get_or cs k c).reports m n) moves.count moves.moved;
   }
 
@@ -262,6 +313,6 @@ module _ {D : Type 0} (tells : D → Bool) (moments : D → Moments) (faults : D
 
   pub journals-not-moved : (w : MoveFault) → Moves tells moments faults value.terms value.digest cs old disks (Err w) → JournalsNotMoved value cs target shelf (move_end w)
   journals-not-moved w moves = record {
-    keeps = targets-kept (Err w) (move_end w) moves (tells-move w target);
+    keeps = targets-kept (Err w) (move_end w) moves (tells-move w target) (told-left w moves.unoffered moves.cause);
     cause = not-moving w moves.count moves.cause;
   }

@@ -27,14 +27,14 @@ pub same-end : (sink : SinkSeen) (end made answer : Ended) → end ≡ made → 
 same-end sink end made answer e wrote = let P : Ended → Type 0 = λ x. WroteLine sink x answer in subst P (sym e) wrote
 
 -- the text of a job that was done is written
-pub job-done : (command : Command) (seen : Outside) (net : NetSeen) (sink : SinkSeen) (text written : List ℕ) (answer : Ended) → IsDone command seen net text → CommandFrame command how.Done seen → NetFrame (needs_of command) how.Done net → written ≡ text
+pub job-done : (command : Command) (seen : Outside) (net : NetSeen) (sink : SinkSeen) (text written : List ℕ) (answer : Ended) → IsDone command seen net text → CommandFrame command how.Done seen net → NetFrame (needs_of command) how.Done net → written ≡ text
     → Wrote sink how.Done written answer → CommandEnds command seen net sink answer
 job-done command seen net sink text written answer done frame net_frame same wrote =
     let P : List ℕ → Type 0 = λ t. Wrote sink how.Done t answer in
     inl (record { text = text; done = done; frame = frame; net_frame = net_frame; wrote = subst P same wrote })
 
 -- the line of another end is written, or memory for it ran out
-pub job-ends : (command : Command) (seen : Outside) (net : NetSeen) (sink : SinkSeen) (end answer : Ended) → Ends (needs_of command) (as_seen command seen) net end → CommandFrame command end seen → NetFrame (needs_of command) end net
+pub job-ends : (command : Command) (seen : Outside) (net : NetSeen) (sink : SinkSeen) (end answer : Ended) → Ends (needs_of command) (as_seen command seen) net end → CommandFrame command end seen net → NetFrame (needs_of command) end net
     → WroteLine sink end answer → CommandEnds command seen net sink answer
 job-ends command seen net sink end answer cause frame net_frame wrote = inr (record { end = end; cause = cause; frame = frame; net_frame = net_frame; wrote = wrote })
 

@@ -1,17 +1,20 @@
 -- The command `bid AUCTION VALUES BIDDER TOKEN ADDRESS [--looks N]`: an agent takes the part of a bidder over a link to ADDRESS, who demands by
 -- his valuation in a file, and tells how each clock ended that it saw.
-use Rattle.std.specs.Prelude.{◌≡◌, ◌≤◌, ℕ, List, length, Ok, Some}
+use Rattle.std.specs.Prelude.{◌≡◌, ◌⊎◌, ℕ, List, Result, Ok, Err, Some}
 use Rattle.std.specs.List.{flat_map}
-use Rattle.lot_base.specs.Goods.{IsRange}
 use Rattle.outcome_text.specs.Standing.{standing_line}
 use Rattle.bidder_agent.specs.Talks.{Part}
+use Rattle.bidder_agent.specs.declared.agents.AgentEnd.{AgentEnd}
 use Rattle.bidder_agent.specs.declared.agents.Seen.{Seen}
 use Rattle.bidder_agent.specs.declared.agents.SeenLook.{SeenLook}
-use Rattle.house_run.specs.Dialling.{PlaysIn, TalksOn}
+use Rattle.house_run.specs.Dialling.{IsUndialled, PlaysIn, TalksOn, ended_by}
+use Rattle.house_run.specs.Frame.{Frame}
 use Rattle.house_run.specs.Needs.{Needs, nothing_needed}
 use Rattle.command_line.specs.Parts.{Bidding}
 use Rattle.house_run.specs.Nets.{NetSeen}
-use Rattle.house_run.specs.Seen.{ShelfSeen}
+use Rattle.house_run.specs.Seen.{Outside, ShelfSeen}
+use Rattle.house_run.specs.declared.ends.Ended.{Ended}
+use Rattle.house_run.specs.declared.ends.Ended.TheVariants as how
 
 abbrev pub bid_needs : List ℕ → List ℕ → Bidding → Needs
 bid_needs auction values b = record nothing_needed { auction = Some auction; values = Some values; bid = Some b }
@@ -27,3 +30,23 @@ pub record BidDone (auction values : List ℕ) (b : Bidding) (shelf : ShelfSeen)
   pub seen : Seen
   pub talks : TalksOn net part (Ok seen)
   pub text_is : text ≡ flat_map look_line seen.looks.items
+
+-- How a command ends whose agent talked so: with the end of an agent that stopped; or the part was played to its end, and the text was made or
+-- memory for it ran out.
+abbrev pub TalkedSo : Result Seen AgentEnd → Ended → Type 0
+TalkedSo (Ok seen) end = (end ≡ how.Done) ⊎ (end ≡ how.NoMemory)
+TalkedSo (Err stop) end = end ≡ ended_by stop
+
+-- A link was dialled, the part was played over it, and it was hung up.
+pub record Talked (auction values : List ℕ) (b : Bidding) (end : Ended) (shelf : ShelfSeen) (net : NetSeen) : Type 0 where
+  pub part : Part
+  pub plays : PlaysIn shelf auction values b part
+  pub answer : Result Seen AgentEnd
+  pub talks : TalksOn net part answer
+  pub so : TalkedSo answer end
+
+-- A bid that ended so opened what it needs, in order, changed no file, and passed over no fault that its end does not tell. It dialled no link,
+-- or it talked over one.
+pub record BidFrame (auction values : List ℕ) (b : Bidding) (end : Ended) (seen : Outside) (net : NetSeen) : Type 0 where
+  pub frame : Frame (bid_needs auction values b) end seen
+  pub talked : IsUndialled net ⊎ Talked auction values b end seen.shelf net

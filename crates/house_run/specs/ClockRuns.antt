@@ -1,5 +1,5 @@
 -- What a house that was served comes to at one clock, and at its journal.
-use Rattle.std.specs.Prelude.{◌≡◌, ◌<◌, ◌⊎◌, ℕ, List, [], length, map, slice_index_or, IfSome}
+use Rattle.std.specs.Prelude.{◌≡◌, ◌<◌, ◌⊎◌, ℕ, List, [], false, length, map, slice_index_or, IfSome}
 use Rattle.std.specs.List.{AllByRecursion}
 use Rattle.house_io.specs.Moments.{Leaves, Moments, synced_at}
 use Rattle.lot_base.specs.declared.auction_terms.Terms.{Terms}
@@ -47,6 +47,10 @@ pub record AreNewPasses (terms : Terms) (digest : List ℕ) (clocks : List Clock
 abbrev pub BeginNew : {R L : Type 0} → Terms → List ℕ → List ClockRun → List (DoorRun R L) → Type 0
 BeginNew {R = R} {L = L} terms digest clocks doors = AllByRecursion (λ (d : DoorRun R L). AreNewPasses terms digest clocks d.before.passes) doors
 
+-- no door failed
+abbrev pub NoneFailed : {R L : Type 0} → List (DoorRun R L) → Type 0
+NoneFailed {R = R} {L = L} doors = AllByRecursion (λ (d : DoorRun R L). d.log.failed ≡ false) doors
+
 -- The journal of the clock, which had these moments before and has these after. The reports at the opening are those that it stood for;
 -- at each moment from the sync of the opening on it stood for what the book's past says; and each image of it now stands for the reports
 -- of the closed book, or for these and the one that is pending.
@@ -57,6 +61,10 @@ pub record IsJournalRun (owner : Owner) (run : ClockRun) (before after : Moments
   pub past : KeepsPast run.origin run.closed.clock after
   pub stands : Leaves (IsEither owner run.closed.clock.reports run.closed.pending) after.now
 
--- the journal was left as an opening that was refused leaves it, or as a book that was opened and closed does
+-- The book was closed as it was opened. As the history at an opening has no mark, no report is pending.
+abbrev pub IsUnused : ClockRun → Type 0
+IsUnused run = run.closed.history ≡ run.opening
+
+-- the journal was left as an opening that was refused leaves it, or as one does whose book was closed unused
 abbrev pub LeavesJournal : Owner → Moments → Moments → Type 0
-LeavesJournal owner before after = LeftUnopened owner before after ⊎ ((run : ClockRun) × IsClockRun owner run × IsJournalRun owner run before after)
+LeavesJournal owner before after = LeftUnopened owner before after ⊎ ((run : ClockRun) × IsClockRun owner run × IsUnused run × IsJournalRun owner run before after)

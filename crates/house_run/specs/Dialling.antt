@@ -1,5 +1,5 @@
 -- The part that a bidder's agent plays in the market of two files, and its talk over a link of the net.
-use Rattle.std.specs.Prelude.{◌≡◌, ◌<◌, ◌⊎◌, ℕ, List, [], ◌∷◌, ◌++◌, length, Option, Result}
+use Rattle.std.specs.Prelude.{◌≡◌, ◌<◌, ◌⊎◌, ℕ, List, [], ◌∷◌, ◌++◌, length, Option, Result, Err}
 use Rattle.std.specs.List.{concat}
 use Rattle.house_io.specs.Doors.{IsEmptyLink}
 use Rattle.house_io.specs.Links.{LinkBytes}
@@ -10,11 +10,14 @@ use Rattle.lot_base.specs.declared.auction_terms.Terms.{Terms}
 use Rattle.auction_file.specs.AuctionFile.{Listing}
 use Rattle.bidder_agent.specs.Talks.{Agrees, Part}
 use Rattle.bidder_agent.specs.declared.agents.AgentEnd.{AgentEnd}
+use Rattle.bidder_agent.specs.declared.agents.AgentEnd.TheVariants as agent
 use Rattle.bidder_agent.specs.declared.agents.Seen.{Seen}
 use Rattle.house_run.specs.Markets.{IsMarketAt, market_bidders}
 use Rattle.command_line.specs.Parts.{Bidding}
 use Rattle.house_run.specs.Nets.{NetSeen, NetView}
 use Rattle.house_run.specs.Seen.{ShelfSeen, IsAuctionAt}
+use Rattle.house_run.specs.declared.ends.Ended.{Ended}
+use Rattle.house_run.specs.declared.ends.Ended.TheVariants as how
 
 -- the part of a bidder of a market: at prices he demands all bundles of the greatest surplus
 abbrev pub part_in : Terms → List (List ℕ) → Bidding → Part
@@ -47,6 +50,22 @@ pub record TalksOn (net : NetSeen) (p : Part) (answer : Result Seen AgentEnd) : 
   pub after : Option LinkBytes
   pub agrees : Agrees p before after answer
   pub lists : IfTold net.told_before net.told (IsDialled before after)
+
+-- no link was dialled
+abbrev pub IsUndialled : NetSeen → Type 0
+IsUndialled net = IfTold net.told_before net.told (λ before after. after ≡ before)
+
+-- how a command ends whose agent stopped
+abbrev pub ended_by : AgentEnd → Ended
+ended_by (agent.Refused code detail value) = how.Refused code detail value
+ended_by agent.BadReply = how.BadReply
+ended_by agent.LinkFault = how.NetFault
+ended_by (agent.LooksSpent clock) = how.LooksSpent clock
+ended_by agent.NoMemory = how.NoMemory
+
+-- what a talk that gave no looks leaves of the net, where the command ends so
+abbrev pub LeavesTalk : NetSeen → Part → Ended → Type 0
+LeavesTalk net p end = IsUndialled net ⊎ ((stop : AgentEnd) × TalksOn net p (Err stop) × (end ≡ ended_by stop))
 
 -- the auction that was read has no bidder of this number
 pub record IsNoBidder (shelf : ShelfSeen) (auction : List ℕ) (b : Bidding) (bidder : ℕ) : Type 0 where

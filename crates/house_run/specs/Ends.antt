@@ -7,9 +7,10 @@ use Rattle.house_io.specs.Told.{IfTold}
 use Rattle.house_io.specs.Shelves.{NamedFile}
 use Rattle.lot_base.specs.declared.auction_terms.Terms.{Terms}
 use Rattle.auction_file.specs.AuctionFile.{Listing, auction_of}
+use Rattle.house_run.specs.BidCommand.{BidFrame}
 use Rattle.house_run.specs.Causes.{HasNumber, MayEnd, line_of}
 use Rattle.house_run.specs.Commands.{IsDone, needs_of}
-use Rattle.command_line.specs.Commands.{Command, IsNoCommand, MayBeCommand, Migrate, Serve, Spells}
+use Rattle.command_line.specs.Commands.{Bid, Command, IsNoCommand, MayBeCommand, Migrate, Serve, Spells}
 use Rattle.house_run.specs.Found.{as_found}
 use Rattle.house_run.specs.Frame.{Frame}
 use Rattle.house_run.specs.MigrateCommand.{MigrateFrame}
@@ -58,11 +59,12 @@ abbrev pub ShelfAnswer : (ShelfSeen → List ℕ → Type 0) → Needs → Outsi
 ShelfAnswer Done needs seen (Ok text) = Done seen.shelf text.items
 ShelfAnswer Done needs seen (Err end) = MayEnd needs seen end
 
--- what a job that ended so leaves of the shelf
-abbrev pub CommandFrame : Command → Ended → Outside → Type 0
-CommandFrame (Serve auction journals s) end seen = ServeFrame auction journals s end seen
-CommandFrame (Migrate old journals new target) end seen = MigrateFrame old journals new target end seen
-CommandFrame command end seen = Frame (needs_of command) end seen
+-- what a job that ended so leaves of the shelf, and one that goes to the net of that too
+abbrev pub CommandFrame : Command → Ended → Outside → NetSeen → Type 0
+CommandFrame (Serve auction journals s) end seen net = ServeFrame auction journals s end seen net
+CommandFrame (Bid auction values b) end seen net = BidFrame auction values b end seen net
+CommandFrame (Migrate old journals new target) end seen net = MigrateFrame old journals new target end seen
+CommandFrame command end seen net = Frame (needs_of command) end seen
 
 -- The text was appended, and the answer is the job's end; or the sink's count rose, a front of the text was appended, and the
 -- answer says so. A fault is passed over by no other answer.
@@ -88,7 +90,7 @@ WroteLine sink end answer = Wrote sink end (line_of end) answer ⊎ (HasNumber e
 pub record DoneEnds (command : Command) (seen : Outside) (net : NetSeen) (sink : SinkSeen) (answer : Ended) : Type 0 where
   pub text : List ℕ
   pub done : IsDone command seen net text
-  pub frame : CommandFrame command how.Done seen
+  pub frame : CommandFrame command how.Done seen net
   pub net_frame : NetFrame (needs_of command) how.Done net
   pub wrote : Wrote sink how.Done text answer
 
@@ -96,7 +98,7 @@ pub record DoneEnds (command : Command) (seen : Outside) (net : NetSeen) (sink :
 pub record OtherEnds (command : Command) (seen : Outside) (net : NetSeen) (sink : SinkSeen) (answer : Ended) : Type 0 where
   pub end : Ended
   pub cause : Ends (needs_of command) (as_seen command seen) net end
-  pub frame : CommandFrame command end seen
+  pub frame : CommandFrame command end seen net
   pub net_frame : NetFrame (needs_of command) end net
   pub wrote : WroteLine sink end answer
 

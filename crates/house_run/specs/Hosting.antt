@@ -8,7 +8,7 @@ use Rattle.house_io.specs.Moments.{Moments}
 use Rattle.house_io.specs.Nets.{NetLists}
 use Rattle.house_io.specs.Told.{IfTold}
 use Rattle.auction_file.specs.declared.listing.Auction.{Auction}
-use Rattle.clock.specs.Reports.{histories}
+use Rattle.clock.specs.Reports.{ClockHistory, histories}
 use Rattle.lot_base.specs.declared.auction_terms.Terms.{Terms}
 use Rattle.recovery.specs.Journaled.{Owner, owner_of}
 use Rattle.clock_book.specs.Books.{BookOf, IsKept}
@@ -21,9 +21,8 @@ use Rattle.clock_family.specs.Opening.{IsNotOpen}
 use Rattle.clock_family.specs.declared.house_books.HouseBook.{HouseBook}
 use Rattle.turn_desk.specs.Passes.{Opened}
 use Rattle.house_serve.specs.Houses.{DoorRun, IsRun, Joins, turns_of}
-use Rattle.house_serve.specs.declared.ends.SessionEnd.{SessionEnd}
 use Rattle.house_run.specs.Journals.{IsRefusal}
-use Rattle.house_run.specs.ClockRuns.{BeginNew, ClockRun, IsClockRun, IsJournalRun}
+use Rattle.house_run.specs.ClockRuns.{BeginNew, ClockRun, IsClockRun, IsJournalRun, IsUnused, NoneFailed}
 use Rattle.house_run.specs.declared.ends.Ended.{Ended}
 use Rattle.house_run.specs.declared.ends.Ended.TheVariants as how
 use Rattle.house_run.specs.declared.hosting.Hosted.{Hosted}
@@ -47,47 +46,75 @@ pub record BooksBack {D : Type 0} (tells : D → Bool) (moments : D → Moments)
   pub kept : AllByRecursion (λ (b : BookOf D). IsKept (IsTrue (tells b.disk)) (moments b.disk) (faults b.disk) b) books
 
 module _ {R L M : Type 0} (told : R → Option (DoorLinks M)) (faults : R → ℕ) (link_told : M → Option LinkBytes) (link_faults : M → ℕ) (auction : Auction) (count sessions : ℕ) where
-  -- So many doors of a net served so many sessions each, and none failed.
-  pub record DoorsRan (runs : List (DoorRun R M)) (ends : List (List SessionEnd)) (told_before told_after : Option (NetLists R L)) (faults_before faults_after : ℕ) : Type 0 where
+  -- So many doors of a net served so many sessions each, or failed before.
+  pub record DoorsRan (runs : List (DoorRun R M)) (told_before told_after : Option (NetLists R L)) : Type 0 where
     pub count_is : length runs ≡ count
     pub each : AllByRecursion (IsRun told faults link_told link_faults auction sessions) runs
-    pub none_failed : AllByRecursion (λ (r : DoorRun R M). r.log.failed ≡ false) runs
-    pub ends_are : ends ≡ map (λ (r : DoorRun R M). r.log.ends.items) runs
     pub lists : IfTold told_before told_after (DoorsServed told count (map (λ (r : DoorRun R M). r.door) runs) (map (λ (r : DoorRun R M). r.log.door) runs))
-    pub steady : faults_after ≡ faults_before
+
+-- the net failed, and its count rose
+pub record IsNetEnd (before now : ℕ) (end : Ended) : Type 0 where
+  pub end_is : end ≡ how.NetFault
+  pub rose : Rose before now
+  pub later : before ≤ now
+
+-- memory ran out
+pub record IsMemoryEnd (before now : ℕ) (end : Ended) : Type 0 where
+  pub end_is : end ≡ how.NoMemory
+  pub steady : now ≡ before
 
 -- why a house that was opened was not served, by the counts of the net
 abbrev pub HouseEnd : ℕ → ℕ → Ended → Type 0
-HouseEnd before now how.NetFault = Rose before now × (before ≤ now)
-HouseEnd before now how.NoMemory = now ≡ before
-HouseEnd before now end = ⊥
+HouseEnd before now end = IsNetEnd before now end ⊎ IsMemoryEnd before now end
 
--- A house of these desks was not served, or a door failed; it was closed.
-pub record HouseNotServed {D : Type 0} (tells : D → Bool) (moments : D → Moments) (faults : D → ℕ) (desks : List (Opened (HouseBook D))) (disks : List D) (end : Ended) (counted_before counted : ℕ) : Type 0 where
+-- The net is as it was, or the doors that it gave went back as they came.
+abbrev pub LeavesNet : {R L M : Type 0} → (R → Option (DoorLinks M)) → ℕ → NetLists R L → NetLists R L → Type 0
+LeavesNet {R = R} told count before after = (after ≡ before) ⊎ ((given : List R) × DoorsServed told count given given before after)
+
+-- the books of a house, whose desks these were, once it was closed unused, and their disks
+pub record HouseUnused {D : Type 0} (tells : D → Bool) (moments : D → Moments) (faults : D → ℕ) (desks : List (Opened (HouseBook D))) (disks : List D) : Type 0 where
   pub books : List (BookOf D)
   pub back : BooksBack tells moments faults desks books disks
-  pub cause : HouseEnd counted_before counted end
+  pub unused : (k : ℕ) (d : Opened (HouseBook D)) (b : BookOf D) → k < length desks → (slice_index_or books k b).state.history ≡ (slice_index_or desks k d).book.book.state.history
+
+-- What is told of doors that served, where none failed: how the sessions at each ended, and these clocks.
+pub record TellsServed {R L : Type 0} (clocks : List ClockHistory) (doors : List (DoorRun R L)) (hosted : Hosted) (before now : ℕ) : Type 0 where
+  pub none_failed : NoneFailed doors
+  pub histories_are : histories hosted.clocks.items ≡ clocks
+  pub ends_are : map (λ ends. ends.items) hosted.ends.items ≡ map (λ (d : DoorRun R L). d.log.ends.items) doors
+  pub steady : now ≡ before
+
+-- a door failed, and the net's count rose
+pub record TellsFailed {R L : Type 0} (doors : List (DoorRun R L)) (end : Ended) (before now : ℕ) : Type 0 where
+  pub some_failed : NoneFailed doors → ⊥
+  pub cause : IsNetEnd before now end
+
+abbrev pub ServedAnswer : {R L : Type 0} → List ClockHistory → List (DoorRun R L) → Result Hosted Ended → ℕ → ℕ → Type 0
+ServedAnswer clocks doors (Ok hosted) before now = TellsServed clocks doors hosted before now
+ServedAnswer clocks doors (Err end) before now = TellsFailed doors end before now
 
 module _ {D R L M : Type 0} (tells : D → Bool) (moments : D → Moments) (disk_faults : D → ℕ) (told : R → Option (DoorLinks M)) (faults : R → ℕ) (link_told : M → Option LinkBytes) (link_faults : M → ℕ) (auction : Auction) (count sessions : ℕ) where
   -- a house of these desks was served with these passes at doors of the net, and closed
-  pub record HouseServed (desks : List (Opened (HouseBook D))) (passes : List HousePassOf) (disks : List D) (hosted : Hosted) (told_before told_after : Option (NetLists R L)) (counted_before counted : ℕ) : Type 0 where
+  pub record HouseServed (desks : List (Opened (HouseBook D))) (passes : List HousePassOf) (disks : List D) (answer : Result Hosted Ended) (told_before told_after : Option (NetLists R L)) (counted_before counted : ℕ) : Type 0 where
     pub books : List (BookOf D)
     pub back : BooksBack tells moments disk_faults desks books disks
-    pub clocks : histories hosted.clocks.items ≡ map (λ (b : BookOf D). b.state.clock) books
     pub runs : List (DoorRun R M)
     pub passes_are : passes ≡ map (λ (r : DoorRun R M). r.before) runs
-    pub ran : DoorsRan {L = L} told faults link_told link_faults auction count sessions runs (map (λ ends. ends.items) hosted.ends.items) told_before told_after counted_before counted
+    pub ran : DoorsRan {L = L} told faults link_told link_faults auction count sessions runs told_before told_after
     pub joins : (k : ℕ) (d : Opened (HouseBook D)) (b : BookOf D) → k < length desks
         → Joins (slice_index_or desks k d).book.book.state.history (slice_index_or books k b).state.history (flat_map turns_of runs) k
+    pub answer_is : ServedAnswer (map (λ (b : BookOf D). b.state.clock) books) runs answer counted_before counted
+
+  -- a house of these desks was closed unused
+  pub record HouseNotServed (desks : List (Opened (HouseBook D))) (disks : List D) (end : Ended) (told_before told_after : Option (NetLists R L)) (counted_before counted : ℕ) : Type 0 where
+    pub closed : HouseUnused tells moments disk_faults desks disks
+    pub net_is : IfTold told_before told_after (LeavesNet told count)
+    pub cause : HouseEnd counted_before counted end
 
   abbrev pub HouseOutcome : List (Opened (HouseBook D)) → List HousePassOf → Result Hosted Ended → List D → Option (NetLists R L) → Option (NetLists R L) → ℕ → ℕ → Type 0
-  HouseOutcome desks passes (Ok hosted) disks told_before told_after counted_before counted = HouseServed desks passes disks hosted told_before told_after counted_before counted
-  HouseOutcome desks passes (Err end) disks told_before told_after counted_before counted = HouseNotServed tells moments disk_faults desks disks end counted_before counted
-
--- the disks of a house whose desks these were, once it was closed
-pub record HouseBooks {D : Type 0} (tells : D → Bool) (moments : D → Moments) (faults : D → ℕ) (desks : List (Opened (HouseBook D))) (disks : List D) : Type 0 where
-  pub books : List (BookOf D)
-  pub back : BooksBack tells moments faults desks books disks
+  HouseOutcome desks passes (Ok hosted) disks told_before told_after counted_before counted = HouseServed desks passes disks (Ok hosted) told_before told_after counted_before counted
+  HouseOutcome desks passes (Err end) disks told_before told_after counted_before counted =
+      HouseServed desks passes disks (Err end) told_before told_after counted_before counted ⊎ HouseNotServed desks disks end told_before told_after counted_before counted
 
 -- empty lists with room for so many clocks, their disks, and the ends at so many doors
 pub record IsRoom {D : Type 0} (clocks doors : ℕ) (room : Room D) : Type 0 where
@@ -111,12 +138,12 @@ abbrev pub net_end : Refusal → Ended
 net_end refusal.Failed = how.NetFault
 net_end refusal.NoMemory = how.NoMemory
 
--- The disk of a clock was left as an opening that was refused leaves it, or as a book that was opened and closed does. What is said of
--- its moments is said where it tells.
+-- The disk of a clock was left as an opening that was refused leaves it, or as one does whose book was closed unused. What is said of its
+-- moments is said where it tells.
 abbrev pub LeavesDisk : {D : Type 0} → (D → Bool) → (D → Moments) → Owner → D → D → Type 0
 LeavesDisk tells moments owner before after =
     (IsTrue (tells after) → LeftUnopened owner (moments before) (moments after))
-    ⊎ ((run : ClockRun) × IsClockRun owner run × (IsTrue (tells after) → IsJournalRun owner run (moments before) (moments after)))
+    ⊎ ((run : ClockRun) × IsClockRun owner run × IsUnused run × (IsTrue (tells after) → IsJournalRun owner run (moments before) (moments after)))
 
 -- nothing was done on the net
 pub record IsSameNet {N : Type 0} (told_before told_after : Option N) (counted_before counted : ℕ) : Type 0 where
@@ -125,7 +152,7 @@ pub record IsSameNet {N : Type 0} (told_before told_after : Option N) (counted_b
 
 module _ {D R L M : Type 0} (tells : D → Bool) (moments : D → Moments) (disk_faults : D → ℕ) (told : R → Option (DoorLinks M)) (faults : R → ℕ) (link_told : M → Option LinkBytes) (link_faults : M → ℕ) (auction : Auction) (count sessions : ℕ) where
   -- A house was opened on these disks, one for each clock, served at doors of the net, and closed. The disks came back in order.
-  pub record IsHosted (old disks : List D) (hosted : Hosted) (told_before told_after : Option (NetLists R L)) (counted_before counted : ℕ) : Type 0 where
+  pub record IsHosted (old disks : List D) (answer : Result Hosted Ended) (told_before told_after : Option (NetLists R L)) (counted_before counted : ℕ) : Type 0 where
     pub disks_count : length disks ≡ length old
     pub clocks : List ClockRun
     pub count_is : length clocks ≡ length old
@@ -133,28 +160,45 @@ module _ {D R L M : Type 0} (tells : D → Bool) (moments : D → Moments) (disk
     pub journals_are : (k : ℕ) (c : ClockRun) (d : D) → k < length clocks → IsTrue (tells (slice_index_or disks k d))
         → IsJournalRun (owner_of auction.terms k auction.digest) (slice_index_or clocks k c) (moments (slice_index_or old k d)) (moments (slice_index_or disks k d))
     pub marks : (k : ℕ) (c : ClockRun) (d : D) → k < length clocks → marks_in (slice_index_or clocks k c).closed.history ≤ disk_faults (slice_index_or disks k d)
-    pub histories_are : histories hosted.clocks.items ≡ map (λ (c : ClockRun). c.closed.clock) clocks
     pub runs : List (DoorRun R M)
     pub new : BeginNew auction.terms auction.digest clocks runs
-    pub ran : DoorsRan {L = L} told faults link_told link_faults auction count sessions runs (map (λ ends. ends.items) hosted.ends.items) told_before told_after counted_before counted
+    pub ran : DoorsRan {L = L} told faults link_told link_faults auction count sessions runs told_before told_after
     pub joins : (k : ℕ) (c : ClockRun) → k < length clocks
         → Joins (slice_index_or clocks k c).opening (slice_index_or clocks k c).closed.history (flat_map turns_of runs) k
+    pub answer_is : ServedAnswer (map (λ (c : ClockRun). c.closed.clock) clocks) runs answer counted_before counted
 
-module _ {D N : Type 0} (tells : D → Bool) (moments : D → Moments) (disk_faults : D → ℕ) (terms : Terms) (digest : List ℕ) where
+module _ {D N : Type 0} (tells : D → Bool) (moments : D → Moments) (disk_faults : D → ℕ) (terms : Terms) (digest : List ℕ) (old disks : List D) (told_before told_after : Option N) (counted_before counted : ℕ) (end : Ended) where
+  -- the disk of a clock failed
+  pub record IsDiskEnd : Type 0 where
+    pub clock : ℕ
+    pub end_is : end ≡ how.DiskFault clock
+    pub not_open : IsNotOpen tells moments disk_faults terms digest old disks clock why.DiskFault
+    pub same : IsSameNet told_before told_after counted_before counted
+
+  -- the journal of a clock was refused
+  pub record IsRefusedEnd : Type 0 where
+    pub clock : ℕ
+    pub fault : OpenFault
+    pub end_is : end ≡ how.BadJournal clock fault
+    pub not_open : IsNotOpen tells moments disk_faults terms digest old disks clock fault
+    pub refusal : IsRefusal fault
+    pub same : IsSameNet told_before told_after counted_before counted
+
   -- why no house was served: a book was not opened, and nothing was done on the net; memory ran out; or the net failed
-  abbrev pub HostEnd : List D → List D → Option N → Option N → ℕ → ℕ → Ended → Type 0
-  HostEnd old disks told_before told_after counted_before counted (how.DiskFault clock) =
-      IsNotOpen tells moments disk_faults terms digest old disks clock why.DiskFault × IsSameNet told_before told_after counted_before counted
-  HostEnd old disks told_before told_after counted_before counted (how.BadJournal clock fault) =
-      IsNotOpen tells moments disk_faults terms digest old disks clock fault × IsRefusal fault × IsSameNet told_before told_after counted_before counted
-  HostEnd old disks told_before told_after counted_before counted end = HouseEnd counted_before counted end
-
-  pub record IsUnhosted (old disks : List D) (end : Ended) (told_before told_after : Option N) (counted_before counted : ℕ) : Type 0 where
-    pub disks_count : length disks ≡ length old
-    pub left : (k : ℕ) (d : D) → k < length old → LeavesDisk tells moments (owner_of terms k digest) (slice_index_or old k d) (slice_index_or disks k d)
-    pub cause : HostEnd old disks told_before told_after counted_before counted end
+  abbrev pub HostEnd : Type 0
+  HostEnd = IsDiskEnd ⊎ (IsRefusedEnd ⊎ HouseEnd counted_before counted end)
 
 module _ {D R L M : Type 0} (tells : D → Bool) (moments : D → Moments) (disk_faults : D → ℕ) (told : R → Option (DoorLinks M)) (faults : R → ℕ) (link_told : M → Option LinkBytes) (link_faults : M → ℕ) (auction : Auction) (count sessions : ℕ) where
+  -- no house was served on these disks: not all books were opened, or a house of them was closed unused
+  pub record IsUnhosted (old disks : List D) (end : Ended) (told_before told_after : Option (NetLists R L)) (counted_before counted : ℕ) : Type 0 where
+    pub disks_count : length disks ≡ length old
+    pub left : (k : ℕ) (d : D) → k < length old → LeavesDisk tells moments (owner_of auction.terms k auction.digest) (slice_index_or old k d) (slice_index_or disks k d)
+    pub net_is : IfTold told_before told_after (LeavesNet told count)
+    pub cause : HostEnd tells moments disk_faults auction.terms auction.digest old disks told_before told_after counted_before counted end
+
   abbrev pub HostOutcome : List D → Result Hosted Ended → List D → Option (NetLists R L) → Option (NetLists R L) → ℕ → ℕ → Type 0
-  HostOutcome old (Ok hosted) disks told_before told_after counted_before counted = IsHosted tells moments disk_faults told faults link_told link_faults auction count sessions old disks hosted told_before told_after counted_before counted
-  HostOutcome old (Err end) disks told_before told_after counted_before counted = IsUnhosted {N = NetLists R L} tells moments disk_faults auction.terms auction.digest old disks end told_before told_after counted_before counted
+  HostOutcome old (Ok hosted) disks told_before told_after counted_before counted =
+      IsHosted tells moments disk_faults told faults link_told link_faults auction count sessions old disks (Ok hosted) told_before told_after counted_before counted
+  HostOutcome old (Err end) disks told_before told_after counted_before counted =
+      IsHosted tells moments disk_faults told faults link_told link_faults auction count sessions old disks (Err end) told_before told_after counted_before counted
+      ⊎ IsUnhosted old disks end told_before told_after counted_before counted

@@ -16,7 +16,7 @@ use Rattle.house_run.specs.Disks.{KeepsOthers}
 use Rattle.house_run.specs.Found.{told_first}
 use Rattle.house_run.specs.Frame.{RisesAmong}
 use Rattle.house_run.specs.Journals.{IsFirstRefused}
-use Rattle.house_run.specs.MigrateCommand.{TellsTarget}
+use Rattle.house_run.specs.MigrateCommand.{TellsLeft, TellsTarget}
 use Rattle.house_run.specs.Moves.{AllOpen, IsFrontAt}
 use Rattle.house_run.specs.Needs.{first_journals, journal_name, with_names}
 use Rattle.house_run.specs.Seen.{ShelfSeen, content}
@@ -45,6 +45,8 @@ module _ (value : Auction) (histories : List ClockHistory) (target : List ℕ) (
     pub others : KeepsOthers target (value.terms.bidders + 1) shelf.files_before shelf.files
     pub left : IfTells shelf.files (λ after. IfWasTold shelf.files_before (λ before. (k : ℕ) (c : ClockHistory) → k ≤ value.terms.bidders
         → LeavesTarget (owner_of value.terms k value.digest) (slice_index_or histories k c).reports (moments_at before (journal_name target k)) (moments_at after (journal_name target k))))
+    pub told : IfTells shelf.files (λ after. IfWasTold shelf.files_before (λ before. (k : ℕ) (c : ClockHistory) → k ≤ value.terms.bidders
+        → TellsLeft end (owner_of value.terms k value.digest) k (slice_index_or histories k c).reports (moments_at before (journal_name target k)) (moments_at after (journal_name target k))))
     pub counts : RisesAmong (TellsTarget target end) shelf.faults_before shelf.faults
     pub front : ℕ
     pub few : front ≤ value.terms.bidders + 1

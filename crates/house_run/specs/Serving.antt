@@ -1,13 +1,13 @@
 -- What serving an auction leaves of its journals and of the net.
-use Rattle.std.specs.Prelude.{◌≡◌, ◌≤◌, ◌<◌, ◌⊎◌, ◌+◌, ◌++◌, ℕ, List, length, map, take, drop, slice_index_or, Option, option_map, Result, Ok, Err, IfSome, [], false}
+use Rattle.std.specs.Prelude.{◌≡◌, ◌≤◌, ◌<◌, ◌⊎◌, ◌+◌, ◌++◌, ℕ, List, length, map, take, drop, slice_index_or, Option, Result, Ok, Err, IfSome, []}
 use Rattle.std.specs.List.{AllByRecursion, flat_map}
 use Rattle.house_io.specs.Doors.{DoorLinks}
 use Rattle.house_io.specs.Told.{IfTold}
 use Rattle.house_io.specs.Shelves.{IfTells, IfWasTold, moments_at}
 use Rattle.auction_file.specs.declared.listing.Auction.{Auction}
-use Rattle.clock.specs.Reports.{histories}
 use Rattle.recovery.specs.Journaled.{owner_of}
 use Rattle.clock_book.specs.DeskHistories.{marks_in}
+use Rattle.clock_book.specs.declared.faults.OpenFault.{OpenFault}
 use Rattle.house_serve.specs.Houses.{DoorRun, IsRun, Joins, turns_of}
 use Rattle.house_run.specs.Causes.{FailedAt}
 use Rattle.house_run.specs.ClockRuns.{BeginNew, ClockRun, IsClockRun, IsJournalRun, LeavesJournal}
@@ -15,7 +15,7 @@ use Rattle.house_run.specs.Disks.{IsJournalBelow, KeepsOthers}
 use Rattle.house_run.specs.DoorsSeen.{DoorSeen, LinkSeen}
 use Rattle.house_run.specs.Found.{told_first}
 use Rattle.house_run.specs.Frame.{RisesAmong}
-use Rattle.house_run.specs.Hosting.{HouseEnd}
+use Rattle.house_run.specs.Hosting.{HouseEnd, ServedAnswer}
 use Rattle.house_run.specs.Journals.{IsFirstRefused}
 use Rattle.house_run.specs.Needs.{first_journals, journal_name, with_names}
 use Rattle.command_line.specs.Parts.{Serving}
@@ -32,6 +32,10 @@ pub record ServesAt (count : ℕ) (given back : List DoorSeen) (before after : N
   pub are_empty : AllByRecursion (λ (door : Option (DoorLinks LinkSeen)). IfSome door (λ (d : DoorLinks LinkSeen). d.to_come ≡ [])) empty
   pub after_is : after ≡ record before { doors = drop count before.doors; closed = before.closed ++ map (λ (door : DoorSeen). door.told) back }
 
+-- The net is as it was, or the doors that it gave went back as they came.
+abbrev pub LeavesNetAt : ℕ → NetView → NetView → Type 0
+LeavesNetAt count before after = (after ≡ before) ⊎ ((given : List DoorSeen) × ServesAt count given given before after)
+
 -- The clocks of an auction came to these runs, and their journals to what these say. A mark is noted only where a call on the journal failed.
 pub record ClocksRan (value : Auction) (journals : List ℕ) (shelf : ShelfSeen) (clocks : List ClockRun) : Type 0 where
   pub count_is : length clocks ≡ value.terms.bidders + 1
@@ -40,16 +44,22 @@ pub record ClocksRan (value : Auction) (journals : List ℕ) (shelf : ShelfSeen)
   pub journals_are : IfTells shelf.files (λ after. IfWasTold shelf.files_before (λ before. (k : ℕ) (c : ClockRun) → k < length clocks
       → IsJournalRun (owner_of value.terms k value.digest) (slice_index_or clocks k c) (moments_at before (journal_name journals k)) (moments_at after (journal_name journals k))))
 
--- So many doors of the net served so many sessions each, and none failed.
+-- So many doors of the net served so many sessions each, or failed before.
 pub record DoorsServing (value : Auction) (s : Serving) (net : NetSeen) (doors : List (DoorRun DoorSeen LinkSeen)) : Type 0 where
   pub count_is : length doors ≡ s.doors
   pub each : AllByRecursion (IsRun (λ (d : DoorSeen). d.told) (λ (d : DoorSeen). d.faults) (λ (l : LinkSeen). l.told) (λ (l : LinkSeen). l.faults) value s.sessions) doors
-  pub none_failed : AllByRecursion (λ (d : DoorRun DoorSeen LinkSeen). d.log.failed ≡ false) doors
   pub lists : IfTold net.told_before net.told (ServesAt s.doors (map (λ (d : DoorRun DoorSeen LinkSeen). d.door) doors) (map (λ (d : DoorRun DoorSeen LinkSeen). d.log.door) doors))
 
 -- what the turns at all doors come to at each clock
 abbrev pub JoinAll : List (DoorRun DoorSeen LinkSeen) → List ClockRun → Type 0
 JoinAll doors clocks = (k : ℕ) (c : ClockRun) → k < length clocks → Joins (slice_index_or clocks k c).opening (slice_index_or clocks k c).closed.history (flat_map turns_of doors) k
+
+-- An auction was served: its clocks came to these runs, and its doors to these, each of which began with new passes of the clocks.
+pub record AuctionServed (value : Auction) (journals : List ℕ) (s : Serving) (shelf : ShelfSeen) (net : NetSeen) (clocks : List ClockRun) (doors : List (DoorRun DoorSeen LinkSeen)) : Type 0 where
+  pub ran : ClocksRan value journals shelf clocks
+  pub new : BeginNew value.terms value.digest clocks doors
+  pub serving : DoorsServing value s net doors
+  pub joins : JoinAll doors clocks
 
 -- The journals of a front of the clocks were opened, in order. No other file was changed, and no count rose but theirs.
 pub record KeepsJournals (journals : List ℕ) (count : ℕ) (shelf : ShelfSeen) : Type 0 where
@@ -59,36 +69,50 @@ pub record KeepsJournals (journals : List ℕ) (count : ℕ) (shelf : ShelfSeen)
   pub few : front ≤ count
   pub names : shelf.opened ≡ with_names (first_journals journals front) shelf.opened_before
 
--- an auction was served
-pub record JournalsServed (value : Auction) (journals : List ℕ) (s : Serving) (shelf : ShelfSeen) (net : NetSeen) (hosted : Hosted) : Type 0 where
+-- an auction was served, and this is told of it
+pub record JournalsServed (value : Auction) (journals : List ℕ) (s : Serving) (shelf : ShelfSeen) (net : NetSeen) (answer : Result Hosted Ended) : Type 0 where
   pub keeps : KeepsJournals journals (value.terms.bidders + 1) shelf
   pub clocks : List ClockRun
-  pub ran : ClocksRan value journals shelf clocks
-  pub histories_are : histories hosted.clocks.items ≡ map (λ (c : ClockRun). c.closed.clock) clocks
   pub doors : List (DoorRun DoorSeen LinkSeen)
-  pub new : BeginNew value.terms value.digest clocks doors
-  pub serving : DoorsServing value s net doors
-  pub joins : JoinAll doors clocks
-  pub ends_are : map (λ ends. ends.items) hosted.ends.items ≡ map (λ (d : DoorRun DoorSeen LinkSeen). d.log.ends.items) doors
-  pub steady : net.faults ≡ net.faults_before
+  pub served : AuctionServed value journals s shelf net clocks doors
+  pub answer_is : ServedAnswer (map (λ (c : ClockRun). c.closed.clock) clocks) doors answer net.faults_before net.faults
 
--- each journal was left as an opening that was refused leaves it, or as a book that was opened and closed does
+-- each journal was left as an opening that was refused leaves it, or as one does whose book was closed unused
 abbrev pub LeavesAll : Auction → List ℕ → ShelfSeen → Type 0
 LeavesAll value journals shelf = IfTells shelf.files (λ after. IfWasTold shelf.files_before (λ before. (k : ℕ) → k ≤ value.terms.bidders
     → LeavesJournal (owner_of value.terms k value.digest) (moments_at before (journal_name journals k)) (moments_at after (journal_name journals k))))
 
+-- the journal of a clock failed, and nothing was done on the net
+pub record JournalFails (value : Auction) (journals : List ℕ) (shelf : ShelfSeen) (net : NetSeen) (end : Ended) : Type 0 where
+  pub clock : ℕ
+  pub end_is : end ≡ how.DiskFault clock
+  pub within : clock ≤ value.terms.bidders
+  pub failed : FailedAt shelf (journal_name journals clock)
+  pub untouched : IsNetUntouched net
+
+-- the journal of a clock was the first that is refused, and nothing was done on the net
+pub record JournalRefused (value : Auction) (journals : List ℕ) (shelf : ShelfSeen) (net : NetSeen) (end : Ended) : Type 0 where
+  pub clock : ℕ
+  pub fault : OpenFault
+  pub end_is : end ≡ how.BadJournal clock fault
+  pub within : clock ≤ value.terms.bidders
+  pub first : IsFirstRefused (told_first shelf.files_before shelf.files) value.terms value.digest journals clock fault
+  pub untouched : IsNetUntouched net
+
 -- why no auction was served
 abbrev pub NotServing : Auction → List ℕ → ShelfSeen → NetSeen → Ended → Type 0
-NotServing value journals shelf net (how.DiskFault clock) = (clock ≤ value.terms.bidders) × FailedAt shelf (journal_name journals clock) × IsNetUntouched net
-NotServing value journals shelf net (how.BadJournal clock fault) =
-    (clock ≤ value.terms.bidders) × IsFirstRefused (told_first shelf.files_before shelf.files) value.terms value.digest journals clock fault × IsNetUntouched net
-NotServing value journals shelf net end = HouseEnd net.faults_before net.faults end
+NotServing value journals shelf net end = JournalFails value journals shelf net end ⊎ (JournalRefused value journals shelf net end ⊎ HouseEnd net.faults_before net.faults end)
 
-pub record JournalsNotServed (value : Auction) (journals : List ℕ) (shelf : ShelfSeen) (net : NetSeen) (end : Ended) : Type 0 where
-  pub keeps : KeepsJournals journals (value.terms.bidders + 1) shelf
+-- no auction was served
+pub record AuctionNotServed (value : Auction) (journals : List ℕ) (s : Serving) (shelf : ShelfSeen) (net : NetSeen) (end : Ended) : Type 0 where
   pub left : LeavesAll value journals shelf
+  pub net_is : IfTold net.told_before net.told (LeavesNetAt s.doors)
   pub cause : NotServing value journals shelf net end
 
+pub record JournalsNotServed (value : Auction) (journals : List ℕ) (s : Serving) (shelf : ShelfSeen) (net : NetSeen) (end : Ended) : Type 0 where
+  pub keeps : KeepsJournals journals (value.terms.bidders + 1) shelf
+  pub not : AuctionNotServed value journals s shelf net end
+
 abbrev pub ServesJournals : Auction → List ℕ → Serving → ShelfSeen → NetSeen → Result Hosted Ended → Type 0
-ServesJournals value journals s shelf net (Ok hosted) = JournalsServed value journals s shelf net hosted
-ServesJournals value journals s shelf net (Err end) = JournalsNotServed value journals shelf net end
+ServesJournals value journals s shelf net (Ok hosted) = JournalsServed value journals s shelf net (Ok hosted)
+ServesJournals value journals s shelf net (Err end) = JournalsServed value journals s shelf net (Err end) ⊎ JournalsNotServed value journals s shelf net end

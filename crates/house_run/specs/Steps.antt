@@ -25,7 +25,6 @@ use Rattle.trial.specs.declared.faults.TrialFault.TheVariants as fault
 use Rattle.house_run.specs.Markets.{market_bidders}
 use Rattle.house_io.specs.Faults.{Rose}
 use Rattle.bidder_agent.specs.Talks.{Part}
-use Rattle.bidder_agent.specs.declared.agents.AgentEnd.{AgentEnd}
 use Rattle.bidder_agent.specs.declared.agents.AgentEnd.TheVariants as agent
 use Rattle.bidder_agent.specs.declared.agents.Seen.{Seen}
 use Rattle.house_run.specs.BidCommand.{bid_needs}
@@ -146,14 +145,6 @@ IsSettledEnd terms histories end = ⊥
 pub record StopsBidding (auction values : List ℕ) (b : Bidding) (seen : Outside) (end : Ended) : Type 0 where
   pub cause : (net : NetSeen) → Ends (bid_needs auction values b) seen net end
   pub frame : Frame (bid_needs auction values b) end seen
-
--- how a command ends whose agent stopped
-abbrev pub ended_by : AgentEnd → Ended
-ended_by (agent.Refused code detail value) = how.Refused code detail value
-ended_by agent.BadReply = how.BadReply
-ended_by agent.LinkFault = how.NetFault
-ended_by (agent.LooksSpent clock) = how.LooksSpent clock
-ended_by agent.NoMemory = how.NoMemory
 
 -- why the talk of an agent gives no looks
 abbrev pub IsTalkEnd : NetSeen → Part → Ended → Type 0

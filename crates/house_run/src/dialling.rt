@@ -4,9 +4,9 @@ ghost use Rattle.bidder_agent.specs.Talks.{Agrees, HasCauseOf};
 ghost use Rattle.trial.specs.Trials.{AreValuationsOf};
 ghost use Rattle.command_line.specs.Parts.{IsPlayable};
 ghost use Rattle.command_line.specs.CommandView.{bidding_as};
-ghost use Rattle.house_run.specs.Dialling.{TalksOn, part_in};
+ghost use Rattle.house_run.specs.Dialling.{LeavesTalk, TalksOn, ended_by, part_in};
 ghost use Rattle.house_run.specs.Nets.{net_seen};
-ghost use Rattle.house_run.specs.Steps.{IsTalkEnd, NetCounts, ended_by, talk_end};
+ghost use Rattle.house_run.specs.Steps.{IsTalkEnd, NetCounts, talk_end};
 
 use crate::ends::Ended;
 use crate::markets::Bidders;
@@ -27,6 +27,7 @@ pub(crate) fn talk<N: Net>(
     requires valuations { AreValuationsOf market.now.auction.terms market.now.valuations.items }
     ensures talks { IfOk result (λ seen. TalksOn (net_seen N.told N.Door.told N.Door.Link.told N.Door.Link.faults N.Link.told N.faults net.old net.new) (part_in market.now.auction.terms market.now.valuations.items (bidding_as bidding.now)) (Ok seen)) }
     ensures ends { IfErr result (IsTalkEnd (net_seen N.told N.Door.told N.Door.Link.told N.Door.Link.faults N.Link.told N.faults net.old net.new) (part_in market.now.auction.terms market.now.valuations.items (bidding_as bidding.now))) }
+    ensures left { IfErr result (LeavesTalk (net_seen N.told N.Door.told N.Door.Link.told N.Door.Link.faults N.Link.told N.faults net.old net.new) (part_in market.now.auction.terms market.now.valuations.items (bidding_as bidding.now))) }
     ensures counts { NetCounts (talk_end result) (net_seen N.told N.Door.told N.Door.Link.told N.Door.Link.faults N.Link.told N.faults net.old net.new) }
 {
     let mut link = match net.dial(alloc, bidding.address) {

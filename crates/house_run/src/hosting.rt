@@ -7,7 +7,7 @@ ghost use Rattle.clock.specs.Reports.{histories};
 ghost use Rattle.clock_book.specs.Books.{IsKept};
 ghost use Rattle.house_io.specs.Nets.{GivesDoors};
 ghost use Rattle.house_run.specs.GivingBack.{TakesAll, raised_by_all};
-ghost use Rattle.house_run.specs.Hosting.{HostOutcome, HouseBooks, HouseOutcome, IsRoom, LogsOutcome, net_end};
+ghost use Rattle.house_run.specs.Hosting.{HostOutcome, HouseOutcome, HouseUnused, IsRoom, LogsOutcome, net_end};
 
 use crate::ends::Ended;
 use crate::giving_back::{close_doors, close_logs, has_failed, take_apart};
@@ -70,8 +70,9 @@ fn net_end(refusal: Refusal) -> Ended
 /// Closes a house that was not served, and gives the disks of its books.
 fn close_house<D: Disk>(house: House<D>, passes: Vec<HousePass<D>>, room: Room<D>) -> Vec<D>
     requires all { AreAllOf house.desks passes.items }
+    requires new { AllByRecursion (IsNewPass house) passes.items }
     requires room { IsRoom (length house.desks) 0 room }
-    ensures { HouseBooks D.tells D.moments D.faults house.desks result.items }
+    ensures { HouseUnused D.tells D.moments D.faults house.desks result.items }
 {
     let Room {
         mut clocks,

@@ -1,12 +1,11 @@
 //! The command `bid`: an agent takes the part of a bidder over a link.
 ghost use Rattle.std.specs.Prelude.{◌≡◌, IfOk};
 ghost use Rattle.std.specs.List.{flat_map};
-ghost use Rattle.house_run.specs.BidCommand.{bid_needs, look_line};
+ghost use Rattle.house_run.specs.BidCommand.{BidFrame, bid_needs, look_line};
 ghost use Rattle.command_line.specs.Parts.{IsPlayable};
 ghost use Rattle.command_line.specs.CommandView.{bidding_as};
 ghost use Rattle.command_line.specs.Commands.{Bid};
 ghost use Rattle.house_run.specs.Ends.{JobAnswer, end_of};
-ghost use Rattle.house_run.specs.Frame.{Frame};
 ghost use Rattle.house_run.specs.NetEnds.{NetFrame};
 ghost use Rattle.house_run.specs.Nets.{net_seen};
 ghost use Rattle.house_run.specs.Seen.{outside};
@@ -32,7 +31,7 @@ pub(crate) fn job<H: Shelf, N: Net>(
 ) -> Result<Vec<u8>, Ended>
     requires { IsPlayable (bidding_as bidding.now) }
     ensures answer { JobAnswer (Bid auction.now values.now (bidding_as bidding.now)) (outside H.files H.faults H.opened shelf.old shelf.new) (net_seen N.told N.Door.told N.Door.Link.told N.Door.Link.faults N.Link.told N.faults net.old net.new) result }
-    ensures frame { Frame (bid_needs auction.now values.now (bidding_as bidding.now)) (end_of result) (outside H.files H.faults H.opened shelf.old shelf.new) }
+    ensures frame { BidFrame auction.now values.now (bidding_as bidding.now) (end_of result) (outside H.files H.faults H.opened shelf.old shelf.new) (net_seen N.told N.Door.told N.Door.Link.told N.Door.Link.faults N.Link.told N.faults net.old net.new) }
     ensures net_frame { NetFrame (bid_needs auction.now values.now (bidding_as bidding.now)) (end_of result) (net_seen N.told N.Door.told N.Door.Link.told N.Door.Link.faults N.Link.told N.faults net.old net.new) }
 {
     let market = match read_bidders(alloc, shelf, auction, values, bidding.bidder) {

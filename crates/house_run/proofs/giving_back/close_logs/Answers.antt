@@ -1,4 +1,4 @@
-use Rattle.std.proofs.Common.{◌≡◌, ◌∙◌, ◌≤◌, ◌+◌, ◌++◌, List, [], ◌∷◌, length, map, reverse, arith, refl, rules, sym, ap}
+use Rattle.std.proofs.Common.{◌≡◌, ◌∙◌, ◌++◌, [], ◌∷◌, length, map, reverse, arith, refl, rules, sym, ap}
 use Rattle.std.proofs.lemmas.List.{length-append, length-reverse, map-append, reverse-reverse}
 use Rattle.house_serve.specs.declared.houses.DoorLog.{DoorLog}
 use Rattle.house_run.proofs.GivingSteps.{doors-begun, doors-counts, doors-more, length-none, kept-more, map-map, map-reverse}

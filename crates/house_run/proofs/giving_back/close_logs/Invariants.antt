@@ -1,4 +1,4 @@
-use Rattle.std.proofs.Common.{◌≡◌, ◌≤◌, ◌+◌, ◌++◌, List, length, map, reverse, vec_capacity}
+use Rattle.std.proofs.Common.{◌≡◌, ◌≤◌, ◌+◌, ◌++◌, length, map, reverse, vec_capacity}
 use Rattle.house_run.proofs.GivingSteps.{DoorsBack}
 use Rattle.house_run.proofs.giving_back.close_logs.Given as goal
 

@@ -1,4 +1,4 @@
-use Rattle.std.proofs.Common.{◌≡◌, ◌∙◌, ◌≤◌, ◌+◌, ◌++◌, List, [], ◌∷◌, length, reverse, arith, sym, ap}
+use Rattle.std.proofs.Common.{◌≡◌, ◌∙◌, [], ◌∷◌, length, reverse, arith, sym, ap}
 use Rattle.std.proofs.lemmas.List.{length-append, length-reverse, reverse-reverse}
 use Rattle.house_run.proofs.GivingSteps.{books-begun, books-more, length-none}
 use Rattle.house_run.proofs.giving_back.take_apart.Goals as goal

@@ -1,5 +1,5 @@
-use Rattle.std.proofs.Common.{sym, subst}
-use Rattle.house_run.specs.Hosting.{IsUnhosted}
+use Rattle.std.proofs.Common.{Err, sym, subst}
+use Rattle.house_run.specs.Hosting.{HostOutcome}
 use Rattle.house_run.specs.declared.ends.Ended.{Ended}
 use Rattle.house_run.proofs.HouseRuns.{hosted, not-hosted}
 use Rattle.house_run.proofs.hosting.host.Goals as goal
@@ -12,5 +12,8 @@ returns-in-Ok-open g c =
 
 pub returns-in-Err : goal.returns-in-Err
 returns-in-Err g c =
-    subst (λ (end : Ended). IsUnhosted g.D.Disk.tells g.D.Disk.moments g.D.Disk.faults c.args.auction.now.terms c.args.auction.now.digest c.args.disks.items c.in-Err.not_open.disks.items end (g.N.Net.told c.args.net.now) (g.N.Net.told c.args.net.now) (g.N.Net.faults c.args.net.now) (g.N.Net.faults c.args.net.now)) (sym c.end_at.ensures)
-    (not-hosted g.D.Disk.tells g.D.Disk.moments g.D.Disk.faults c.args.auction.now.terms c.args.auction.now.digest c.in-Err.not_open.fault c.args.disks.items c.in-Err.not_open.disks.items c.in-Err.not_open.clock (g.N.Net.told c.args.net.now) (g.N.Net.faults c.args.net.now) c.in-Err.ensures.refused)
+    let value = c.args.auction.now in
+    let lists = g.N.Net.told c.args.net.now in
+    let counted = g.N.Net.faults c.args.net.now in
+    subst (λ (end : Ended). HostOutcome g.D.Disk.tells g.D.Disk.moments g.D.Disk.faults g.N.Door.Door.told g.N.Door.Door.faults g.N.Door.Link.Link.told g.N.Door.Link.Link.faults value c.args.doors c.args.sessions c.args.disks.items (Err end) c.in-Err.not_open.disks.items lists lists counted counted) (sym c.end_at.ensures)
+    (not-hosted g.D.Disk.tells g.D.Disk.moments g.D.Disk.faults g.N.Door.Door.told g.N.Door.Door.faults g.N.Door.Link.Link.told g.N.Door.Link.Link.faults value c.args.doors c.args.sessions c.in-Err.not_open.fault c.args.disks.items c.in-Err.not_open.disks.items c.in-Err.not_open.clock lists counted c.in-Err.ensures.refused)

@@ -1,8 +1,10 @@
-use Rattle.std.proofs.Common.{◌≡◌, Vec, Global, subst, sym}
+use Rattle.std.proofs.Common.{◌≡◌, List, length, inr, Vec, Global, ap, refl, subst, sym}
 use Rattle.std.specs.List.{AllByRecursion}
 use Rattle.clock_family.specs.Houses.{HouseOf}
-use Rattle.house_run.specs.Hosting.{BooksBack}
-use Rattle.house_run.proofs.HouseBack.{none-added, served-outcome}
+use Rattle.house_io.specs.Told.{IfTold}
+use Rattle.house_run.specs.GivingBack.{TakesAll}
+use Rattle.house_run.specs.Hosting.{HouseUnused}
+use Rattle.house_run.proofs.HouseBack.{doors-back, none-added, served-outcome}
 use Rattle.house_run.proofs.hosting.host_doors.Goals as goal
 
 pub returns-in-Ok : goal.returns-in-Ok
@@ -14,9 +16,12 @@ returns-in-Ok g c = λ before gives.
 pub returns-in-Err : goal.returns-in-Err
 returns-in-Err g c = λ before gives.
     let r = c.in-Err.ensures.refused in
-    let fresh = subst (λ (v : Vec g.row.N-Door.Denot Global). AllByRecursion (λ door. g.N.Door.Door.faults door ≡ 0) v.items) (sym r.2) c.requires.fresh in
-    record {
-      books = c.close_house.ensures.books;
-      back = subst (λ (h : HouseOf g.row.D.Denot). BooksBack g.D.Disk.tells g.D.Disk.moments g.D.Disk.faults h.desks c.close_house.ensures.books c.close_house.result.items) r.0 c.close_house.ensures.back;
-      cause = none-added g.N.Door.Door.faults c.in-Err.not_served.doors.items (g.N.Net.faults c.args.net.now) (g.N.Net.faults c.close_doors.new.net) fresh c.close_doors.ensures.faults;
-    }
+    let given = c.args.doors.items in
+    let same : c.in-Err.not_served.doors.items ≡ given = ap (λ (v : Vec g.row.N-Door.Denot Global). v.items) r.2 in
+    let fresh = subst (AllByRecursion (λ door. g.N.Door.Door.faults door ≡ 0)) (sym same) c.requires.fresh in
+    let T : List g.row.N-Door.Denot → Type 0 = λ ds. IfTold (g.N.Net.told c.args.net.now) (g.N.Net.told c.close_doors.new.net) (TakesAll ds) in
+    inr (record {
+      closed = subst (λ (h : HouseOf g.row.D.Denot). HouseUnused g.D.Disk.tells g.D.Disk.moments g.D.Disk.faults h.desks c.close_house.result.items) r.0 c.close_house.ensures;
+      net_is = doors-back g.N.Door.Door.told (length given) given before (g.N.Net.told c.args.net.now) (g.N.Net.told c.close_doors.new.net) refl gives (subst T same c.close_doors.ensures.lists);
+      cause = inr (record { end_is = refl; steady = none-added g.N.Door.Door.faults c.in-Err.not_served.doors.items (g.N.Net.faults c.args.net.now) (g.N.Net.faults c.close_doors.new.net) fresh c.close_doors.ensures.faults });
+    })

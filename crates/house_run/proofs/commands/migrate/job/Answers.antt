@@ -65,4 +65,4 @@ returns-clause-frame g c =
     let since = shelf_seen g.H.Shelf.files g.H.Shelf.faults g.H.Shelf.opened c.read_move.new.shelf c.move_to.new.shelf in
     let keeps = (subst (λ (cs : List ClockOf). JournalsMoved second (histories cs) c.args.target.now since) c.deref.ensures.value c.in-Ok-move_to.ensures).keeps in
     targets-frame c.args.old.now c.args.journals.now c.args.new.now c.args.target.now second (histories c.in-Ok.found.clocks.items) seen (g.H.Shelf.files c.read_move.new.shelf) (g.H.Shelf.faults c.read_move.new.shelf) (g.H.Shelf.opened c.read_move.new.shelf)
-    c.requires c.in-Ok.ensures.read how.NoMemory (record { others = keeps.others; left = keeps.left; counts = keeps.counts; front = keeps.front; few = keeps.few; names = keeps.names })
+    c.requires c.in-Ok.ensures.read how.NoMemory (record { others = keeps.others; left = keeps.left; told = keeps.told; counts = keeps.counts; front = keeps.front; few = keeps.few; names = keeps.names })

@@ -6,7 +6,7 @@ use Rattle.house_run.specs.Nets.{net_seen}
 use Rattle.house_run.specs.Seen.{outside, shelf_seen}
 use Rattle.house_run.specs.ServeTexts.{serve_text}
 use Rattle.house_run.specs.declared.ends.Ended.TheVariants as how
-use Rattle.house_run.proofs.ServeJobs.{Read, not-served, refused-answer, refused-frame, serve-done, serve-frame, served-leaves}
+use Rattle.house_run.proofs.ServeJobs.{Read, done-frame, err-answer, err-frame, refused-answer, refused-frame, serve-done}
 use Rattle.house_run.proofs.commands.serve.job.Goals as goal
 
 pub returns-in-Err-clause-answer : goal.returns-in-Err-clause-answer
@@ -18,7 +18,8 @@ returns-in-Err-clause-answer g c =
 pub returns-in-Err-clause-frame : goal.returns-in-Err-clause-frame
 returns-in-Err-clause-frame g c =
     let seen = outside g.H.Shelf.files g.H.Shelf.faults g.H.Shelf.opened c.args.shelf.now c.read_auction.new.shelf in
-    refused-frame c.args.auction.now c.args.journals.now (serving_as c.args.serving.now) c.in-Err.ended seen c.read_auction.ensures.reads c.in-Err.ensures.refused
+    let net = net_seen g.N.Net.told g.N.Door.Door.told g.N.Door.Link.Link.told g.N.Door.Link.Link.faults g.N.Link.Link.told g.N.Net.faults c.args.net.now c.args.net.now in
+    refused-frame c.args.auction.now c.args.journals.now (serving_as c.args.serving.now) c.in-Err.ended seen net (refl, refl) c.read_auction.ensures.reads c.in-Err.ensures.refused
 
 pub returns-in-Err-serve_journals-clause-answer : goal.returns-in-Err-serve_journals-clause-answer
 returns-in-Err-serve_journals-clause-answer g c =
@@ -32,7 +33,7 @@ returns-in-Err-serve_journals-clause-answer g c =
     let names = g.H.Shelf.opened c.read_auction.new.shelf in
     let r : Read c.args.auction.now value seen files faults names first =
     record { before_is = refl; is = c.in-Ok.ensures.read; files_are = refl; read = c.read_auction.ensures.reads.unchanged; opened = c.in-Ok.ensures.opened; steady = c.in-Ok.ensures.steady } in
-    not-served c.args.auction.now c.args.journals.now s value seen files faults names first r c.in-Err-serve_journals.ended net c.in-Err-serve_journals.ensures
+    err-answer c.args.auction.now c.args.journals.now s value seen files faults names first r c.in-Err-serve_journals.ended net c.in-Err-serve_journals.ensures
 
 pub returns-in-Err-serve_journals-clause-frame : goal.returns-in-Err-serve_journals-clause-frame
 returns-in-Err-serve_journals-clause-frame g c =
@@ -46,7 +47,7 @@ returns-in-Err-serve_journals-clause-frame g c =
     let names = g.H.Shelf.opened c.read_auction.new.shelf in
     let r : Read c.args.auction.now value seen files faults names first =
     record { before_is = refl; is = c.in-Ok.ensures.read; files_are = refl; read = c.read_auction.ensures.reads.unchanged; opened = c.in-Ok.ensures.opened; steady = c.in-Ok.ensures.steady } in
-    serve-frame c.args.auction.now c.args.journals.now s value seen files faults names first r c.in-Err-serve_journals.ended c.in-Err-serve_journals.ensures.keeps c.in-Err-serve_journals.ensures.left
+    err-frame c.args.auction.now c.args.journals.now s value seen files faults names first r c.in-Err-serve_journals.ended net c.in-Err-serve_journals.ensures
 
 pub returns-in-Ok-serve_text-clause-answer : goal.returns-in-Ok-serve_text-clause-answer
 returns-in-Ok-serve_text-clause-answer g c =
@@ -75,7 +76,7 @@ returns-in-Ok-serve_text-clause-frame g c =
     let names = g.H.Shelf.opened c.read_auction.new.shelf in
     let r : Read c.args.auction.now value seen files faults names first =
     record { before_is = refl; is = c.in-Ok.ensures.read; files_are = refl; read = c.read_auction.ensures.reads.unchanged; opened = c.in-Ok.ensures.opened; steady = c.in-Ok.ensures.steady } in
-    serve-frame c.args.auction.now c.args.journals.now s value seen files faults names first r how.Done c.in-Ok-serve_journals.ensures.keeps (served-leaves value c.args.journals.now s (shelf_seen g.H.Shelf.files g.H.Shelf.faults g.H.Shelf.opened c.read_auction.new.shelf c.serve_journals.new.shelf) net c.in-Ok-serve_journals.hosted c.in-Ok-serve_journals.ensures)
+    done-frame c.args.auction.now c.args.journals.now s value seen files faults names first r how.Done net c.in-Ok-serve_journals.hosted c.in-Ok-serve_journals.ensures (λ doors none. none)
 
 pub returns-clause-frame : goal.returns-clause-frame
 returns-clause-frame g c =
@@ -89,4 +90,4 @@ returns-clause-frame g c =
     let names = g.H.Shelf.opened c.read_auction.new.shelf in
     let r : Read c.args.auction.now value seen files faults names first =
     record { before_is = refl; is = c.in-Ok.ensures.read; files_are = refl; read = c.read_auction.ensures.reads.unchanged; opened = c.in-Ok.ensures.opened; steady = c.in-Ok.ensures.steady } in
-    serve-frame c.args.auction.now c.args.journals.now s value seen files faults names first r how.NoMemory c.in-Ok-serve_journals.ensures.keeps (served-leaves value c.args.journals.now s (shelf_seen g.H.Shelf.files g.H.Shelf.faults g.H.Shelf.opened c.read_auction.new.shelf c.serve_journals.new.shelf) net c.in-Ok-serve_journals.hosted c.in-Ok-serve_journals.ensures)
+    done-frame c.args.auction.now c.args.journals.now s value seen files faults names first r how.NoMemory net c.in-Ok-serve_journals.hosted c.in-Ok-serve_journals.ensures (λ doors none. none)
