@@ -1,12 +1,11 @@
 //! What no clause says: that calls succeed where there is memory, and rounds that were worked by hand.
-ghost use Rattle.std.specs.Prelude.{◌≡◌, IfOk};
+ghost use Rattle.std.specs.Prelude.{◌≡◌, IfOk, IfSome};
 ghost use Rattle.lot_base.specs.Demands.{IsDemand};
 
 use clock::{Clock, Judgement, ReplayFault};
 use demand_set::{Demand, Report};
-use lot_base::{Goods, Phase, Prices, RawDemand, Sequence, Terms};
+use lot_base::{Goods, Phase, Prices, Terms};
 use std::alloc::Global;
-use std::process::Abort;
 use std::test::Fail;
 
 /// A clock beside its terms.
@@ -19,25 +18,34 @@ struct Auction {
 }
 
 impl Auction {
-    fn new(rt: &impl Abort, alloc: Global, terms: Terms, number: u8) -> Result<Auction, Fail> {
-        assert!(rt; number <= terms.bidders);
-        let clock = Clock::new(alloc, &terms, number)?;
-        Ok(Auction {
-            alloc,
-            terms,
-            clock,
-        })
+    fn new(alloc: Global, terms: Terms, number: u8) -> Option<Auction> {
+        Auction::with_room(alloc, terms, number, 0, 0)
+    }
+
+    /// One with room for so many reports and quantities.
+    fn with_room(
+        alloc: Global,
+        terms: Terms,
+        number: u8,
+        reports: u32,
+        quantities: u32,
+    ) -> Option<Auction> {
+        if number > terms.bidders {
+            return None;
+        }
+        match Clock::with_room(alloc, &terms, number, reports, quantities) {
+            Ok(clock) => Some(Auction {
+                alloc,
+                terms,
+                clock,
+            }),
+            Err(_) => None,
+        }
     }
 
     /// What becomes of a report of these quantities, one bundle after another. One that is to be applied is applied.
-    fn report(
-        &mut self,
-        rt: &impl Abort,
-        bidder: u8,
-        round: u32,
-        quantities: &[u16],
-    ) -> Result<Judgement, Fail> {
-        let demand = demand_of(rt, self.alloc, &self.terms.goods, quantities)?;
+    fn report(&mut self, bidder: u8, round: u32, quantities: &[u16]) -> Option<Judgement> {
+        let demand = demand_of(self.alloc, &self.terms.goods, quantities)?;
         let judgement = self.clock.judge(bidder, round, &demand);
         if judgement == Judgement::Take {
             let report = Report {
@@ -45,373 +53,523 @@ impl Auction {
                 round,
                 demand,
             };
-            let answer = self.clock.apply(self.alloc, report);
-            assert!(rt; answer.is_ok(), "there is memory");
+            if self.clock.apply(self.alloc, report).is_err() {
+                return None;
+            }
         }
-        Ok(judgement)
+        Some(judgement)
+    }
+
+    fn repeat(&mut self, rounds: u32) -> Option<u32> {
+        repeated(self.alloc, &mut self.clock, rounds)
+    }
+
+    fn reserve(&mut self, quantities: u32) -> bool {
+        self.clock.reserve(self.alloc, quantities).is_ok()
     }
 }
 
-fn terms_of(supply: &[u16], bidders: u8, ceiling: u32) -> Result<Terms, Fail> {
-    Ok(Terms::new(Goods::new(supply)?, bidders, ceiling)?)
+/// How many of so many rounds a clock repeats.
+fn repeated(alloc: Global, clock: &mut Clock, rounds: u32) -> Option<u32>
+    ensures { clock.new.history.terms ≡ clock.old.history.terms }
+{
+    match clock.repeat(alloc, rounds) {
+        Ok(made) => Some(made),
+        Err(_) => None,
+    }
 }
 
-fn demand_of(
-    rt: &impl Abort,
-    alloc: Global,
-    goods: &Goods,
-    quantities: &[u16],
-) -> Result<Demand, Fail>
-    ensures { IfOk result (λ d. IsDemand goods.now d) }
+fn terms_of(supply: &[u16], bidders: u8, ceiling: u32) -> Option<Terms> {
+    match Goods::new(supply) {
+        Ok(goods) => Terms::new(goods, bidders, ceiling).ok(),
+        Err(_) => None,
+    }
+}
+
+/// The demand of these quantities, if they are whole bundles and there is memory.
+fn demand_of(alloc: Global, goods: &Goods, quantities: &[u16]) -> Option<Demand>
+    ensures { IfSome result (λ d. IsDemand goods.now d) }
 {
     let count = goods.count();
-    assert!(rt; count >= 1 && count <= 6);
-    assert_eq!(rt; quantities.len() % count as usize, 0);
-    let raw = RawDemand {
-        goods: count,
-        quantities: Sequence::from_vec(quantities.to_vec(alloc)?),
-    };
-    Ok(Demand::read(alloc, goods, &raw)?)
+    if count < 1 || count > 6 || quantities.len() % count as usize != 0 {
+        return None;
+    }
+    match Demand::read_quantities(alloc, goods, count, quantities) {
+        Ok(demand) => Some(demand),
+        Err(_) => None,
+    }
 }
 
-/// The clock is in this round, in this phase, this member is missing, and these are the prices.
-fn assert_stands(
-    rt: &impl Abort,
-    clock: &Clock,
-    round: u32,
-    phase: Phase,
-    missing: u8,
-    prices: &[u32],
-) {
+/// What is asked of a clock, and what it answers.
+enum Step<'a> {
+    /// The report of this bidder in this round, of these quantities, is judged so.
+    Reported(u8, u32, &'a [u16], Judgement),
+    /// The clock is in this round, in this phase, this member is missing, and these are the prices.
+    Stands(u32, Phase, u8, &'a [u32]),
+    /// It is that of this number.
+    Numbered(u8),
+    /// So many reports were applied.
+    Counts(u32),
+    /// The report of this number is of this bidder in this round, and demands these quantities.
+    Told(u32, u8, u32, &'a [u16]),
+    /// The demand of this bidder in the round.
+    Last(u8, Option<&'a [u16]>),
+    /// The prices of this round.
+    Priced(u32, &'a [u32]),
+    /// Of so many rounds that may repeat, so many do.
+    Repeats(u32, u32),
+    /// There is memory for so many quantities.
+    Reserves(u32),
+}
+
+fn shown_of(clock: &Clock) -> (u32, Phase, Prices) {
     let look = clock.look();
-    assert_eq!(rt; look.round, round);
-    assert_eq!(rt; clock.steps() + 1, round);
-    assert_eq!(rt; look.phase, phase, "in round {round}");
-    assert_eq!(rt; clock.missing(), missing, "in round {round}");
-    assert_eq!(rt; look.prices.count() as usize, prices.len());
-    for good in 0..look.prices.count() {
-        assert_eq!(rt;
-            look.prices.get(good),
-            prices[good as usize],
-            "good {good} in round {round}"
-        );
+    (look.round, look.phase, look.prices)
+}
+
+fn are_prices(prices: &Prices, wanted: &[u32]) -> bool {
+    prices.as_slice() == wanted
+}
+
+fn number_of(clock: &Clock) -> u8 {
+    clock.number()
+}
+
+fn steps_of(clock: &Clock) -> u32 {
+    clock.steps()
+}
+
+fn missing_of(clock: &Clock) -> u8 {
+    clock.missing()
+}
+
+fn count_of(clock: &Clock) -> u32 {
+    clock.count()
+}
+
+fn stands(clock: &Clock, round: u32, phase: Phase, missing: u8, prices: &[u32]) -> bool {
+    let shown = shown_of(clock);
+    shown.0 == round
+        && steps_of(clock).checked_add(1) == Some(round)
+        && shown.1 == phase
+        && missing_of(clock) == missing
+        && are_prices(&shown.2, prices)
+}
+
+fn told(alloc: Global, clock: &Clock, number: u32) -> Option<Report> {
+    if number < 1 || number > clock.count() {
+        return None;
+    }
+    clock.report(alloc, number).ok()
+}
+
+fn is_demand(demand: &Demand, quantities: &[u16]) -> bool {
+    demand.quantities() == quantities
+}
+
+fn is_report(report: Option<Report>, bidder: u8, round: u32, quantities: &[u16]) -> bool {
+    match report {
+        None => false,
+        Some(told) => {
+            told.bidder == bidder && told.round == round && is_demand(&told.demand, quantities)
+        }
     }
 }
 
-#[test]
-fn judges_a_report_by_those_before_it(rt: HostRuntime) -> Result<(), Fail> {
-    let mut auction = Auction::new(&rt, rt.alloc(), terms_of(&[2], 2, 10)?, 0)?;
-    for (bidder, round, quantity, judgement) in [
-        (1, 1, 2, Judgement::Take),
-        (1, 1, 2, Judgement::Again),
-        (1, 1, 1, Judgement::Conflict(1)),
-        (2, 2, 2, Judgement::Early(1)),
-        (2, 1, 2, Judgement::Take),
-        (1, 1, 2, Judgement::Again),
-        (1, 1, 1, Judgement::Conflict(1)),
-        (1, 3, 1, Judgement::Early(2)),
-        (1, 0, 1, Judgement::NoRound),
-        (1, 2, 1, Judgement::Take),
-        (2, 2, 1, Judgement::Take),
-        (1, 3, 1, Judgement::Over(2)),
-        (1, 2, 0, Judgement::Conflict(2)),
-        (1, 1, 2, Judgement::Again),
-        (0, 1, 2, Judgement::NotMember),
-        (3, 1, 2, Judgement::NotMember),
-    ] {
-        let answer = auction.report(&rt, bidder, round, &[quantity])?;
-        assert_eq!(rt;
-            answer,
-            judgement,
-            "bidder {bidder} in round {round}: {quantity}"
-        );
+fn is_last(clock: &Clock, bidder: u8, quantities: Option<&[u16]>) -> bool {
+    match (clock.last_demand(bidder), quantities) {
+        (None, None) => true,
+        (Some(demand), Some(wanted)) => is_demand(demand, wanted),
+        _ => false,
     }
-    assert_stands(&rt, &auction.clock, 2, Phase::Ended, 0, &[1]);
-    Ok(())
 }
 
-#[test]
-fn a_round_begins_when_all_members_have_reported(rt: HostRuntime) -> Result<(), Fail> {
-    let mut auction = Auction::new(&rt, rt.alloc(), terms_of(&[2], 2, 10)?, 0)?;
-    assert_eq!(rt; auction.clock.number(), 0);
-    assert_stands(&rt, &auction.clock, 1, Phase::Running, 1, &[0]);
-    assert_eq!(rt; auction.report(&rt, 1, 1, &[2])?, Judgement::Take);
-    assert_stands(&rt, &auction.clock, 1, Phase::Running, 2, &[0]);
-    let demand = demand_of(&rt, rt.alloc(), &auction.terms.goods, &[2])?;
-    assert!(rt;
-        auction
-            .clock
-            .last_demand(1)
-            .is_some_and(|last| last.same(&demand))
-    );
-    assert!(rt; auction.clock.last_demand(2).is_none());
-    assert_eq!(rt; auction.report(&rt, 2, 1, &[2])?, Judgement::Take);
-    assert_stands(&rt, &auction.clock, 2, Phase::Running, 1, &[1]);
-    assert!(rt; auction.clock.last_demand(1).is_none());
-    Ok(())
+fn are_prices_at(clock: &Clock, round: u32, prices: &[u32]) -> bool {
+    if round < 1 || round > clock.look().round {
+        return false;
+    }
+    are_prices(&clock.prices_at(round), prices)
 }
 
-#[test]
-fn a_bidder_is_no_member_of_the_clock_of_its_number(rt: HostRuntime) -> Result<(), Fail> {
-    let mut auction = Auction::new(&rt, rt.alloc(), terms_of(&[1], 2, 10)?, 2)?;
-    assert_eq!(rt; auction.clock.number(), 2);
-    assert_eq!(rt; auction.report(&rt, 0, 1, &[1])?, Judgement::NotMember);
-    assert_eq!(rt; auction.report(&rt, 2, 1, &[1])?, Judgement::NotMember);
-    assert_eq!(rt; auction.report(&rt, 1, 1, &[1])?, Judgement::Take);
-    assert_stands(&rt, &auction.clock, 1, Phase::Ended, 0, &[0]);
-    Ok(())
+/// Whether a step goes as it says.
+fn goes(auction: &mut Auction, step: &Step) -> bool {
+    match *step {
+        Step::Reported(bidder, round, quantities, judgement) => {
+            auction.report(bidder, round, quantities) == Some(judgement)
+        }
+        Step::Repeats(most, rounds) => auction.repeat(most) == Some(rounds),
+        Step::Reserves(quantities) => auction.reserve(quantities),
+        _ => shows(auction.alloc, &auction.clock, step),
+    }
 }
+
+/// The same of a step that changes nothing.
+fn shows(alloc: Global, clock: &Clock, step: &Step) -> bool {
+    match *step {
+        Step::Stands(round, phase, missing, prices) => {
+            stands(clock, round, phase, missing, prices)
+        }
+        Step::Numbered(number) => number_of(clock) == number,
+        Step::Counts(count) => count_of(clock) == count,
+        Step::Told(number, bidder, round, quantities) => {
+            is_report(told(alloc, clock, number), bidder, round, quantities)
+        }
+        Step::Last(bidder, quantities) => is_last(clock, bidder, quantities),
+        Step::Priced(round, prices) => are_prices_at(clock, round, prices),
+        _ => false,
+    }
+}
+
+/// The number, from 1, of the first step that goes otherwise. It is 0 where there is no auction.
+fn first_other(auction: Option<Auction>, steps: &[Step]) -> Option<u32> {
+    let Some(mut auction) = auction else {
+        return Some(0);
+    };
+    let mut number: u32 = 0;
+    for step in steps {
+        number = number.saturating_add(1);
+        if !goes(&mut auction, step) {
+            return Some(number);
+        }
+    }
+    None
+}
+
+/// An auction of these terms without the bidder of this number.
+fn auction_of(
+    alloc: Global,
+    supply: &[u16],
+    bidders: u8,
+    ceiling: u32,
+    number: u8,
+) -> Option<Auction> {
+    match terms_of(supply, bidders, ceiling) {
+        Some(terms) => Auction::new(alloc, terms, number),
+        None => None,
+    }
+}
+
+const JUDGED: &[Step] = &[
+    Step::Reported(1, 1, &[2], Judgement::Take),
+    Step::Reported(1, 1, &[2], Judgement::Again),
+    Step::Reported(1, 1, &[1], Judgement::Conflict(1)),
+    Step::Reported(2, 2, &[2], Judgement::Early(1)),
+    Step::Reported(2, 1, &[2], Judgement::Take),
+    Step::Reported(1, 1, &[2], Judgement::Again),
+    Step::Reported(1, 1, &[1], Judgement::Conflict(1)),
+    Step::Reported(1, 3, &[1], Judgement::Early(2)),
+    Step::Reported(1, 0, &[1], Judgement::NoRound),
+    Step::Reported(1, 2, &[1], Judgement::Take),
+    Step::Reported(2, 2, &[1], Judgement::Take),
+    Step::Reported(1, 3, &[1], Judgement::Over(2)),
+    Step::Reported(1, 2, &[0], Judgement::Conflict(2)),
+    Step::Reported(1, 1, &[2], Judgement::Again),
+    Step::Reported(0, 1, &[2], Judgement::NotMember),
+    Step::Reported(3, 1, &[2], Judgement::NotMember),
+    Step::Stands(2, Phase::Ended, 0, &[1]),
+];
+
+#[test]
+fn judges_a_report_by_those_before_it(rt: HostRuntime) {
+    let auction = auction_of(rt.alloc(), &[2], 2, 10, 0);
+    assert_eq!(rt; first_other(auction, JUDGED), None);
+}
+
+const FULL_ROUND: &[Step] = &[
+    Step::Numbered(0),
+    Step::Stands(1, Phase::Running, 1, &[0]),
+    Step::Reported(1, 1, &[2], Judgement::Take),
+    Step::Stands(1, Phase::Running, 2, &[0]),
+    Step::Last(1, Some(&[2])),
+    Step::Last(2, None),
+    Step::Reported(2, 1, &[2], Judgement::Take),
+    Step::Stands(2, Phase::Running, 1, &[1]),
+    Step::Last(1, None),
+];
+
+#[test]
+fn a_round_begins_when_all_members_have_reported(rt: HostRuntime) {
+    let auction = auction_of(rt.alloc(), &[2], 2, 10, 0);
+    assert_eq!(rt; first_other(auction, FULL_ROUND), None);
+}
+
+const WITHOUT_SECOND: &[Step] = &[
+    Step::Numbered(2),
+    Step::Reported(0, 1, &[1], Judgement::NotMember),
+    Step::Reported(2, 1, &[1], Judgement::NotMember),
+    Step::Reported(1, 1, &[1], Judgement::Take),
+    Step::Stands(1, Phase::Ended, 0, &[0]),
+];
+
+#[test]
+fn a_bidder_is_no_member_of_the_clock_of_its_number(rt: HostRuntime) {
+    let auction = auction_of(rt.alloc(), &[1], 2, 10, 2);
+    assert_eq!(rt; first_other(auction, WITHOUT_SECOND), None);
+}
+
+/// The demand of a bidder that wants both goods or none, where they are worth it.
+const BOTH: &[u16] = &[1, 1];
+
+/// The demand of a bidder that wants one good or two.
+const ANY: &[u16] = &[0, 1, 1, 0, 1, 1];
 
 // One bidder wants both goods or none, the other wants one of them: no good alone is in excess demand.
-#[test]
-fn goods_in_excess_demand_only_together_rise_together(rt: HostRuntime) -> Result<(), Fail> {
-    let terms = terms_of(&[1, 1], 2, 10)?;
-    let both = [1, 1];
-    let any = [0, 1, 1, 0, 1, 1];
-    let mut auction = Auction::new(&rt, rt.alloc(), terms, 0)?;
-    for (round, first, second) in [
-        (1, both.as_slice(), any.as_slice()),
-        (2, both.as_slice(), [0, 1, 1, 0].as_slice()),
-        (3, [0, 0].as_slice(), [0, 0, 0, 1, 1, 0].as_slice()),
-    ] {
-        let price = auction.clock.steps();
-        assert_stands(
-            &rt,
-            &auction.clock,
-            round,
-            Phase::Running,
-            1,
-            &[price, price],
-        );
-        assert_eq!(rt; auction.report(&rt, 1, round, first)?, Judgement::Take);
-        assert_eq!(rt; auction.report(&rt, 2, round, second)?, Judgement::Take);
-    }
-    assert_stands(&rt, &auction.clock, 3, Phase::Ended, 0, &[2, 2]);
+const TOGETHER: &[Step] = &[
+    Step::Stands(1, Phase::Running, 1, &[0, 0]),
+    Step::Reported(1, 1, BOTH, Judgement::Take),
+    Step::Reported(2, 1, ANY, Judgement::Take),
+    Step::Stands(2, Phase::Running, 1, &[1, 1]),
+    Step::Reported(1, 2, BOTH, Judgement::Take),
+    Step::Reported(2, 2, &[0, 1, 1, 0], Judgement::Take),
+    Step::Stands(3, Phase::Running, 1, &[2, 2]),
+    Step::Reported(1, 3, &[0, 0], Judgement::Take),
+    Step::Reported(2, 3, &[0, 0, 0, 1, 1, 0], Judgement::Take),
+    Step::Stands(3, Phase::Ended, 0, &[2, 2]),
+];
 
-    let mut without_first = Auction::new(&rt, rt.alloc(), terms, 1)?;
-    assert_eq!(rt; without_first.report(&rt, 2, 1, &any)?, Judgement::Take);
-    assert_stands(&rt, &without_first.clock, 1, Phase::Ended, 0, &[0, 0]);
-    let mut without_second = Auction::new(&rt, rt.alloc(), terms, 2)?;
-    assert_eq!(rt; without_second.report(&rt, 1, 1, &both)?, Judgement::Take);
-    assert_stands(&rt, &without_second.clock, 1, Phase::Ended, 0, &[0, 0]);
-    Ok(())
+const SECOND_ALONE: &[Step] = &[
+    Step::Reported(2, 1, ANY, Judgement::Take),
+    Step::Stands(1, Phase::Ended, 0, &[0, 0]),
+];
+
+const FIRST_ALONE: &[Step] = &[
+    Step::Reported(1, 1, BOTH, Judgement::Take),
+    Step::Stands(1, Phase::Ended, 0, &[0, 0]),
+];
+
+#[test]
+fn goods_in_excess_demand_only_together_rise_together(rt: HostRuntime) {
+    for (number, steps) in [(0, TOGETHER), (1, SECOND_ALONE), (2, FIRST_ALONE)] {
+        let auction = auction_of(rt.alloc(), &[1, 1], 2, 10, number);
+        assert_eq!(rt; first_other(auction, steps), None, "clock {number}");
+    }
 }
 
 // The goods 0 and 1 are in as great an excess demand as the goods 1 and 2, and no set of fewer goods is.
+const TIED: &[Step] = &[
+    Step::Stands(1, Phase::Running, 1, &[0, 0, 0]),
+    Step::Reported(1, 1, &[0, 1, 0, 1, 0, 1], Judgement::Take),
+    Step::Stands(1, Phase::Running, 2, &[0, 0, 0]),
+    Step::Reported(2, 1, &[0, 1, 0, 1, 0, 1], Judgement::Take),
+    Step::Stands(1, Phase::Running, 3, &[0, 0, 0]),
+    Step::Reported(3, 1, &[0, 1, 0, 1, 0, 1], Judgement::Take),
+    Step::Stands(1, Phase::Running, 4, &[0, 0, 0]),
+    Step::Reported(4, 1, &[0, 1, 0, 1, 0, 1], Judgement::Take),
+    Step::Stands(2, Phase::Running, 1, &[1, 1, 0]),
+];
+
 #[test]
-fn of_sets_that_tie_the_smallest_number_rises(rt: HostRuntime) -> Result<(), Fail> {
-    let mut auction = Auction::new(&rt, rt.alloc(), terms_of(&[1, 1, 1], 4, 10)?, 0)?;
-    for bidder in 1..5 {
-        assert_stands(&rt, &auction.clock, 1, Phase::Running, bidder, &[0, 0, 0]);
-        let answer = auction.report(&rt, bidder, 1, &[0, 1, 0, 1, 0, 1])?;
-        assert_eq!(rt; answer, Judgement::Take);
+fn of_sets_that_tie_the_smallest_number_rises(rt: HostRuntime) {
+    let auction = auction_of(rt.alloc(), &[1, 1, 1], 4, 10, 0);
+    assert_eq!(rt; first_other(auction, TIED), None);
+}
+
+const TO_THE_CEILING: &[Step] = &[
+    Step::Stands(1, Phase::Running, 1, &[0]),
+    Step::Reported(1, 1, &[1], Judgement::Take),
+    Step::Reported(2, 1, &[1], Judgement::Take),
+    Step::Stands(2, Phase::Running, 1, &[1]),
+    Step::Reported(1, 2, &[1], Judgement::Take),
+    Step::Reported(2, 2, &[1], Judgement::Take),
+    Step::Stands(3, Phase::Running, 1, &[2]),
+    Step::Reported(1, 3, &[1], Judgement::Take),
+    Step::Reported(2, 3, &[1], Judgement::Take),
+    Step::Stands(3, Phase::Halted(0), 0, &[2]),
+    Step::Reported(1, 4, &[1], Judgement::Over(3)),
+];
+
+#[test]
+fn a_good_at_the_ceiling_halts_the_clock(rt: HostRuntime) {
+    let auction = auction_of(rt.alloc(), &[1], 2, 2, 0);
+    assert_eq!(rt; first_other(auction, TO_THE_CEILING), None);
+}
+
+const FROM_EIGHT: &[Step] = &[
+    Step::Stands(1, Phase::Running, 1, &[8]),
+    Step::Reported(1, 1, &[1], Judgement::Take),
+    Step::Reported(2, 1, &[1], Judgement::Take),
+    Step::Stands(2, Phase::Running, 1, &[9]),
+    Step::Reported(1, 2, &[1], Judgement::Take),
+    Step::Reported(2, 2, &[1], Judgement::Take),
+    Step::Stands(3, Phase::Running, 1, &[10]),
+    Step::Reported(1, 3, &[1], Judgement::Take),
+    Step::Reported(2, 3, &[1], Judgement::Take),
+    Step::Stands(3, Phase::Halted(0), 0, &[10]),
+];
+
+/// The terms of one unit for two bidders, which opens at a price.
+fn opening_at(price: u32) -> Option<Terms> {
+    let goods = Goods::new(&[1]).ok()?;
+    let opening = Prices::read(&[price])?;
+    if opening.count() != goods.count() {
+        return None;
     }
-    assert_stands(&rt, &auction.clock, 2, Phase::Running, 1, &[1, 1, 0]);
-    Ok(())
+    Terms::with_opening(goods, 2, 10, opening).ok()
 }
 
 #[test]
-fn a_good_at_the_ceiling_halts_the_clock(rt: HostRuntime) -> Result<(), Fail> {
-    let mut auction = Auction::new(&rt, rt.alloc(), terms_of(&[1], 2, 2)?, 0)?;
-    for round in 1..4 {
-        let price = auction.clock.steps();
-        assert_stands(&rt, &auction.clock, round, Phase::Running, 1, &[price]);
-        for bidder in 1..3 {
-            let answer = auction.report(&rt, bidder, round, &[1])?;
-            assert_eq!(rt; answer, Judgement::Take);
-        }
-    }
-    assert_stands(&rt, &auction.clock, 3, Phase::Halted(0), 0, &[2]);
-    assert_eq!(rt; auction.report(&rt, 1, 4, &[1])?, Judgement::Over(3));
-    Ok(())
+fn a_clock_opens_at_the_reserves_and_rises_from_there(rt: HostRuntime) {
+    let auction = match opening_at(8) {
+        Some(terms) => Auction::new(rt.alloc(), terms, 0),
+        None => None,
+    };
+    assert_eq!(rt; first_other(auction, FROM_EIGHT), None);
 }
 
-#[test]
-fn a_clock_opens_at_the_reserves_and_rises_from_there(rt: HostRuntime) -> Result<(), Fail> {
-    let goods = Goods::new(&[1])?;
-    let opening = Prices::read(&[8]);
-    assert!(rt; opening.is_some());
-    let opening = opening.unwrap();
-    assert!(rt; opening.count() == goods.count());
-    let terms = Terms::with_opening(goods, 2, 10, opening)?;
-    let mut auction = Auction::new(&rt, rt.alloc(), terms, 0)?;
-    for round in 1..4 {
-        let price = 8 + auction.clock.steps();
-        assert_stands(&rt, &auction.clock, round, Phase::Running, 1, &[price]);
-        for bidder in 1..3 {
-            let answer = auction.report(&rt, bidder, round, &[1])?;
-            assert_eq!(rt; answer, Judgement::Take);
-        }
-    }
-    assert_stands(&rt, &auction.clock, 3, Phase::Halted(0), 0, &[10]);
-    Ok(())
-}
+const NO_MEMBERS: &[Step] = &[
+    Step::Stands(1, Phase::Ended, 0, &[0]),
+    Step::Reported(1, 1, &[1], Judgement::NotMember),
+    Step::Last(1, None),
+];
 
 #[test]
-fn a_clock_without_members_has_ended(rt: HostRuntime) -> Result<(), Fail> {
-    let mut auction = Auction::new(&rt, rt.alloc(), terms_of(&[1], 1, 10)?, 1)?;
-    assert_stands(&rt, &auction.clock, 1, Phase::Ended, 0, &[0]);
-    assert_eq!(rt; auction.report(&rt, 1, 1, &[1])?, Judgement::NotMember);
-    assert!(rt; auction.clock.last_demand(1).is_none());
-    Ok(())
+fn a_clock_without_members_has_ended(rt: HostRuntime) {
+    let auction = auction_of(rt.alloc(), &[1], 1, 10, 1);
+    assert_eq!(rt; first_other(auction, NO_MEMBERS), None);
 }
 
 /// A report of the second bidder's wish for the one unit.
-fn second_wants_it(
-    rt: &impl Abort,
-    alloc: Global,
-    terms: &Terms,
-    round: u32,
-) -> Result<Report, Fail>
+fn second_wants_it(alloc: Global, terms: &Terms, round: u32) -> Result<Report, Fail>
     ensures { IfOk result (λ r. IsDemand terms.now.goods r.demand) }
 {
-    let demand = demand_of(rt, alloc, &terms.goods, &[1])?;
-    Ok(Report {
-        bidder: 2,
-        round,
-        demand,
-    })
+    match demand_of(alloc, &terms.goods, &[1]) {
+        Some(demand) => Ok(Report {
+            bidder: 2,
+            round,
+            demand,
+        }),
+        None => Err("no demand".into()),
+    }
+}
+
+/// Whether the clock without the first bidder takes the second one's report, and how it stands then.
+fn takes_one(alloc: Global, terms: &Terms) -> Result<bool, Fail> {
+    let mut reports = Vec::new(alloc);
+    reports.push(second_wants_it(alloc, terms, 1)?)?;
+    match Clock::replay(alloc, terms, 1, reports) {
+        Ok(clock) => Ok(stands(&clock, 1, Phase::Ended, 0, &[0])),
+        Err(_) => Ok(false),
+    }
 }
 
 #[test]
 fn replays_reports_that_are_taken(rt: HostRuntime) -> Result<(), Fail> {
-    let terms = terms_of(&[1], 2, 10)?;
-    let mut reports = Vec::new(rt.alloc());
-    reports.push(second_wants_it(&rt, rt.alloc(), &terms, 1)?)?;
-    match Clock::replay(rt.alloc(), &terms, 1, reports) {
-        Ok(clock) => assert_stands(&rt, &clock, 1, Phase::Ended, 0, &[0]),
-        Err(_) => assert!(rt; false, "the report is taken"),
-    }
+    let terms = terms_of(&[1], 2, 10).ok_or("no terms")?;
+    assert!(rt; takes_one(rt.alloc(), &terms)?);
     Ok(())
+}
+
+/// Why the clock of all bidders does not take the second one's reports in the rounds 1 and 3.
+fn fault_of_two(alloc: Global, terms: &Terms) -> Result<Option<ReplayFault>, Fail> {
+    let mut reports = Vec::new(alloc);
+    reports.push(second_wants_it(alloc, terms, 1)?)?;
+    reports.push(second_wants_it(alloc, terms, 3)?)?;
+    Ok(Clock::replay(alloc, terms, 0, reports).err())
 }
 
 #[test]
 fn names_the_first_report_that_is_not_taken(rt: HostRuntime) -> Result<(), Fail> {
-    let terms = terms_of(&[1], 2, 10)?;
-    let mut reports = Vec::new(rt.alloc());
-    reports.push(second_wants_it(&rt, rt.alloc(), &terms, 1)?)?;
-    reports.push(second_wants_it(&rt, rt.alloc(), &terms, 3)?)?;
-    match Clock::replay(rt.alloc(), &terms, 0, reports) {
-        Ok(_) => assert!(rt; false, "the second report is early"),
-        Err(fault) => assert_eq!(rt;
-            fault,
-            ReplayFault::NotTaken {
-                number: 2,
-                judgement: Judgement::Early(1),
-            }
-        ),
-    }
+    let terms = terms_of(&[1], 2, 10).ok_or("no terms")?;
+    let early = ReplayFault::NotTaken {
+        number: 2,
+        judgement: Judgement::Early(1),
+    };
+    assert_eq!(rt; fault_of_two(rt.alloc(), &terms)?, Some(early));
     Ok(())
 }
 
 // One good and room for two reports and four quantities: a report of one quantity leaves room for one report and three.
+const WITHIN_ROOM: &[Step] = &[
+    Step::Counts(0),
+    Step::Reported(1, 1, &[1], Judgement::Take),
+    Step::Counts(1),
+    Step::Told(1, 1, 1, &[1]),
+    Step::Reserves(100),
+    Step::Counts(1),
+    Step::Told(1, 1, 1, &[1]),
+];
+
 #[test]
-fn a_report_within_the_room_is_kept_and_told(rt: HostRuntime) -> Result<(), Fail> {
-    let terms = terms_of(&[2], 2, 10)?;
-    let clock = Clock::with_room(rt.alloc(), &terms, 0, 2, 4)?;
-    let mut auction = Auction {
-        alloc: rt.alloc(),
-        terms,
-        clock,
+fn a_report_within_the_room_is_kept_and_told(rt: HostRuntime) {
+    let auction = match terms_of(&[2], 2, 10) {
+        Some(terms) => Auction::with_room(rt.alloc(), terms, 0, 2, 4),
+        None => None,
     };
-    assert_eq!(rt; auction.clock.count(), 0);
-    assert_eq!(rt; auction.report(&rt, 1, 1, &[1])?, Judgement::Take);
-    assert_eq!(rt; auction.clock.count(), 1);
-    assert_told(&rt, &auction, 1, 1, 1, &[1])?;
-    auction.clock.reserve(rt.alloc(), 100)?;
-    assert_eq!(rt; auction.clock.count(), 1);
-    assert_told(&rt, &auction, 1, 1, 1, &[1])?;
-    Ok(())
+    assert_eq!(rt; first_other(auction, WITHIN_ROOM), None);
 }
 
-/// The report of this number is of this bidder in this round, and demands these quantities.
-fn assert_told(
-    rt: &impl Abort,
-    auction: &Auction,
-    number: u32,
-    bidder: u8,
-    round: u32,
-    quantities: &[u16],
-) -> Result<(), Fail> {
-    assert!(rt; number >= 1 && number <= auction.clock.count());
-    let told = auction.clock.report(auction.alloc, number)?;
-    assert_eq!(rt; told.bidder, bidder, "report {number}");
-    assert_eq!(rt; told.round, round, "report {number}");
-    let demand = demand_of(rt, auction.alloc, &auction.terms.goods, quantities)?;
-    assert!(rt; told.demand.same(&demand), "report {number}");
-    Ok(())
-}
-
-// The first good is in excess demand in two rounds, and nothing in the third.
-#[test]
-fn earlier_reports_and_prices_are_told(rt: HostRuntime) -> Result<(), Fail> {
-    let mut auction = Auction::new(&rt, rt.alloc(), terms_of(&[2, 3], 2, 10)?, 0)?;
-    let first = [2, 1];
-    let rounds = [
-        (1, 1, 2, [2, 1].as_slice()),
-        (2, 3, 4, [1, 1, 2, 0].as_slice()),
-        (3, 5, 6, [0, 2].as_slice()),
-    ];
-    for (round, _, _, second) in rounds {
-        assert_eq!(rt; auction.report(&rt, 2, round, second)?, Judgement::Take);
-        assert_eq!(rt; auction.report(&rt, 1, round, &first)?, Judgement::Take);
-    }
-    assert_stands(&rt, &auction.clock, 3, Phase::Ended, 0, &[2, 0]);
-    assert_eq!(rt; auction.clock.count(), 6);
-    for (round, earlier, later, second) in rounds {
-        assert_told(&rt, &auction, earlier, 2, round, second)?;
-        assert_told(&rt, &auction, later, 1, round, &first)?;
-        assert_prices_at(&rt, &auction.clock, round);
-    }
-    Ok(())
-}
-
-/// Only the first good rises, by one in each round.
-fn assert_prices_at(rt: &impl Abort, clock: &Clock, round: u32) {
-    assert!(rt; round >= 1 && round <= clock.look().round);
-    let prices = clock.prices_at(round);
-    assert!(rt; prices.count() == 2);
-    assert_eq!(rt; prices.get(0), round - 1);
-    assert_eq!(rt; prices.get(1), 0);
-}
+// The first good is in excess demand in two rounds, and nothing in the third: only it rises, by one in each round.
+const EARLIER: &[Step] = &[
+    Step::Reported(2, 1, &[2, 1], Judgement::Take),
+    Step::Reported(1, 1, &[2, 1], Judgement::Take),
+    Step::Reported(2, 2, &[1, 1, 2, 0], Judgement::Take),
+    Step::Reported(1, 2, &[2, 1], Judgement::Take),
+    Step::Reported(2, 3, &[0, 2], Judgement::Take),
+    Step::Reported(1, 3, &[2, 1], Judgement::Take),
+    Step::Stands(3, Phase::Ended, 0, &[2, 0]),
+    Step::Counts(6),
+    Step::Told(1, 2, 1, &[2, 1]),
+    Step::Told(2, 1, 1, &[2, 1]),
+    Step::Priced(1, &[0, 0]),
+    Step::Told(3, 2, 2, &[1, 1, 2, 0]),
+    Step::Told(4, 1, 2, &[2, 1]),
+    Step::Priced(2, &[1, 0]),
+    Step::Told(5, 2, 3, &[0, 2]),
+    Step::Told(6, 1, 3, &[2, 1]),
+    Step::Priced(3, &[2, 0]),
+];
 
 #[test]
-fn repeats_nothing_before_a_step_or_within_a_round(rt: HostRuntime) -> Result<(), Fail> {
-    let mut auction = Auction::new(&rt, rt.alloc(), terms_of(&[2], 2, 10)?, 0)?;
-    assert_eq!(rt; auction.clock.repeat(rt.alloc(), 3)?, 0);
-    assert_eq!(rt; auction.report(&rt, 2, 1, &[2])?, Judgement::Take);
-    assert_eq!(rt; auction.clock.repeat(rt.alloc(), 3)?, 0);
-    assert_eq!(rt; auction.report(&rt, 1, 1, &[2])?, Judgement::Take);
-    assert_eq!(rt; auction.report(&rt, 1, 2, &[2])?, Judgement::Take);
-    assert_eq!(rt; auction.clock.repeat(rt.alloc(), 3)?, 0);
-    assert_eq!(rt; auction.report(&rt, 2, 2, &[2])?, Judgement::Take);
-    assert_eq!(rt; auction.clock.count(), 4);
-    assert_stands(&rt, &auction.clock, 3, Phase::Running, 1, &[2]);
-    Ok(())
+fn earlier_reports_and_prices_are_told(rt: HostRuntime) {
+    let auction = auction_of(rt.alloc(), &[2, 3], 2, 10, 0);
+    assert_eq!(rt; first_other(auction, EARLIER), None);
+}
+
+const NOT_REPEATED: &[Step] = &[
+    Step::Repeats(3, 0),
+    Step::Reported(2, 1, &[2], Judgement::Take),
+    Step::Repeats(3, 0),
+    Step::Reported(1, 1, &[2], Judgement::Take),
+    Step::Reported(1, 2, &[2], Judgement::Take),
+    Step::Repeats(3, 0),
+    Step::Reported(2, 2, &[2], Judgement::Take),
+    Step::Counts(4),
+    Step::Stands(3, Phase::Running, 1, &[2]),
+];
+
+#[test]
+fn repeats_nothing_before_a_step_or_within_a_round(rt: HostRuntime) {
+    let auction = auction_of(rt.alloc(), &[2], 2, 10, 0);
+    assert_eq!(rt; first_other(auction, NOT_REPEATED), None);
 }
 
 // The least quantities of both members are three of two units: the round repeats as often as asked, and then up to the ceiling.
+const REPEATED: &[Step] = &[
+    Step::Reported(3, 1, &[2], Judgement::Take),
+    Step::Reported(1, 1, &[1, 2], Judgement::Take),
+    Step::Repeats(0, 0),
+    Step::Stands(2, Phase::Running, 1, &[1]),
+    Step::Repeats(3, 3),
+    Step::Stands(5, Phase::Running, 1, &[4]),
+    Step::Counts(8),
+    Step::Told(3, 1, 2, &[1, 2]),
+    Step::Told(4, 3, 2, &[2]),
+    Step::Told(5, 1, 3, &[1, 2]),
+    Step::Told(6, 3, 3, &[2]),
+    Step::Told(7, 1, 4, &[1, 2]),
+    Step::Told(8, 3, 4, &[2]),
+    Step::Repeats(100, 6),
+    Step::Stands(11, Phase::Running, 1, &[10]),
+    Step::Repeats(100, 0),
+    Step::Reported(1, 11, &[1, 2], Judgement::Take),
+    Step::Reported(3, 11, &[2], Judgement::Take),
+    Step::Stands(11, Phase::Halted(0), 0, &[10]),
+    Step::Reported(1, 4, &[1, 2], Judgement::Again),
+    Step::Reported(1, 4, &[2], Judgement::Conflict(4)),
+];
+
 #[test]
-fn repeats_what_each_member_reported(rt: HostRuntime) -> Result<(), Fail> {
-    let mut auction = Auction::new(&rt, rt.alloc(), terms_of(&[2], 3, 10)?, 2)?;
-    assert_eq!(rt; auction.report(&rt, 3, 1, &[2])?, Judgement::Take);
-    assert_eq!(rt; auction.report(&rt, 1, 1, &[1, 2])?, Judgement::Take);
-    assert_eq!(rt; auction.clock.repeat(rt.alloc(), 0)?, 0);
-    assert_stands(&rt, &auction.clock, 2, Phase::Running, 1, &[1]);
-    assert_eq!(rt; auction.clock.repeat(rt.alloc(), 3)?, 3);
-    assert_stands(&rt, &auction.clock, 5, Phase::Running, 1, &[4]);
-    assert_eq!(rt; auction.clock.count(), 8);
-    for round in 2..5 {
-        assert_told(&rt, &auction, 2 * round - 1, 1, round, &[1, 2])?;
-        assert_told(&rt, &auction, 2 * round, 3, round, &[2])?;
-    }
-    assert_eq!(rt; auction.clock.repeat(rt.alloc(), 100)?, 6);
-    assert_stands(&rt, &auction.clock, 11, Phase::Running, 1, &[10]);
-    assert_eq!(rt; auction.clock.repeat(rt.alloc(), 100)?, 0);
-    assert_eq!(rt; auction.report(&rt, 1, 11, &[1, 2])?, Judgement::Take);
-    assert_eq!(rt; auction.report(&rt, 3, 11, &[2])?, Judgement::Take);
-    assert_stands(&rt, &auction.clock, 11, Phase::Halted(0), 0, &[10]);
-    assert_eq!(rt; auction.report(&rt, 1, 4, &[1, 2])?, Judgement::Again);
-    assert_eq!(rt; auction.report(&rt, 1, 4, &[2])?, Judgement::Conflict(4));
-    Ok(())
+fn repeats_what_each_member_reported(rt: HostRuntime) {
+    let auction = auction_of(rt.alloc(), &[2], 3, 10, 2);
+    assert_eq!(rt; first_other(auction, REPEATED), None);
 }

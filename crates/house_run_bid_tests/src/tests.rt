@@ -1,10 +1,10 @@
 //! What no clause says: talks that were worked by hand, as a bid tells them.
-use house_io::{ListLink, ListNet, Net, SureFile, SureLink, SureNet, SureShelf, SureSink};
+use house_io::{
+    ListLink, ListNet, Net, Shelf, Sink, SureFile, SureLink, SureNet, SureShelf, SureSink,
+};
 use house_run::run;
 use std::alloc::Global;
-use std::process::Abort;
 use std::sync::Wait;
-use std::test::Fail;
 use std::thread::Threads;
 
 /// One unit of one good for two bidders.
@@ -93,130 +93,172 @@ const SPENT: &str = "looks spent clock 0\n";
 /// The words, what comes over the one link, in pieces, what goes over the one that was hung up, in pieces, the status and the text.
 type Case<'a> = (&'a [&'a str], &'a [&'a [u8]], &'a [&'a [u8]], u8, &'a str);
 
-fn words_of(alloc: Global, words: &[&str]) -> Result<Vec<String>, Fail> {
+fn words_of(alloc: Global, words: &[&str]) -> Option<Vec<String>> {
     let mut copies = Vec::new(alloc);
     for word in words {
-        copies.push(String::from_str(alloc, word)?)?;
+        copies.push(String::from_str(alloc, word).ok()?).ok()?;
     }
-    Ok(copies)
+    Some(copies)
 }
 
-fn joined(alloc: Global, pieces: &[&[u8]]) -> Result<Vec<u8>, Fail> {
+fn joined(alloc: Global, pieces: &[&[u8]]) -> Option<Vec<u8>> {
     let mut bytes = Vec::new(alloc);
     for piece in pieces {
-        bytes.extend_from_slice(piece)?;
+        bytes.extend_from_slice(piece).ok()?;
     }
-    Ok(bytes)
+    Some(bytes)
 }
 
-fn file_of(alloc: Global, name: &str, text: &str) -> Result<SureFile, Fail> {
-    Ok(SureFile {
-        name: String::from_str(alloc, name)?,
-        bytes: String::from_str(alloc, text)?.into_bytes(),
-    })
+fn file_of(alloc: Global, name: &str, text: &str) -> Option<SureFile> {
+    let name = String::from_str(alloc, name).ok()?;
+    let bytes = text.as_bytes().to_vec(alloc).ok()?;
+    Some(SureFile { name, bytes })
 }
 
 /// The auction and the valuations.
-fn files(alloc: Global) -> Result<SureShelf, Fail> {
+fn files(alloc: Global) -> Option<SureShelf> {
     let mut files = Vec::new(alloc);
-    files.push(file_of(alloc, "a", AUCTION)?)?;
-    files.push(file_of(alloc, "v", VALUES)?)?;
-    Ok(SureShelf::new(alloc, files, 0)?)
+    files.push(file_of(alloc, "a", AUCTION)?).ok()?;
+    files.push(file_of(alloc, "v", VALUES)?).ok()?;
+    SureShelf::new(alloc, files, 0).ok()
+}
+
+fn sure_link(alloc: Global, comes: &[&[u8]]) -> Option<SureLink> {
+    let bytes = joined(alloc, comes)?;
+    SureLink::new(alloc, bytes, 1_000).ok()
 }
 
 /// A net on which one link is dialled, with these bytes.
-fn sure_net(alloc: Global, comes: &[&[u8]]) -> Result<SureNet, Fail> {
+fn sure_net(alloc: Global, comes: &[&[u8]]) -> Option<SureNet> {
     let mut links = Vec::new(alloc);
-    links.push(SureLink::new(alloc, joined(alloc, comes)?, 1000)?)?;
-    Ok(SureNet::new(alloc, Vec::new(alloc), links)?)
+    links.push(sure_link(alloc, comes)?).ok()?;
+    SureNet::new(alloc, Vec::new(alloc), links).ok()
+}
+
+/// How a run of these words ends.
+fn ended<H: Shelf, S: Sink, N: Net>(
+    rt: &(impl Threads + Wait + Sync),
+    alloc: Global,
+    words: &[String],
+    shelf: &mut H,
+    out: &mut S,
+    net: &mut N,
+) -> u8 {
+    run(rt, alloc, words, shelf, out, net).status()
+}
+
+/// The status that these words end with. Nothing, here and below, where there is no memory.
+fn status_of<S: Sink, N: Net>(
+    rt: &(impl Threads + Wait + Sync),
+    alloc: Global,
+    words: &[&str],
+    out: &mut S,
+    net: &mut N,
+) -> Option<u8> {
+    let words = words_of(alloc, words)?;
+    let mut shelf = files(alloc)?;
+    Some(ended(rt, alloc, &words, &mut shelf, out, net))
+}
+
+fn sure_sink(alloc: Global) -> Option<SureSink> {
+    SureSink::new(alloc, 200).ok()
 }
 
 /// Whether these words over a net end with this status and text.
 fn ends_with<N: Net>(
-    rt: &(impl Abort + Threads + Wait + Sync),
+    rt: &(impl Threads + Wait + Sync),
     alloc: Global,
     words: &[&str],
     net: &mut N,
     status: u8,
     text: &str,
-) -> Result<bool, Fail> {
-    let mut shelf = files(alloc)?;
-    let mut out = SureSink::new(alloc, 200)?;
-    let words = words_of(alloc, words)?;
-    let answer = run(rt, alloc, &words, &mut shelf, &mut out, net);
-    Ok(answer.status() == status && out.written() == text.as_bytes())
+) -> Option<bool> {
+    let mut out = sure_sink(alloc)?;
+    let found = status_of(rt, alloc, words, &mut out, net)?;
+    Some(found == status && out.written() == text.as_bytes())
+}
+
+/// What went over the one link that was hung up, if there is one, and whether there is no other.
+fn gone(net: &SureNet) -> (&[u8], bool) {
+    match net.hung_up() {
+        [link] => (link.written(), true),
+        [] => (b"", true),
+        _ => (b"", false),
+    }
 }
 
 /// Whether these bytes went over the one link that was hung up, or there is none.
-fn has_gone(alloc: Global, net: &SureNet, goes: &[&[u8]]) -> Result<bool, Fail> {
+fn has_gone(alloc: Global, net: &SureNet, goes: &[&[u8]]) -> Option<bool> {
     let wanted = joined(alloc, goes)?;
-    Ok(match net.hung_up() {
-        [link] => link.written() == wanted.as_slice(),
-        [] => goes.is_empty(),
-        _ => false,
-    })
+    let (bytes, alone) = gone(net);
+    Some(alone && bytes == wanted.as_slice())
 }
 
-fn bids(
-    rt: &(impl Abort + Threads + Wait + Sync),
-    alloc: Global,
-    case: &Case,
-) -> Result<bool, Fail> {
+fn bids(rt: &(impl Threads + Wait + Sync), alloc: Global, case: &Case) -> Option<bool> {
     let (words, comes, goes, status, text) = case;
     let mut net = sure_net(alloc, comes)?;
-    let ended = ends_with(rt, alloc, words, &mut net, *status, text)?;
-    Ok(ended && has_gone(alloc, &net, goes)?)
+    let told = ends_with(rt, alloc, words, &mut net, *status, text)?;
+    Some(told && has_gone(alloc, &net, goes)?)
 }
 
+const CASES: &[Case] = &[
+    (BID, REPLIES, ALL, 0, BOTH),
+    (ONE_LOOK, ONCE, LOOKS, 17, SPENT),
+    (
+        BID,
+        &[REFUSED],
+        &[HELLO],
+        16,
+        "refused code 2 detail 0 value 1\n",
+    ),
+    (BID, &[], &[HELLO], 18, "bad reply\n"),
+    (THIRD, REPLIES, &[], 19, "no bidder 3\n"),
+];
+
 #[test]
-fn bids_end_as_their_talks(rt: HostRuntime) -> Result<(), Fail> {
-    let cases: &[Case] = &[
-        (BID, REPLIES, ALL, 0, BOTH),
-        (ONE_LOOK, ONCE, LOOKS, 17, SPENT),
-        (
-            BID,
-            &[REFUSED],
-            &[HELLO],
-            16,
-            "refused code 2 detail 0 value 1\n",
-        ),
-        (BID, &[], &[HELLO], 18, "bad reply\n"),
-        (THIRD, REPLIES, &[], 19, "no bidder 3\n"),
-    ];
-    for case in cases {
-        let bids = bids(&rt, rt.alloc(), case)?;
-        assert!(&rt; bids, "{case:?}");
+fn bids_end_as_their_talks(rt: HostRuntime) {
+    for case in CASES {
+        assert_eq!(rt; bids(&rt, rt.alloc(), case), Some(true), "{case:?}");
     }
-    Ok(())
+}
+
+fn plan_of(alloc: Global, call: Option<u64>) -> Option<Vec<u64>> {
+    let mut plan = Vec::new(alloc);
+    if let Some(call) = call {
+        plan.push(call).ok()?;
+    }
+    Some(plan)
+}
+
+fn list_link(alloc: Global, failing: Option<u64>) -> Option<ListLink> {
+    let bytes = joined(alloc, REPLIES)?;
+    let calls = plan_of(alloc, failing)?;
+    ListLink::new(alloc, bytes, 1_000, calls).ok()
 }
 
 /// A net on which one link is dialled whose call of this number fails, or whose dialling does.
-fn list_net(
+fn list_net(alloc: Global, failing_link: Option<u64>, failing: Option<u64>) -> Option<ListNet> {
+    let calls = plan_of(alloc, failing)?;
+    let mut links = Vec::new(alloc);
+    links.push(list_link(alloc, failing_link)?).ok()?;
+    ListNet::new(alloc, Vec::new(alloc), links, calls).ok()
+}
+
+/// Whether a bid over such a net is told to fail there.
+fn tells_the_fault(
+    rt: &(impl Threads + Wait + Sync),
     alloc: Global,
     failing_link: Option<u64>,
     failing: Option<u64>,
-) -> Result<ListNet, Fail> {
-    let bytes = joined(alloc, REPLIES)?;
-    let link = ListLink::new(alloc, bytes, 1000, plan_of(alloc, failing_link)?)?;
-    let mut links = Vec::new(alloc);
-    links.push(link)?;
-    Ok(ListNet::new(alloc, Vec::new(alloc), links, plan_of(alloc, failing)?)?)
-}
-
-fn plan_of(alloc: Global, call: Option<u64>) -> Result<Vec<u64>, Fail> {
-    let mut plan = Vec::new(alloc);
-    if let Some(call) = call {
-        plan.push(call)?;
-    }
-    Ok(plan)
+) -> Option<bool> {
+    let mut net = list_net(alloc, failing_link, failing)?;
+    ends_with(rt, alloc, BID, &mut net, 7, "net fault\n")
 }
 
 #[test]
-fn faults_of_the_net_are_told(rt: HostRuntime) -> Result<(), Fail> {
+fn faults_of_the_net_are_told(rt: HostRuntime) {
     for (failing_link, failing) in [(None, Some(0)), (Some(0), None), (Some(2), None)] {
-        let mut net = list_net(rt.alloc(), failing_link, failing)?;
-        let told = ends_with(&rt, rt.alloc(), BID, &mut net, 7, "net fault\n")?;
-        assert!(&rt; told, "{failing_link:?} {failing:?}");
+        let told = tells_the_fault(&rt, rt.alloc(), failing_link, failing);
+        assert_eq!(rt; told, Some(true), "{failing_link:?} {failing:?}");
     }
-    Ok(())
 }

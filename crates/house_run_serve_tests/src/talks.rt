@@ -1,7 +1,6 @@
 //! Both ends of `run` over TCP: an auction that was worked by hand, and a door at which a connection is cut.
-use crate::tests::{AUCTION, SETTLE, file_of, run_words, shelf_of};
+use crate::tests::{AUCTION, SETTLE, file_of, journal_length, run_words, shelf_of};
 use house_io::{Link, Net, SureShelf, TcpNet, send_whole};
-use lot_base::NoMemory;
 use std::alloc::Global;
 use std::net::{OpenListener, TcpListener};
 use std::sync::Wait;
@@ -71,11 +70,11 @@ fn free_address<R: std::net::Net>(rt: &R, alloc: Global) -> Result<String, Fail>
 }
 
 /// A shelf with the auction and the valuations.
-fn bidders_shelf(alloc: Global) -> Result<SureShelf, NoMemory> {
+fn bidders_shelf(alloc: Global) -> Option<SureShelf> {
     let mut files = Vec::new(alloc);
-    files.push(file_of(alloc, "a", AUCTION)?)?;
-    files.push(file_of(alloc, "v", VALUES)?)?;
-    Ok(SureShelf::new(alloc, files, 0)?)
+    files.push(file_of(alloc, "a", AUCTION)?).ok()?;
+    files.push(file_of(alloc, "v", VALUES)?).ok()?;
+    SureShelf::new(alloc, files, 0).ok()
 }
 
 /// How these words end over TCP. There is nothing where there is no memory.
@@ -86,7 +85,7 @@ where
     T::Listener: Send,
 {
     let mut net = TcpNet::new(rt);
-    run_words(rt, alloc, words, shelf, &mut net).ok()
+    run_words(rt, alloc, words, shelf, &mut net)
 }
 
 fn is_net_fault(ran: &Ran) -> bool {
@@ -100,7 +99,7 @@ where
     T::Stream: Send,
     T::Listener: Send,
 {
-    let mut shelf = bidders_shelf(alloc).ok()?;
+    let mut shelf = bidders_shelf(alloc)?;
     let words = ["bid", "a", "v", bidder, token, address, MOST_LOOKS];
     for _ in 0..TRIES {
         let ran = run_over_tcp(rt, alloc, &words, &mut shelf);
@@ -150,20 +149,33 @@ where
     Talk { house, ada, bob }
 }
 
+/// Whether the house and both bidders ended as they should.
+fn is_told(talk: &Talk) -> bool {
+    has_ended(&talk.house, 0, SERVED)
+        && has_ended(&talk.ada, 0, TO_ADA)
+        && has_ended(&talk.bob, 0, TO_BOB)
+}
+
+/// Whether an auction over TCP goes as it should, how long the journal is, and whether it is settled.
+fn talked_and_settled<T>(rt: &T, alloc: Global, address: &str) -> Option<(bool, usize, bool)>
+where
+    T: Threads + Wait + Sync + Clock + std::net::Net,
+    T::Stream: Send,
+    T::Listener: Send,
+{
+    let mut shelf = shelf_of(alloc)?;
+    let told = is_told(&serve_and_bid(rt, alloc, address, &mut shelf));
+    let length = journal_length(&shelf)?;
+    let settled = run_over_tcp(rt, alloc, SETTLE, &mut shelf);
+    Some((told, length, has_ended(&settled, 0, SETTLED)))
+}
+
 #[test]
 fn an_auction_goes_over_tcp(rt: HostRuntime) -> Result<(), Fail> {
-    let alloc = rt.alloc();
-    let address = free_address(&rt, alloc)?;
-    let mut shelf = shelf_of(alloc)?;
-    let Talk { house, ada, bob } = serve_and_bid(&rt, alloc, address.as_str(), &mut shelf);
-    assert!(rt; has_ended(&house, 0, SERVED));
-    assert!(rt; has_ended(&ada, 0, TO_ADA));
-    assert!(rt; has_ended(&bob, 0, TO_BOB));
+    let address = free_address(&rt, rt.alloc())?;
+    let found = talked_and_settled(&rt, rt.alloc(), address.as_str());
     // The header, five reports of one bundle, and the last of bob's with two.
-    let journal = shelf.file("j/clock-00.ahj");
-    assert!(rt; matches!(journal, Some(bytes) if bytes.len() == 42 + 5 * 15 + 17));
-    let settled = run_over_tcp(&rt, alloc, SETTLE, &mut shelf);
-    assert!(rt; has_ended(&settled, 0, SETTLED));
+    assert_eq!(rt; found, Some((true, 42 + 5 * 15 + 17, true)));
     Ok(())
 }
 
@@ -250,7 +262,7 @@ where
     T::Stream: Send,
     T::Listener: Send,
 {
-    let mut shelf = shelf_of(alloc).ok()?;
+    let mut shelf = shelf_of(alloc)?;
     run_over_tcp(rt, alloc, &["serve", "a", "j", address], &mut shelf)
 }
 
@@ -289,15 +301,27 @@ where
     }
 }
 
+/// Whether the cut was sent, how the other house and the house ended, and whether the last session went well.
+fn is_cut_alone<T>(rt: &T, alloc: Global, address: &str) -> Option<[bool; 4]>
+where
+    T: Threads + Wait + Sync + Clock + std::net::Net,
+    T::Stream: Send,
+    T::Listener: Send,
+{
+    let mut shelf = shelf_of(alloc)?;
+    let visits = serve_visits(rt, alloc, address, &mut shelf);
+    Some([
+        visits.cut,
+        has_ended(&visits.other, 7, "net fault\n"),
+        visits.served,
+        has_ended(&visits.house, 0, SERVED_BEHIND_A_CUT),
+    ])
+}
+
 #[test]
 fn a_cut_connection_ends_its_session_alone(rt: HostRuntime) -> Result<(), Fail> {
-    let alloc = rt.alloc();
-    let address = free_address(&rt, alloc)?;
-    let mut shelf = shelf_of(alloc)?;
-    let visits = serve_visits(&rt, alloc, address.as_str(), &mut shelf);
-    assert!(rt; visits.cut);
-    assert!(rt; has_ended(&visits.other, 7, "net fault\n"));
-    assert!(rt; visits.served);
-    assert!(rt; has_ended(&visits.house, 0, SERVED_BEHIND_A_CUT));
+    let address = free_address(&rt, rt.alloc())?;
+    let found = is_cut_alone(&rt, rt.alloc(), address.as_str());
+    assert_eq!(rt; found, Some([true; 4]));
     Ok(())
 }

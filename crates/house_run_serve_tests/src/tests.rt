@@ -1,12 +1,10 @@
 //! What no clause says: an auction of two bidders that was worked by hand, served at two doors and settled.
 use house_io::{
-    ListDoor, ListNet, Net, SureDoor, SureFile, SureLink, SureNet, SureShelf, SureSink,
+    ListDoor, ListNet, Net, Shelf, Sink, SureDoor, SureFile, SureLink, SureNet, SureShelf, SureSink,
 };
 use house_run::run;
-use lot_base::NoMemory;
 use std::alloc::Global;
 use std::sync::Wait;
-use std::test::Fail;
 use std::thread::Threads;
 
 /// One unit of one good for two bidders.
@@ -76,58 +74,93 @@ bidder 2 award 0 debit 0 credit 0 pays 0
 clock 0 steps 0 prices 0
 ";
 
-fn words_of(alloc: Global, words: &[&str]) -> Result<Vec<String>, NoMemory> {
+fn words_of(alloc: Global, words: &[&str]) -> Option<Vec<String>> {
     let mut copies = Vec::new(alloc);
     for word in words {
-        copies.push(String::from_str(alloc, word)?)?;
+        copies.push(String::from_str(alloc, word).ok()?).ok()?;
     }
-    Ok(copies)
+    Some(copies)
 }
 
-fn joined(alloc: Global, pieces: &[&[u8]]) -> Result<Vec<u8>, Fail> {
+fn joined(alloc: Global, pieces: &[&[u8]]) -> Option<Vec<u8>> {
     let mut bytes = Vec::new(alloc);
     for piece in pieces {
-        bytes.extend_from_slice(piece)?;
+        bytes.extend_from_slice(piece).ok()?;
     }
-    Ok(bytes)
+    Some(bytes)
 }
 
-/// A file of a shelf, with this name and this text.
-pub(crate) fn file_of(alloc: Global, name: &str, text: &str) -> Result<SureFile, NoMemory> {
-    Ok(SureFile {
-        name: String::from_str(alloc, name)?,
-        bytes: String::from_str(alloc, text)?.into_bytes(),
-    })
+/// A file of a shelf, with this name and this text. Nothing, here and below, where there is no memory.
+pub(crate) fn file_of(alloc: Global, name: &str, text: &str) -> Option<SureFile> {
+    let name = String::from_str(alloc, name).ok()?;
+    let bytes = text.as_bytes().to_vec(alloc).ok()?;
+    Some(SureFile { name, bytes })
 }
 
 /// A shelf with the auction, and with no journal.
-pub(crate) fn shelf_of(alloc: Global) -> Result<SureShelf, NoMemory> {
+pub(crate) fn shelf_of(alloc: Global) -> Option<SureShelf> {
     let mut files = Vec::new(alloc);
-    files.push(file_of(alloc, "a", AUCTION)?)?;
-    Ok(SureShelf::new(alloc, files, 10_000)?)
+    files.push(file_of(alloc, "a", AUCTION)?).ok()?;
+    SureShelf::new(alloc, files, 10_000).ok()
+}
+
+/// A link over which these frames come.
+fn link_of(alloc: Global, frames: &[&[u8]]) -> Option<SureLink> {
+    let bytes = joined(alloc, frames)?;
+    SureLink::new(alloc, bytes, 1_000).ok()
 }
 
 /// A door with one link, over which these frames come.
-fn door_of(alloc: Global, frames: &[&[u8]]) -> Result<SureDoor, Fail> {
+fn door_of(alloc: Global, frames: &[&[u8]]) -> Option<SureDoor> {
     let mut links = Vec::new(alloc);
-    links.push(SureLink::new(alloc, joined(alloc, frames)?, 1000)?)?;
-    Ok(SureDoor::new(alloc, links)?)
+    links.push(link_of(alloc, frames)?).ok()?;
+    SureDoor::new(alloc, links).ok()
 }
 
 /// A net with two doors, at each of which a bidder comes in once.
-fn two_doors(alloc: Global) -> Result<SureNet, Fail> {
+fn two_doors(alloc: Global) -> Option<SureNet> {
     let mut doors = Vec::new(alloc);
-    doors.push(door_of(alloc, ADA)?)?;
-    doors.push(door_of(alloc, BOB)?)?;
-    Ok(SureNet::new(alloc, doors, Vec::new(alloc))?)
+    doors.push(door_of(alloc, ADA)?).ok()?;
+    doors.push(door_of(alloc, BOB)?).ok()?;
+    SureNet::new(alloc, doors, Vec::new(alloc)).ok()
+}
+
+fn list_door(alloc: Global) -> Option<ListDoor> {
+    ListDoor::new(alloc, Vec::new(alloc), Vec::new(alloc)).ok()
+}
+
+fn first_call(alloc: Global) -> Option<Vec<u64>> {
+    let mut calls = Vec::new(alloc);
+    calls.push(0).ok()?;
+    Some(calls)
 }
 
 /// A net on which the first call fails.
-fn failing_net(alloc: Global) -> Result<ListNet, Fail> {
+fn failing_net(alloc: Global) -> Option<ListNet> {
+    let failing = first_call(alloc)?;
     let mut doors = Vec::new(alloc);
-    doors.push(ListDoor::new(alloc, Vec::new(alloc), Vec::new(alloc))?)?;
-    let failing = vec![in alloc; 0]?;
-    Ok(ListNet::new(alloc, doors, Vec::new(alloc), failing)?)
+    doors.push(list_door(alloc)?).ok()?;
+    ListNet::new(alloc, doors, Vec::new(alloc), failing).ok()
+}
+
+/// How a run of these words ends.
+fn ended<H: Shelf, S: Sink, N: Net>(
+    rt: &(impl Threads + Wait + Sync),
+    alloc: Global,
+    words: &[String],
+    shelf: &mut H,
+    out: &mut S,
+    net: &mut N,
+) -> u8 {
+    run(rt, alloc, words, shelf, out, net).status()
+}
+
+fn sure_sink(alloc: Global) -> Option<SureSink> {
+    SureSink::new(alloc, 1_000).ok()
+}
+
+fn text_in(alloc: Global, out: &SureSink) -> Option<Vec<u8>> {
+    out.written().to_vec(alloc).ok()
 }
 
 /// The status that these words end with, and the text that they write.
@@ -137,52 +170,96 @@ pub(crate) fn run_words<N: Net>(
     words: &[&str],
     shelf: &mut SureShelf,
     net: &mut N,
-) -> Result<(u8, Vec<u8>), NoMemory> {
-    let mut out = SureSink::new(alloc, 1000)?;
+) -> Option<(u8, Vec<u8>)> {
     let words = words_of(alloc, words)?;
-    let answer = run(rt, alloc, &words, shelf, &mut out, net);
-    let mut text = Vec::new(alloc);
-    text.extend_from_slice(out.written())?;
-    Ok((answer.status(), text))
+    let mut out = sure_sink(alloc)?;
+    let status = ended(rt, alloc, &words, shelf, &mut out, net);
+    Some((status, text_in(alloc, &out)?))
 }
 
-/// Whether these replies went over the one link that was hung up at the door.
-fn was_told(alloc: Global, door: &SureDoor, replies: &[&[u8]]) -> Result<bool, Fail> {
+/// What went over the one link that was hung up at the door.
+fn told_at(door: &SureDoor) -> Option<&[u8]> {
+    match door.hung_up() {
+        [link] => Some(link.written()),
+        _ => None,
+    }
+}
+
+/// Whether these replies went over it.
+fn was_told(alloc: Global, door: &SureDoor, replies: &[&[u8]]) -> Option<bool> {
     let bytes = joined(alloc, replies)?;
-    Ok(match door.hung_up() {
-        [link] => link.written() == bytes.as_slice(),
-        _ => false,
-    })
+    Some(told_at(door)? == bytes.as_slice())
 }
 
-#[test]
-fn an_auction_is_served_and_settled(rt: HostRuntime) -> Result<(), Fail> {
-    let alloc = rt.alloc();
+/// Whether both bidders were told what they should be, at the two doors that were closed.
+fn were_told(alloc: Global, net: &SureNet) -> Option<bool> {
+    match net.closed() {
+        [first, second] => {
+            Some(was_told(alloc, first, TO_ADA)? && was_told(alloc, second, TO_BOB)?)
+        }
+        _ => None,
+    }
+}
+
+/// The length of the journal of the clock of all.
+pub(crate) fn journal_length(shelf: &SureShelf) -> Option<usize> {
+    match shelf.file("j/clock-00.ahj") {
+        Some(bytes) => Some(bytes.len()),
+        None => None,
+    }
+}
+
+/// Whether the auction is served at two doors.
+fn is_served(
+    rt: &(impl Threads + Wait + Sync),
+    alloc: Global,
+    shelf: &mut SureShelf,
+    net: &mut SureNet,
+) -> Option<bool> {
+    let (status, text) = run_words(rt, alloc, SERVE, shelf, net)?;
+    Some(status == 0 && text.as_slice() == SERVED.as_bytes())
+}
+
+/// Whether it is settled.
+fn is_settled(
+    rt: &(impl Threads + Wait + Sync),
+    alloc: Global,
+    shelf: &mut SureShelf,
+    net: &mut SureNet,
+) -> Option<bool> {
+    let (status, text) = run_words(rt, alloc, SETTLE, shelf, net)?;
+    Some(status == 0 && text.as_slice().starts_with(SETTLED.as_bytes()))
+}
+
+/// Whether it is served, whether the bidders were told what they should be, how long the journal is, and whether it is settled.
+fn served_and_settled(
+    rt: &(impl Threads + Wait + Sync),
+    alloc: Global,
+) -> Option<(bool, bool, usize, bool)> {
     let mut shelf = shelf_of(alloc)?;
     let mut net = two_doors(alloc)?;
-    let (status, text) = run_words(&rt, alloc, SERVE, &mut shelf, &mut net)?;
-    assert_eq!(rt; status, 0);
-    assert!(rt; text.as_slice() == SERVED.as_bytes());
-    let [first, second] = net.closed() else {
-        return Err("a door is wanting".into());
-    };
-    assert!(rt; was_told(alloc, first, TO_ADA)?);
-    assert!(rt; was_told(alloc, second, TO_BOB)?);
-    let journal = shelf.file("j/clock-00.ahj");
-    assert!(rt; matches!(journal, Some(bytes) if bytes.len() == 74));
-    let (status, text) = run_words(&rt, alloc, SETTLE, &mut shelf, &mut net)?;
-    assert_eq!(rt; status, 0);
-    assert!(rt; text.as_slice().starts_with(SETTLED.as_bytes()));
-    Ok(())
+    let served = is_served(rt, alloc, &mut shelf, &mut net)?;
+    let told = were_told(alloc, &net)?;
+    let length = journal_length(&shelf)?;
+    let settled = is_settled(rt, alloc, &mut shelf, &mut net)?;
+    Some((served, told, length, settled))
 }
 
 #[test]
-fn a_net_without_doors_is_told(rt: HostRuntime) -> Result<(), Fail> {
-    let alloc = rt.alloc();
+fn an_auction_is_served_and_settled(rt: HostRuntime) {
+    let found = served_and_settled(&rt, rt.alloc());
+    assert_eq!(rt; found, Some((true, true, 74, true)));
+}
+
+/// Whether a house on a net whose first call fails ends with a fault there.
+fn tells_the_fault(rt: &(impl Threads + Wait + Sync), alloc: Global) -> Option<bool> {
     let mut shelf = shelf_of(alloc)?;
     let mut net = failing_net(alloc)?;
-    let (status, text) = run_words(&rt, alloc, SERVE, &mut shelf, &mut net)?;
-    assert_eq!(rt; status, 7);
-    assert!(rt; text.as_slice() == "net fault\n".as_bytes());
-    Ok(())
+    let (status, text) = run_words(rt, alloc, SERVE, &mut shelf, &mut net)?;
+    Some(status == 7 && text.as_slice() == "net fault\n".as_bytes())
+}
+
+#[test]
+fn a_net_without_doors_is_told(rt: HostRuntime) {
+    assert_eq!(rt; tells_the_fault(&rt, rt.alloc()), Some(true));
 }

@@ -1,11 +1,11 @@
 //! What no clause says: how runs end where there is memory, on words and files that were written by hand.
 use auction_file::AuctionFault;
-use house_io::{ListFile, ListShelf, ListSink, SureFile, SureNet, SureShelf, SureSink};
+use house_io::{
+    ListFile, ListShelf, ListSink, Shelf, Sink, SureFile, SureNet, SureShelf, SureSink,
+};
 use house_run::{Ended, File, run};
 use std::alloc::Global;
-use std::process::Abort;
 use std::sync::Wait;
-use std::test::Fail;
 use std::thread::Threads;
 
 mod checks;
@@ -23,63 +23,171 @@ enum Failing {
 }
 
 /// A net without doors or links.
-fn no_net(alloc: Global) -> Result<SureNet, Fail> {
-    Ok(SureNet::new(alloc, Vec::new(alloc), Vec::new(alloc))?)
+fn no_net(alloc: Global) -> Option<SureNet> {
+    SureNet::new(alloc, Vec::new(alloc), Vec::new(alloc)).ok()
 }
 
-fn words_of(alloc: Global, words: &[&str]) -> Result<Vec<String>, Fail> {
+fn words_of(alloc: Global, words: &[&str]) -> Option<Vec<String>> {
     let mut copies = Vec::new(alloc);
     for word in words {
-        copies.push(String::from_str(alloc, word)?)?;
+        copies.push(String::from_str(alloc, word).ok()?).ok()?;
     }
-    Ok(copies)
+    Some(copies)
 }
 
-fn joined(alloc: Global, pieces: &[&[u8]]) -> Result<Vec<u8>, Fail> {
+fn joined(alloc: Global, pieces: &[&[u8]]) -> Option<Vec<u8>> {
     let mut all = Vec::new(alloc);
     for piece in pieces {
-        all.extend_from_slice(piece)?;
+        all.extend_from_slice(piece).ok()?;
     }
-    Ok(all)
+    Some(all)
 }
 
-/// Runs these words over a file of that name where nothing fails, and compares the status and the text.
-fn assert_run(
-    rt: &(impl Abort + Threads + Wait + Sync),
+/// How a run of these words ends.
+fn ended<H: Shelf, S: Sink>(
+    rt: &(impl Threads + Wait + Sync),
+    alloc: Global,
+    words: &[String],
+    shelf: &mut H,
+    out: &mut S,
+    net: &mut SureNet,
+) -> u8 {
+    run(rt, alloc, words, shelf, out, net).status()
+}
+
+/// The status that these words end with. Nothing, here and below, where there is no memory.
+fn status_of<H: Shelf, S: Sink>(
+    rt: &(impl Threads + Wait + Sync),
+    alloc: Global,
+    words: &[&str],
+    shelf: &mut H,
+    out: &mut S,
+) -> Option<u8> {
+    let words = words_of(alloc, words)?;
+    let mut net = no_net(alloc)?;
+    Some(ended(rt, alloc, &words, shelf, out, &mut net))
+}
+
+fn sure_sink(alloc: Global) -> Option<SureSink> {
+    SureSink::new(alloc, 1_000).ok()
+}
+
+/// Whether these words over a shelf end with this status and text, where no write fails.
+fn ends_so<H: Shelf>(
+    rt: &(impl Threads + Wait + Sync),
+    alloc: Global,
+    words: &[&str],
+    shelf: &mut H,
+    status: u8,
+    text: &str,
+) -> Option<bool> {
+    let mut out = sure_sink(alloc)?;
+    let found = status_of(rt, alloc, words, shelf, &mut out)?;
+    Some(found == status && out.written() == text.as_bytes())
+}
+
+fn file_of(alloc: Global, name: &str, bytes: &[u8]) -> Option<SureFile> {
+    let name = String::from_str(alloc, name).ok()?;
+    let bytes = bytes.to_vec(alloc).ok()?;
+    Some(SureFile { name, bytes })
+}
+
+/// A shelf with one file.
+fn sure_shelf(alloc: Global, name: &str, bytes: &[u8]) -> Option<SureShelf> {
+    let mut files = Vec::new(alloc);
+    files.push(file_of(alloc, name, bytes)?).ok()?;
+    SureShelf::new(alloc, files, 0).ok()
+}
+
+fn has_kept(shelf: &SureShelf, name: &str, bytes: &[u8]) -> bool {
+    match shelf.file(name) {
+        Some(kept) => kept == bytes,
+        None => false,
+    }
+}
+
+/// Whether these words over a file of that name, where nothing fails, end with this status and text, and leave the file as it was.
+fn runs_so(
+    rt: &(impl Threads + Wait + Sync),
     alloc: Global,
     words: &[&str],
     name: &str,
     bytes: &[u8],
     status: u8,
     text: &str,
-) -> Result<(), Fail> {
-    let mut files = Vec::new(alloc);
-    files.push(SureFile {
-        name: String::from_str(alloc, name)?,
-        bytes: bytes.to_vec(alloc)?,
-    })?;
-    let mut shelf = SureShelf::new(alloc, files, 0)?;
-    let mut out = SureSink::new(alloc, 200)?;
-    let words = words_of(alloc, words)?;
-    let mut net = no_net(alloc)?;
-    let answer = run(rt, alloc, &words, &mut shelf, &mut out, &mut net);
-    assert_eq!(rt; answer.status(), status, "{words:?}: {answer:?}");
-    assert_eq!(rt; out.written(), text.as_bytes(), "{words:?}: {answer:?}");
-    assert_eq!(rt; shelf.file(name), Some(bytes));
-    Ok(())
+) -> Option<bool> {
+    let mut shelf = sure_shelf(alloc, name, bytes)?;
+    let told = ends_so(rt, alloc, words, &mut shelf, status, text)?;
+    Some(told && has_kept(&shelf, name, bytes))
 }
 
-fn plan_of(alloc: Global, call: Option<u64>) -> Result<Vec<u64>, Fail> {
+fn plan_of(alloc: Global, call: Option<u64>) -> Option<Vec<u64>> {
     let mut plan = Vec::new(alloc);
     if let Some(call) = call {
-        plan.push(call)?;
+        plan.push(call).ok()?;
     }
-    Ok(plan)
+    Some(plan)
 }
 
-/// Runs these words over a file of that name where one call fails, and compares the status and the text.
-fn assert_failing(
-    rt: &(impl Abort + Threads + Wait + Sync),
+fn opening_in(failing: Failing) -> Option<u64> {
+    match failing {
+        Failing::Opening(call) => Some(call),
+        _ => None,
+    }
+}
+
+fn pull_in(failing: Failing) -> Option<u64> {
+    match failing {
+        Failing::Pull(call) => Some(call),
+        _ => None,
+    }
+}
+
+fn push_in(failing: Failing) -> Option<u64> {
+    match failing {
+        Failing::Push(call) => Some(call),
+        _ => None,
+    }
+}
+
+/// A file of which one call fails, if one is given.
+fn list_file(alloc: Global, name: &str, bytes: &[u8], failing: Option<u64>) -> Option<ListFile> {
+    let name = String::from_str(alloc, name).ok()?;
+    let bytes = bytes.to_vec(alloc).ok()?;
+    let failing = plan_of(alloc, failing)?;
+    Some(ListFile {
+        name,
+        bytes,
+        failing,
+    })
+}
+
+/// A shelf with one file, where a call on either may fail.
+fn list_shelf(alloc: Global, failing: Failing, name: &str, bytes: &[u8]) -> Option<ListShelf> {
+    let openings = plan_of(alloc, opening_in(failing))?;
+    let mut files = Vec::new(alloc);
+    files
+        .push(list_file(alloc, name, bytes, pull_in(failing))?)
+        .ok()?;
+    ListShelf::new(alloc, files, 0, openings).ok()
+}
+
+/// A sink of which a call may fail.
+fn list_sink(alloc: Global, failing: Failing) -> Option<ListSink> {
+    let pushes = plan_of(alloc, push_in(failing))?;
+    ListSink::new(alloc, 200, pushes).ok()
+}
+
+fn has_listed(shelf: &ListShelf, name: &str, bytes: &[u8]) -> bool {
+    match shelf.file(name) {
+        Some(kept) => kept == bytes,
+        None => false,
+    }
+}
+
+/// Whether these words over a file of that name, where one call fails, end with this status and text, and leave the file as it was.
+fn fails_so(
+    rt: &(impl Threads + Wait + Sync),
     alloc: Global,
     failing: Failing,
     words: &[&str],
@@ -87,35 +195,16 @@ fn assert_failing(
     bytes: &[u8],
     status: u8,
     text: &str,
-) -> Result<(), Fail> {
-    let (opening, pull, push) = match failing {
-        Failing::Opening(call) => (Some(call), None, None),
-        Failing::Pull(call) => (None, Some(call), None),
-        Failing::Push(call) => (None, None, Some(call)),
-    };
-    let mut files = Vec::new(alloc);
-    files.push(ListFile {
-        name: String::from_str(alloc, name)?,
-        bytes: bytes.to_vec(alloc)?,
-        failing: plan_of(alloc, pull)?,
-    })?;
-    let mut shelf = ListShelf::new(alloc, files, 0, plan_of(alloc, opening)?)?;
-    let mut out = ListSink::new(alloc, 200, plan_of(alloc, push)?)?;
-    let words = words_of(alloc, words)?;
-    let mut net = no_net(alloc)?;
-    let answer = run(rt, alloc, &words, &mut shelf, &mut out, &mut net);
-    assert_eq!(rt;
-        answer.status(),
-        status,
-        "{words:?} with {failing:?}: {answer:?}"
-    );
-    assert_eq!(rt;
-        out.written(),
-        text.as_bytes(),
-        "{words:?} with {failing:?}"
-    );
-    assert_eq!(rt; shelf.file(name), Some(bytes));
-    Ok(())
+) -> Option<bool> {
+    let mut shelf = list_shelf(alloc, failing, name, bytes)?;
+    let mut out = list_sink(alloc, failing)?;
+    let found = status_of(rt, alloc, words, &mut shelf, &mut out)?;
+    let told = found == status && out.written() == text.as_bytes();
+    Some(told && has_listed(&shelf, name, bytes))
+}
+
+fn number_of(ended: &Ended) -> u8 {
+    ended.status()
 }
 
 #[test]
@@ -161,6 +250,6 @@ fn ends_have_their_numbers(rt: HostRuntime) {
             22,
         ),
     ] {
-        assert_eq!(rt; ended.status(), status, "{ended:?}");
+        assert_eq!(rt; number_of(&ended), status, "{ended:?}");
     }
 }

@@ -6,11 +6,10 @@ ghost use Rattle.settlement.specs.Clocks.{AreClocksOf};
 
 use clock::{Clock, Judgement};
 use demand_set::{Demand, Report};
-use lot_base::{Bundle, Goods, Phase, Prices, RawDemand, Sequence, Terms, compare, cost};
+use lot_base::{Bundle, Goods, Phase, Prices, RawDemand, Sequence, Terms, cost};
 use settlement::laws::{credit_example, explained_example, reserve_example};
-use settlement::{AwardRow, ClockRow, Settlement, settle};
+use settlement::{AwardRow, ClockRow, Outcome, Settlement, settle};
 use std::alloc::Global;
-use std::cmp::Ordering;
 use std::process::Abort;
 use std::test::Fail;
 
@@ -196,310 +195,368 @@ fn clocks_of(
     Ok(clocks)
 }
 
+/// How an auction of these terms stands where its bidders report so.
 fn settled(
     rt: &impl Abort,
     alloc: Global,
-    supply: &[u16],
-    bidders: u8,
-    ceiling: u32,
+    terms: &Terms,
     reports: Reports,
 ) -> Result<Settlement, Fail> {
-    let terms = Terms::new(Goods::new(supply)?, bidders, ceiling)?;
-    let clocks = clocks_of(rt, alloc, &terms, reports)?;
-    Ok(settle(alloc, &terms, &clocks)?)
+    let clocks = clocks_of(rt, alloc, terms, reports)?;
+    Ok(settle(alloc, terms, &clocks)?)
+}
+
+fn terms_of(supply: &[u16], bidders: u8, ceiling: u32) -> Result<Terms, Fail> {
+    Ok(Terms::new(Goods::new(supply)?, bidders, ceiling)?)
 }
 
 fn are_prices(prices: &Prices, wanted: &[u32]) -> bool {
-    if prices.count() as usize != wanted.len() {
+    prices.as_slice() == wanted
+}
+
+/// None are shown where none are wanted.
+fn are_shown(shown: &Option<Prices>, wanted: &[u32]) -> bool {
+    match shown {
+        None => wanted.is_empty(),
+        Some(prices) => are_prices(prices, wanted),
+    }
+}
+
+fn is_bundle(bundle: &Bundle, quantities: &[u16]) -> bool {
+    bundle.as_slice() == quantities
+}
+
+/// Award, debit, credit and payment.
+type Award<'a> = (&'a [u16], i64, i64, i64);
+
+fn is_award(row: &AwardRow, wanted: &Award) -> bool {
+    is_bundle(&row.award, wanted.0)
+        && row.debit == wanted.1
+        && row.credit == wanted.2
+        && row.pays == wanted.3
+}
+
+fn are_awards(rows: &[AwardRow], wanted: &[Award]) -> bool {
+    rows.len() == wanted.len()
+        && rows
+            .iter()
+            .zip(wanted)
+            .all(|(row, award)| is_award(row, award))
+}
+
+/// Steps, prices and choice.
+type Row<'a> = (u32, &'a [u32], &'a [&'a [u16]]);
+
+/// Whether the choices of a clock are these bundles.
+fn are_choices(row: &ClockRow, wanted: &[&[u16]]) -> bool {
+    if row.choices.len() != wanted.len() {
         return false;
     }
-    for good in 0..prices.count() {
-        if prices.get(good) != wanted[good as usize] {
+    for place in 0..row.choices.len() {
+        if !is_bundle(&row.choices.get(place), wanted[place]) {
             return false;
         }
     }
     true
 }
 
-fn is_bundle(bundle: &Bundle, quantities: &[u16]) -> Result<bool, Fail> {
-    let wanted = Bundle::read(quantities).ok_or("bundle")?;
-    Ok(compare(bundle, &wanted) == Ordering::Equal)
+fn is_row(row: &ClockRow, wanted: &Row) -> bool {
+    row.steps == wanted.0 && are_prices(&row.prices, wanted.1) && are_choices(row, wanted.2)
 }
 
-/// Award, debit, credit and payment.
-fn assert_award(
+fn are_rows(rows: &[ClockRow], wanted: &[Row]) -> bool {
+    rows.len() == wanted.len()
+        && rows
+            .iter()
+            .zip(wanted)
+            .all(|(row, clock)| is_row(row, clock))
+}
+
+/// The prices at which the clocks opened, if they are shown, the prices at the end, a row for each bidder, and one for each clock.
+type Told<'a> = (&'a [u32], &'a [u32], &'a [Award<'a>], &'a [Row<'a>]);
+
+fn is_outcome(outcome: &Outcome, told: &Told) -> bool {
+    are_shown(&outcome.opening, told.0)
+        && are_prices(&outcome.prices, told.1)
+        && are_awards(outcome.rows.as_slice(), told.2)
+        && are_rows(outcome.clocks.as_slice(), told.3)
+}
+
+/// Whether an auction of these terms settles so where its bidders report so.
+fn settles_so(
     rt: &impl Abort,
-    row: &AwardRow,
-    wanted: (&[u16], i64, i64, i64),
-) -> Result<(), Fail> {
-    assert!(rt; is_bundle(&row.award, wanted.0)?);
-    assert_eq!(rt; row.debit, wanted.1);
-    assert_eq!(rt; row.credit, wanted.2);
-    assert_eq!(rt; row.pays, wanted.3);
-    Ok(())
+    alloc: Global,
+    terms: &Terms,
+    reports: Reports,
+    told: &Told,
+) -> Result<bool, Fail> {
+    match settled(rt, alloc, terms, reports)? {
+        Settlement::Settled(outcome) => Ok(is_outcome(&outcome, told)),
+        _ => Ok(false),
+    }
 }
 
-/// Steps, prices and choice.
-fn assert_clock(
-    rt: &impl Abort,
-    row: &ClockRow,
-    wanted: (u32, &[u32], &[&[u16]]),
-) -> Result<(), Fail> {
-    assert_eq!(rt; row.steps, wanted.0);
-    assert!(rt; are_prices(&row.prices, wanted.1));
-    assert_eq!(rt; row.choices.len(), wanted.2.len());
-    for place in 0..row.choices.len() {
-        assert!(rt; is_bundle(&row.choices.get(place), wanted.2[place])?);
-    }
-    Ok(())
-}
+/// Two units; the bidders value them at 10 and 4, 8 and 3, 6 and 1.
+const UNIFORM: &[&[u32]] = &[&[0, 10, 14], &[0, 8, 11], &[0, 6, 7]];
 
-fn assert_settled(
-    rt: &impl Abort,
-    settlement: &Settlement,
-    opening: &[u32],
-    prices: &[u32],
-    rows: &[(&[u16], i64, i64, i64)],
-    clocks: &[(u32, &[u32], &[&[u16]])],
-) -> Result<(), Fail> {
-    let Settlement::Settled(outcome) = settlement else {
-        panic!(rt; "{settlement:?}");
-    };
-    assert!(rt; are_prices(&outcome.prices, prices));
-    assert_eq!(rt; outcome.opening.is_none(), opening.is_empty());
-    assert!(rt;
-        outcome
-            .opening
-            .is_none_or(|shown| are_prices(&shown, opening))
-    );
-    let award_rows = outcome.rows.as_slice();
-    assert_eq!(rt; award_rows.len(), rows.len());
-    for place in 0..rows.len() {
-        assert_award(rt, &award_rows[place], rows[place])?;
-    }
-    let clock_rows = outcome.clocks.as_slice();
-    assert_eq!(rt; clock_rows.len(), clocks.len());
-    for place in 0..clocks.len() {
-        assert_clock(rt, &clock_rows[place], clocks[place])?;
-    }
-    Ok(())
-}
+// The numbers are those of the law.
+const AT_SIX: Told = (
+    &[],
+    &[6],
+    &[(&[1], -4, -4, 6), (&[1], -5, -5, 6), (&[0], -7, -7, 0)],
+    &[
+        (6, &[6], &[&[1], &[1], &[0]]),
+        (3, &[3], &[&[1], &[1]]),
+        (4, &[4], &[&[1], &[1]]),
+        (4, &[4], &[&[1], &[1]]),
+    ],
+);
 
-// Two units; the bidders value them at 10 and 4, 8 and 3, 6 and 1. The numbers are those of the law.
 #[test]
 fn three_bidders_pay_the_price_of_uniform_units(rt: HostRuntime) -> Result<(), Fail> {
-    let values = [[0, 10, 14].as_slice(), &[0, 8, 11], &[0, 6, 7]];
     let terms = explained_example();
-    let clocks = clocks_of(&rt, rt.alloc(), &terms, Reports::True(&values))?;
-    let settlement = settle(rt.alloc(), &terms, &clocks)?;
-    assert_settled(
-        &rt,
-        &settlement,
-        &[],
-        &[6],
-        &[(&[1], -4, -4, 6), (&[1], -5, -5, 6), (&[0], -7, -7, 0)],
-        &[
-            (6, &[6], &[&[1], &[1], &[0]]),
-            (3, &[3], &[&[1], &[1]]),
-            (4, &[4], &[&[1], &[1]]),
-            (4, &[4], &[&[1], &[1]]),
-        ],
-    )
+    let told = settles_so(&rt, rt.alloc(), &terms, Reports::True(UNIFORM), &AT_SIX)?;
+    assert!(rt; told);
+    Ok(())
 }
 
-// The same bidders, and a reserve of 5: they pay as much. The clocks without a bidder end where they opened.
-#[test]
-fn a_reserve_below_the_price_changes_no_payment(rt: HostRuntime) -> Result<(), Fail> {
-    let values = [[0, 10, 14].as_slice(), &[0, 8, 11], &[0, 6, 7]];
-    let opening = Prices::read(&[5]).ok_or("opening")?;
+/// Terms of two units for three bidders, which open at a price.
+fn opening_at(rt: &impl Abort, price: u32) -> Result<Terms, Fail> {
+    let opening = Prices::read(&[price]).ok_or("opening")?;
     let goods = Goods::new(&[2])?;
     assert_eq!(rt; opening.count(), goods.count());
-    let terms = Terms::with_opening(goods, 3, 100, opening)?;
-    let clocks = clocks_of(&rt, rt.alloc(), &terms, Reports::True(&values))?;
-    let settlement = settle(rt.alloc(), &terms, &clocks)?;
-    assert_settled(
-        &rt,
-        &settlement,
-        &[5],
-        &[6],
-        &[(&[1], 0, 0, 6), (&[1], 0, 0, 6), (&[0], 0, 0, 0)],
-        &[
-            (1, &[6], &[&[1], &[1], &[0]]),
-            (0, &[5], &[&[1], &[1]]),
-            (0, &[5], &[&[1], &[1]]),
-            (0, &[5], &[&[1], &[1]]),
-        ],
-    )
+    Ok(Terms::with_opening(goods, 3, 100, opening)?)
+}
+
+// A reserve of 5: they pay as much. The clocks without a bidder end where they opened.
+const FROM_FIVE: Told = (
+    &[5],
+    &[6],
+    &[(&[1], 0, 0, 6), (&[1], 0, 0, 6), (&[0], 0, 0, 0)],
+    &[
+        (1, &[6], &[&[1], &[1], &[0]]),
+        (0, &[5], &[&[1], &[1]]),
+        (0, &[5], &[&[1], &[1]]),
+        (0, &[5], &[&[1], &[1]]),
+    ],
+);
+
+#[test]
+fn a_reserve_below_the_price_changes_no_payment(rt: HostRuntime) -> Result<(), Fail> {
+    let terms = opening_at(&rt, 5)?;
+    let told = settles_so(&rt, rt.alloc(), &terms, Reports::True(UNIFORM), &FROM_FIVE)?;
+    assert!(rt; told);
+    Ok(())
 }
 
 // A reserve of 9: one unit stays unsold, and the other is sold at it. The numbers are those of the law.
+const FROM_NINE: Told = (
+    &[9],
+    &[9],
+    &[(&[1], 0, 0, 9), (&[0], 0, 0, 0), (&[0], 0, 0, 0)],
+    &[
+        (0, &[9], &[&[1], &[0], &[0]]),
+        (0, &[9], &[&[0], &[0]]),
+        (0, &[9], &[&[1], &[0]]),
+        (0, &[9], &[&[1], &[0]]),
+    ],
+);
+
 #[test]
 fn a_unit_stays_unsold_at_its_reserve(rt: HostRuntime) -> Result<(), Fail> {
-    let values = [[0, 10, 14].as_slice(), &[0, 8, 11], &[0, 6, 7]];
     let terms = reserve_example();
-    let clocks = clocks_of(&rt, rt.alloc(), &terms, Reports::True(&values))?;
-    let settlement = settle(rt.alloc(), &terms, &clocks)?;
-    assert_settled(
-        &rt,
-        &settlement,
-        &[9],
-        &[9],
-        &[(&[1], 0, 0, 9), (&[0], 0, 0, 0), (&[0], 0, 0, 0)],
-        &[
-            (0, &[9], &[&[1], &[0], &[0]]),
-            (0, &[9], &[&[0], &[0]]),
-            (0, &[9], &[&[1], &[0]]),
-            (0, &[9], &[&[1], &[0]]),
-        ],
-    )
+    let told = settles_so(&rt, rt.alloc(), &terms, Reports::True(UNIFORM), &FROM_NINE)?;
+    assert!(rt; told);
+    Ok(())
 }
 
-// Two units; the bidders value them at 10 and 9, 8 and 3. The first pays what the second loses, and not twice the price.
+/// Two units; the bidders value them at 10 and 9, 8 and 3.
+const UNEVEN: &[&[u32]] = &[&[0, 10, 19], &[0, 8, 11]];
+
+// The first pays what the second loses, and not twice the price.
+const WITH_CREDIT: Told = (
+    &[],
+    &[8],
+    &[(&[2], 0, 5, 11), (&[0], 0, 0, 0)],
+    &[
+        (8, &[8], &[&[2], &[0]]),
+        (0, &[0], &[&[2]]),
+        (0, &[0], &[&[2]]),
+    ],
+);
+
 #[test]
 fn a_credit_lowers_the_payment(rt: HostRuntime) -> Result<(), Fail> {
-    let values = [[0, 10, 19].as_slice(), &[0, 8, 11]];
     let terms = credit_example();
-    let clocks = clocks_of(&rt, rt.alloc(), &terms, Reports::True(&values))?;
-    let settlement = settle(rt.alloc(), &terms, &clocks)?;
-    assert_settled(
-        &rt,
-        &settlement,
-        &[],
-        &[8],
-        &[(&[2], 0, 5, 11), (&[0], 0, 0, 0)],
-        &[
-            (8, &[8], &[&[2], &[0]]),
-            (0, &[0], &[&[2]]),
-            (0, &[0], &[&[2]]),
-        ],
-    )
+    let told = settles_so(&rt, rt.alloc(), &terms, Reports::True(UNEVEN), &WITH_CREDIT)?;
+    assert!(rt; told);
+    Ok(())
+}
+
+/// Whether an auction of this supply, for so many bidders and with a ceiling of 100, settles so.
+fn supply_settles_so(
+    rt: &impl Abort,
+    alloc: Global,
+    supply: &[u16],
+    bidders: u8,
+    reports: Reports,
+    told: &Told,
+) -> Result<bool, Fail> {
+    let terms = terms_of(supply, bidders, 100)?;
+    settles_so(rt, alloc, &terms, reports, told)
 }
 
 // Two goods of one unit; each bidder wants one good, the first at 5 or 4, the second at 3 or 0.
+const ONE_EACH: Reports = Reports::True(&[&[0, 4, 5, 5], &[0, 0, 3, 3]]);
+
+const ONE_EACH_TOLD: Told = (
+    &[],
+    &[1, 0],
+    &[(&[0, 1], 0, 0, 0), (&[1, 0], 0, 0, 1)],
+    &[
+        (1, &[1, 0], &[&[0, 1], &[1, 0]]),
+        (0, &[0, 0], &[&[1, 0]]),
+        (0, &[0, 0], &[&[1, 0]]),
+    ],
+);
+
 #[test]
 fn two_goods_go_to_two_bidders(rt: HostRuntime) -> Result<(), Fail> {
-    let values = [[0, 4, 5, 5].as_slice(), &[0, 0, 3, 3]];
-    let settlement = settled(&rt, rt.alloc(), &[1, 1], 2, 100, Reports::True(&values))?;
-    assert_settled(
-        &rt,
-        &settlement,
-        &[],
-        &[1, 0],
-        &[(&[0, 1], 0, 0, 0), (&[1, 0], 0, 0, 1)],
-        &[
-            (1, &[1, 0], &[&[0, 1], &[1, 0]]),
-            (0, &[0, 0], &[&[1, 0]]),
-            (0, &[0, 0], &[&[1, 0]]),
-        ],
-    )
+    let told = supply_settles_so(&rt, rt.alloc(), &[1, 1], 2, ONE_EACH, &ONE_EACH_TOLD)?;
+    assert!(rt; told);
+    Ok(())
 }
 
 // A unit of one good and two of another; each bidder wants a unit of the first, at 3 and at 2, and none of the other.
+const FIRST_GOOD: Reports = Reports::True(&[&[0, 0, 0, 3, 3, 3], &[0, 0, 0, 2, 2, 2]]);
+
+const FIRST_GOOD_TOLD: Told = (
+    &[],
+    &[2, 0],
+    &[(&[1, 0], 0, 0, 2), (&[0, 0], 0, 0, 0)],
+    &[
+        (2, &[2, 0], &[&[1, 0], &[0, 0]]),
+        (0, &[0, 0], &[&[1, 0]]),
+        (0, &[0, 0], &[&[1, 0]]),
+    ],
+);
+
 #[test]
 fn a_good_without_a_price_stays_unsold(rt: HostRuntime) -> Result<(), Fail> {
-    let values = [[0, 0, 0, 3, 3, 3].as_slice(), &[0, 0, 0, 2, 2, 2]];
-    let settlement = settled(&rt, rt.alloc(), &[1, 2], 2, 100, Reports::True(&values))?;
-    assert_settled(
-        &rt,
-        &settlement,
-        &[],
-        &[2, 0],
-        &[(&[1, 0], 0, 0, 2), (&[0, 0], 0, 0, 0)],
-        &[
-            (2, &[2, 0], &[&[1, 0], &[0, 0]]),
-            (0, &[0, 0], &[&[1, 0]]),
-            (0, &[0, 0], &[&[1, 0]]),
-        ],
-    )
+    let told = supply_settles_so(&rt, rt.alloc(), &[1, 2], 2, FIRST_GOOD, &FIRST_GOOD_TOLD)?;
+    assert!(rt; told);
+    Ok(())
 }
+
+const ONE_BIDDER: Reports = Reports::Listed(&[&[(1, 1, &[2])], &[]]);
+
+const ONE_BIDDER_TOLD: Told = (
+    &[],
+    &[0],
+    &[(&[2], 0, 0, 0)],
+    &[(0, &[0], &[&[2]]), (0, &[0], &[])],
+);
 
 #[test]
 fn one_bidder_pays_nothing(rt: HostRuntime) -> Result<(), Fail> {
-    let all = [(1, 1, [2].as_slice())];
-    let reports = [all.as_slice(), &[]];
-    let settlement = settled(&rt, rt.alloc(), &[2], 1, 100, Reports::Listed(&reports))?;
-    assert_settled(
-        &rt,
-        &settlement,
-        &[],
-        &[0],
-        &[(&[2], 0, 0, 0)],
-        &[(0, &[0], &[&[2]]), (0, &[0], &[])],
-    )
+    let told = supply_settles_so(&rt, rt.alloc(), &[2], 1, ONE_BIDDER, &ONE_BIDDER_TOLD)?;
+    assert!(rt; told);
+    Ok(())
 }
+
+const ONE: &[u16] = &[1];
+
+const EITHER: &[u16] = &[0, 1];
+
+const ANYTHING: Reports = Reports::Listed(&[
+    &[(1, 1, EITHER), (2, 1, EITHER)],
+    &[(2, 1, EITHER)],
+    &[(1, 1, EITHER)],
+]);
+
+const ANYTHING_TOLD: Told = (
+    &[],
+    &[0],
+    &[(&[0], 0, 0, 0), (&[0], 0, 0, 0)],
+    &[
+        (0, &[0], &[&[0], &[0]]),
+        (0, &[0], &[&[0]]),
+        (0, &[0], &[&[0]]),
+    ],
+);
 
 #[test]
 fn the_first_choice_sells_nothing_where_nothing_has_a_price(rt: HostRuntime) -> Result<(), Fail> {
-    let either = [0, 1].as_slice();
-    let all = [(1, 1, either), (2, 1, either)];
-    let without_first = [(2, 1, either)];
-    let without_second = [(1, 1, either)];
-    let reports = [all.as_slice(), &without_first, &without_second];
-    let settlement = settled(&rt, rt.alloc(), &[1], 2, 100, Reports::Listed(&reports))?;
-    assert_settled(
-        &rt,
-        &settlement,
-        &[],
-        &[0],
-        &[(&[0], 0, 0, 0), (&[0], 0, 0, 0)],
-        &[
-            (0, &[0], &[&[0], &[0]]),
-            (0, &[0], &[&[0]]),
-            (0, &[0], &[&[0]]),
-        ],
-    )
+    let told = supply_settles_so(&rt, rt.alloc(), &[1], 2, ANYTHING, &ANYTHING_TOLD)?;
+    assert!(rt; told);
+    Ok(())
 }
 
 // At price 4 both bidders want the unit or nothing.
+const TIE: Reports = Reports::Listed(&[
+    &[
+        (1, 1, ONE),
+        (2, 1, ONE),
+        (1, 2, ONE),
+        (2, 2, ONE),
+        (1, 3, ONE),
+        (2, 3, ONE),
+        (1, 4, ONE),
+        (2, 4, ONE),
+        (1, 5, EITHER),
+        (2, 5, EITHER),
+    ],
+    &[(2, 1, ONE)],
+    &[(1, 1, ONE)],
+]);
+
+const TIE_TOLD: Told = (
+    &[],
+    &[4],
+    &[(&[0], 0, 0, 0), (&[1], 0, 0, 4)],
+    &[
+        (4, &[4], &[&[0], &[1]]),
+        (0, &[0], &[&[1]]),
+        (0, &[0], &[&[1]]),
+    ],
+);
+
 #[test]
 fn a_tie_goes_to_the_last_bidder(rt: HostRuntime) -> Result<(), Fail> {
-    let one = [1].as_slice();
-    let either = [0, 1].as_slice();
-    let all = [
-        (1, 1, one),
-        (2, 1, one),
-        (1, 2, one),
-        (2, 2, one),
-        (1, 3, one),
-        (2, 3, one),
-        (1, 4, one),
-        (2, 4, one),
-        (1, 5, either),
-        (2, 5, either),
-    ];
-    let without_first = [(2, 1, one)];
-    let without_second = [(1, 1, one)];
-    let reports = [all.as_slice(), &without_first, &without_second];
-    let settlement = settled(&rt, rt.alloc(), &[1], 2, 100, Reports::Listed(&reports))?;
-    assert_settled(
-        &rt,
-        &settlement,
-        &[],
-        &[4],
-        &[(&[0], 0, 0, 0), (&[1], 0, 0, 4)],
-        &[
-            (4, &[4], &[&[0], &[1]]),
-            (0, &[0], &[&[1]]),
-            (0, &[0], &[&[1]]),
-        ],
-    )
+    let told = supply_settles_so(&rt, rt.alloc(), &[1], 2, TIE, &TIE_TOLD)?;
+    assert!(rt; told);
+    Ok(())
 }
 
 // The first bidder wants both goods or nothing, the second one of them: at prices 2 and 2 no choice sells both.
-#[test]
-fn complements_leave_no_award(rt: HostRuntime) -> Result<(), Fail> {
-    let all = [
-        (1, 1, [1, 1].as_slice()),
+const COMPLEMENTS: Reports = Reports::Listed(&[
+    &[
+        (1, 1, &[1, 1]),
         (2, 1, &[0, 1, 1, 0, 1, 1]),
         (1, 2, &[1, 1]),
         (2, 2, &[0, 1, 1, 0]),
         (1, 3, &[0, 0]),
         (2, 3, &[0, 0, 0, 1, 1, 0]),
-    ];
-    let without_first = [(2, 1, [0, 1, 1, 0, 1, 1].as_slice())];
-    let without_second = [(1, 1, [1, 1].as_slice())];
-    let reports = [all.as_slice(), &without_first, &without_second];
-    let settlement = settled(&rt, rt.alloc(), &[1, 1], 2, 10, Reports::Listed(&reports))?;
+    ],
+    &[(2, 1, &[0, 1, 1, 0, 1, 1])],
+    &[(1, 1, &[1, 1])],
+]);
+
+/// How an auction of this supply for two bidders stands.
+fn two_stand(
+    rt: &impl Abort,
+    alloc: Global,
+    supply: &[u16],
+    ceiling: u32,
+    reports: Reports,
+) -> Result<Settlement, Fail> {
+    let terms = terms_of(supply, 2, ceiling)?;
+    settled(rt, alloc, &terms, reports)
+}
+
+#[test]
+fn complements_leave_no_award(rt: HostRuntime) -> Result<(), Fail> {
+    let settlement = two_stand(&rt, rt.alloc(), &[1, 1], 10, COMPLEMENTS)?;
     assert!(rt;
         matches!(settlement, Settlement::NoAward { clock: 0 }),
         "{settlement:?}"
@@ -507,28 +564,24 @@ fn complements_leave_no_award(rt: HostRuntime) -> Result<(), Fail> {
     Ok(())
 }
 
+/// The reports of both bidders until the price is at the ceiling.
+const HALTING: &[(u8, u32, &[u16])] = &[
+    (1, 1, ONE),
+    (2, 1, ONE),
+    (1, 2, ONE),
+    (2, 2, ONE),
+    (1, 3, ONE),
+    (2, 3, ONE),
+];
+
 // The clock of both bidders halts at the ceiling. Without the second, the first has not reported.
+const OPEN: Reports = Reports::Listed(&[HALTING, &[(2, 1, ONE)], &[]]);
+
+const HALTED: Reports = Reports::Listed(&[HALTING, &[(2, 1, ONE)], &[(1, 1, ONE)]]);
+
 #[test]
 fn an_open_clock_comes_before_a_halted_one(rt: HostRuntime) -> Result<(), Fail> {
-    let one = [1].as_slice();
-    let halting = [
-        (1, 1, one),
-        (2, 1, one),
-        (1, 2, one),
-        (2, 2, one),
-        (1, 3, one),
-        (2, 3, one),
-    ];
-    let first = [(2, 1, one)];
-    let second = [(1, 1, one)];
-    let open = settled(
-        &rt,
-        rt.alloc(),
-        &[1],
-        2,
-        2,
-        Reports::Listed(&[halting.as_slice(), &first, &[]]),
-    )?;
+    let open = two_stand(&rt, rt.alloc(), &[1], 2, OPEN)?;
     assert!(rt;
         matches!(
             open,
@@ -540,14 +593,7 @@ fn an_open_clock_comes_before_a_halted_one(rt: HostRuntime) -> Result<(), Fail> 
         ),
         "{open:?}"
     );
-    let halted = settled(
-        &rt,
-        rt.alloc(),
-        &[1],
-        2,
-        2,
-        Reports::Listed(&[halting.as_slice(), &first, &second]),
-    )?;
+    let halted = two_stand(&rt, rt.alloc(), &[1], 2, HALTED)?;
     assert!(rt;
         matches!(halted, Settlement::Halted { clock: 0, good: 0 }),
         "{halted:?}"

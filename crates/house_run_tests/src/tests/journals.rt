@@ -27,7 +27,7 @@ supply = 1
 "#;
 
 /// The bidders of an auction file.
-const BIDDERS: [&str; 3] = [
+const BIDDERS: &[&str] = &[
     r#"
 [[bidders]]
 name = "ada"
@@ -46,24 +46,22 @@ token = "2cf24dba5fb0a30e26e83b2ac5b9e29e1b161e5c1fa7425e73043362938b9824"
 ];
 
 /// An auction file of so many bidders.
-pub(super) fn auction_of(alloc: Global, head: &str, bidders: usize) -> Result<Vec<u8>, Fail> {
-    let mut file = head.as_bytes().to_vec(alloc)?;
-    for (place, bidder) in BIDDERS.iter().enumerate() {
-        if place < bidders {
-            file.extend_from_slice(bidder.as_bytes())?;
-        }
+pub(super) fn auction_of(alloc: Global, head: &str, bidders: usize) -> Option<Vec<u8>> {
+    let mut file = head.as_bytes().to_vec(alloc).ok()?;
+    for bidder in BIDDERS.iter().take(bidders) {
+        file.extend_from_slice(bidder.as_bytes()).ok()?;
     }
-    Ok(file)
+    Some(file)
 }
 
 /// The digest of an auction file.
-pub(super) fn digest_of(alloc: Global, file: &[u8]) -> Result<[u8; 32], Fail> {
+pub(super) fn digest_of(alloc: Global, file: &[u8]) -> Option<[u8; 32]> {
     if file.len() > 65_536 {
-        return Err("too long".into());
+        return None;
     }
     match read(alloc, file) {
-        Ok(auction) => Ok(auction.digest),
-        Err(_) => Err("no auction".into()),
+        Ok(auction) => Some(auction.digest),
+        Err(_) => None,
     }
 }
 
@@ -71,31 +69,43 @@ pub(super) fn digest_of(alloc: Global, file: &[u8]) -> Result<[u8; 32], Fail> {
 pub(super) type Row = [u8; 4];
 
 /// The entry of a report of one good.
-fn entry_of(alloc: Global, row: &Row) -> Result<Vec<u8>, Fail> {
+fn entry_of(alloc: Global, row: &Row) -> Option<Vec<u8>> {
     let [bidder, round, least, greatest] = *row;
     let count = if least == greatest { 1 } else { 2 };
-    let mut entry = [bidder, 0, 0, 0, round, 1, 0, count, 0, least].to_vec(alloc)?;
+    let long = [bidder, 0, 0, 0, round, 1, 0, count, 0, least, 0, greatest];
     if count == 2 {
-        entry.extend_from_slice(&[0, greatest])?;
+        long.to_vec(alloc).ok()
+    } else {
+        long[..10].to_vec(alloc).ok()
     }
-    Ok(entry)
 }
 
 /// The entries of reports of one good.
-pub(super) fn entries_of(alloc: Global, rows: &[Row]) -> Result<Vec<Vec<u8>>, Fail> {
+pub(super) fn entries_of(alloc: Global, rows: &[Row]) -> Option<Vec<Vec<u8>>> {
     let mut entries = Vec::new(alloc);
     for row in rows {
-        entries.push(entry_of(alloc, row)?)?;
+        entries.push(entry_of(alloc, row)?).ok()?;
     }
-    Ok(entries)
+    Some(entries)
 }
 
-fn empty_journal(alloc: Global, clock: u32, digest: [u8; 32]) -> Result<Journal<SureDisk>, Fail> {
-    let disk = SureDisk::new(alloc, Vec::new(alloc), 4_000)?;
+fn empty_journal(alloc: Global, clock: u32, digest: [u8; 32]) -> Option<Journal<SureDisk>> {
+    let Ok(disk) = SureDisk::new(alloc, Vec::new(alloc), 4_000) else {
+        return None;
+    };
     match Journal::form(alloc, disk, &Header::new(clock, digest, None)) {
-        Ok(journal) => Ok(journal),
-        Err(_) => Err("not formed".into()),
+        Ok(journal) => Some(journal),
+        Err(_) => None,
     }
+}
+
+/// Appends an entry, and tells whether it is in the journal.
+fn is_appended(alloc: Global, journal: &mut Journal<SureDisk>, entry: &[u8]) -> bool {
+    entry.len() <= 32_768 && journal.append(alloc, entry).is_ok()
+}
+
+fn file_in(alloc: Global, journal: Journal<SureDisk>) -> Option<Vec<u8>> {
+    journal.into_disk().bytes().to_vec(alloc).ok()
 }
 
 /// The file of a clock's journal with these entries.
@@ -104,64 +114,57 @@ pub(super) fn journal_of(
     clock: u32,
     digest: [u8; 32],
     entries: &[Vec<u8>],
-) -> Result<Vec<u8>, Fail> {
+) -> Option<Vec<u8>> {
     let mut journal = empty_journal(alloc, clock, digest)?;
     for entry in entries {
-        if entry.len() > 32_768 {
-            return Err("too long".into());
+        if !is_appended(alloc, &mut journal, entry) {
+            return None;
         }
-        journal.append(alloc, entry)?;
     }
-    Ok(journal.into_disk().bytes().to_vec(alloc)?)
+    file_in(alloc, journal)
 }
 
-/// A file of this name.
-fn file_of(alloc: Global, name: &str, bytes: &[u8]) -> Result<SureFile, Fail> {
-    Ok(SureFile {
-        name: String::from_str(alloc, name)?,
-        bytes: bytes.to_vec(alloc)?,
-    })
+const NAMES: &[&str] = &[
+    "j/clock-00.ahj",
+    "j/clock-01.ahj",
+    "j/clock-02.ahj",
+    "j/clock-03.ahj",
+];
+
+/// The files of an auction, and of the journals of its first clocks.
+fn files_of(alloc: Global, auction: &[u8], journals: &[Vec<u8>]) -> Option<Vec<SureFile>> {
+    let mut files = Vec::new(alloc);
+    files.push(file_of(alloc, "a", auction)?).ok()?;
+    for (name, journal) in NAMES.iter().zip(journals) {
+        files.push(file_of(alloc, name, journal)?).ok()?;
+    }
+    Some(files)
 }
 
 /// A shelf of an auction file, and of the journals of its first clocks.
-pub(super) fn shelf_of(
-    alloc: Global,
-    auction: &[u8],
-    journals: &[Vec<u8>],
-) -> Result<SureShelf, Fail> {
-    let names = [
-        "j/clock-00.ahj",
-        "j/clock-01.ahj",
-        "j/clock-02.ahj",
-        "j/clock-03.ahj",
-    ];
-    let mut files = Vec::new(alloc);
-    files.push(file_of(alloc, "a", auction)?)?;
-    for (name, journal) in names.iter().zip(journals) {
-        files.push(file_of(alloc, name, journal)?)?;
-    }
-    Ok(SureShelf::new(alloc, files, 9)?)
+fn shelf_of(alloc: Global, auction: &[u8], journals: &[Vec<u8>]) -> Option<SureShelf> {
+    let files = files_of(alloc, auction, journals)?;
+    SureShelf::new(alloc, files, 9).ok()
 }
 
-/// Runs these words over the auction `a` and the journals in `j`, and compares the status and the text. No journal changes.
-pub(super) fn assert_house(
-    rt: &(impl Abort + Threads + Wait + Sync),
+fn has_first(shelf: &SureShelf, journals: &[Vec<u8>]) -> bool {
+    match journals.first() {
+        Some(journal) => has_kept(shelf, "j/clock-00.ahj", journal),
+        None => true,
+    }
+}
+
+/// Whether these words over the auction `a` and the journals in `j` end with this status and text. No journal changes.
+pub(super) fn house_ends_so(
+    rt: &(impl Threads + Wait + Sync),
     alloc: Global,
     words: &[&str],
     auction: &[u8],
     journals: &[Vec<u8>],
     status: u8,
     text: &str,
-) -> Result<(), Fail> {
+) -> Option<bool> {
     let mut shelf = shelf_of(alloc, auction, journals)?;
-    let mut out = SureSink::new(alloc, 1_000)?;
-    let words = words_of(alloc, words)?;
-    let mut net = no_net(alloc)?;
-    let answer = run(rt, alloc, &words, &mut shelf, &mut out, &mut net);
-    assert_eq!(rt; answer.status(), status, "{words:?}: {answer:?}");
-    assert_eq!(rt; out.written(), text.as_bytes(), "{words:?}: {answer:?}");
-    if let Some(journal) = journals.first() {
-        assert_eq!(rt; shelf.file("j/clock-00.ahj"), Some(journal.as_slice()));
-    }
-    Ok(())
+    let told = ends_so(rt, alloc, words, &mut shelf, status, text)?;
+    Some(told && has_first(&shelf, journals))
 }
