@@ -6,6 +6,9 @@ use std::time::Instant;
 
 const BIDDERS: usize = 12;
 
+/// How often each is measured; the least time counts.
+const TIMES: usize = 20;
+
 /// A set of bundles of the box, by their places.
 type Set = Vec<u64>;
 
@@ -127,9 +130,13 @@ fn main() {
             let demand: Vec<Vec<u16>> = (0..goods.size).map(|place| goods.bundle(place)).filter(|x| x[0] % step == 0).collect();
             let demands = vec![demand; BIDDERS];
             let (opening, prices) = (vec![0; supply.len()], vec![1; supply.len()]);
-            let start = Instant::now();
-            let choice = assemble(&supply, &opening, &prices, &demands);
-            let micros = start.elapsed().as_micros();
+            let mut micros = u128::MAX;
+            let mut choice = None;
+            for _ in 0..TIMES {
+                let start = Instant::now();
+                choice = assemble(&supply, &opening, &prices, &demands);
+                micros = micros.min(start.elapsed().as_micros());
+            }
             let count = supply.len();
             match choice {
                 Some(choice) => {

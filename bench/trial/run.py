@@ -8,8 +8,12 @@ Behind them stand the times by the clock with one worker and with four, which te
 is proved and built where it stands, by `rt run`; give --no-build to measure the program that was built before, --program FILE to measure
 another one, and --programs to run the integer programs too, which take long. With --makes, bench/makes, which makes the market of 7 again and
 again in one process, is proved and run beside the reference that does so too; --makes FILE takes it as it was built before.
+
+With --workers only the times by the clock are taken, with one worker and with four in turns, the least of fifteen runs each, beside the load
+average and the commit that the program is built from. The program is then to be 2.5 times as fast on each auction, on four idle processors.
 """
 import hashlib
+import os
 import random
 import resource
 import shutil
@@ -27,6 +31,7 @@ MAKES = 1_000
 HERE = Path(__file__).resolve().parent
 CRATE = HERE.parents[1] / "crates" / "house_main"
 PROGRAM = CRATE / "out" / "house_main"
+GIT = [["rev-parse", "--short", "HEAD"], ["status", "--porcelain", "--", "../../crates"]]
 
 
 def box(supply):
@@ -117,6 +122,29 @@ def spent(words, folder):
     return (ended.ru_utime - begun.ru_utime + ended.ru_stime - begun.ru_stime) / 50
 
 
+def commit():
+    """The commit of the tree, and whether files of its crates differ from it."""
+    said = [subprocess.run(["git", *words], cwd=HERE, capture_output=True, text=True, check=False).stdout.strip() for words in GIT]
+    return said[0] + (" and changes in crates" if said[1] else "")
+
+
+def only_workers(program, folder):
+    """Prints the seconds by the clock of each auction with one worker and with four."""
+    print(f"program {program} of commit {commit()}; {os.cpu_count()} processors, load average {os.getloadavg()[0]:.2f}")
+    print(f"{'auction':34} {'1 worker ms':>11} {'4 workers ms':>12} {'faster':>6} {'load':>6}")
+    for title, supply, tables in rows():
+        (folder / "auction.toml").write_text(auction_file(supply))
+        (folder / "values.toml").write_text(values_file(tables))
+        best = {1: float("inf"), 4: float("inf")}
+        for _ in range(15):
+            for count in best:
+                begun = time.perf_counter()
+                ran = [program, "trial", "auction.toml", "values.toml", "--workers", str(count)]
+                subprocess.run(ran, cwd=folder, stdout=subprocess.DEVNULL, check=True)
+                best[count] = min(best[count], time.perf_counter() - begun)
+        print(f"{title:34} {best[1] * 1000:11.1f} {best[4] * 1000:12.1f} {best[1] / best[4]:6.2f} {os.getloadavg()[0]:6.2f}")
+
+
 def by_the_clock(words, folder):
     """The least seconds of five runs."""
     seconds = []
@@ -182,6 +210,9 @@ def main():
         subprocess.run(["rt", "run", "--", "make", "7"], cwd=CRATE, check=True, capture_output=True)
     with tempfile.TemporaryDirectory() as name:
         folder = Path(name)
+        if "--workers" in sys.argv:
+            only_workers(program, folder)
+            return
         plain = folder / "reference"
         subprocess.run(["rustc", "-O", "--edition", "2021", "-o", str(plain), str(HERE / "reference.rs")], check=True)
         print(
