@@ -1,7 +1,8 @@
-//! One bidder of the benchmark of `serve`, in plain Rust, so that the bidders take little of the processors: load PORT BIDDER CLOCKS SECONDS STAY.
+//! One bidder of the benchmark of `serve`, in plain Rust, so that the bidders take little of the processors: load PORT BIDDER CLOCKS SECONDS STAY PAUSE.
 //!
 //! For so many seconds it looks at each of the clocks 0 to CLOCKS - 1 but its own, in turns, and reports once in each round that it sees. Where STAY is
-//! 1 it does so in one session; where it is 0 each look, with its report, is a session of its own. It prints how many reports were taken, and in a
+//! 1 it does so in one session; where it is 0 each look, with its report, is a session of its own. Between two turns of all clocks it waits PAUSE
+//! microseconds. It prints how many reports were taken, and in a
 //! second line how many microseconds each look took.
 use std::env;
 use std::io::{Error, ErrorKind, Read, Result, Write};
@@ -87,8 +88,8 @@ fn report(link: &mut TcpStream, clock: u8, round: u32) -> Result<()> {
 
 fn main() -> Result<()> {
     let words: Vec<u64> = env::args().skip(1).map(|word| word.parse().expect("a number")).collect();
-    let [port, bidder, clocks, seconds, stay] = words[..] else {
-        return Err(Error::new(ErrorKind::InvalidInput, "load PORT BIDDER CLOCKS SECONDS STAY"));
+    let [port, bidder, clocks, seconds, stay, pause] = words[..] else {
+        return Err(Error::new(ErrorKind::InvalidInput, "load PORT BIDDER CLOCKS SECONDS STAY PAUSE"));
     };
     let mut link = begin(port as u16, bidder as u8)?;
     let mut reported = vec![0; clocks as usize];
@@ -108,6 +109,9 @@ fn main() -> Result<()> {
                 expect(&[BYE], ask(&mut link, QUIT, &[])?)?;
                 link = begin(port as u16, bidder as u8)?;
             }
+        }
+        if pause > 0 {
+            sleep(Duration::from_micros(pause));
         }
     }
     expect(&[BYE], ask(&mut link, QUIT, &[])?)?;

@@ -1,10 +1,11 @@
 #!/usr/bin/env python3
 """Reports a second, and the time of a look, of a real house over loopback: twelve bidders, each in a process of its own (load.rs, built by rustc).
 
-    run.py PROGRAM [SECONDS]
+    run.py PROGRAM [SECONDS [PAUSE]]
 
 PROGRAM is the built house_main. For 1, 4 and 13 active clocks and 4, 13 and 64 doors, each bidder reports round by round to the active clocks
-but its own and looks between; on 4 doors it comes for one report a session. The journals lie in a folder beside this file, so that they are on the disk of the repository; beside them bare pairs are
+but its own and looks between, in each turn of the clocks once, with a pause of PAUSE microseconds (none where it is left out) between two
+turns; on 4 doors it comes for one report a session. The journals lie in a folder beside this file, so that they are on the disk of the repository; beside them bare pairs are
 measured, the two writes of a report, each with its fdatasync, by as many threads as there are active clocks; and what SQLite commits, one report a
 transaction into one table, with a write-ahead log and full synchronisation, without any network: no server that keeps its reports so is faster.
 """
@@ -33,7 +34,7 @@ def build(folder):
     return bidder
 
 
-def serve(program, bidder, folder, active, doors, seconds):
+def serve(program, bidder, folder, active, doors, seconds, pause):
     shutil.rmtree(folder, ignore_errors=True)
     (folder / "journals").mkdir(parents=True)
     write_auction(folder / "auction.toml")
@@ -41,7 +42,10 @@ def serve(program, bidder, folder, active, doors, seconds):
     house = subprocess.Popen(words, cwd=folder, stdout=subprocess.DEVNULL)
     words = [str(bidder), str(PORT)]
     stay = str(int(doors > BIDDERS))
-    bidders = [subprocess.Popen([*words, str(number), str(active), str(seconds), stay], stdout=subprocess.PIPE, text=True) for number in range(1, BIDDERS + 1)]
+    bidders = [
+        subprocess.Popen([*words, str(number), str(active), str(seconds), stay, str(pause)], stdout=subprocess.PIPE, text=True)
+        for number in range(1, BIDDERS + 1)
+    ]
     told = [process.communicate()[0].splitlines() for process in bidders]
     status = Path(f"/proc/{house.pid}/status").read_text()
     memory = int(status.split("VmHWM:")[1].split()[0]) // 1024
@@ -92,13 +96,14 @@ def commits(folder, seconds):
 def main():
     program = str(Path(sys.argv[1]).resolve())
     seconds = int(sys.argv[2]) if len(sys.argv) > 2 else 5
+    pause = int(sys.argv[3]) if len(sys.argv) > 3 else 0
     folder = HERE / "scratch"
     print("clocks doors reports/s pairs/s commits/s look median us look 99% us peak MB")
     with tempfile.TemporaryDirectory() as name:
         bidder = build(Path(name))
         for active in (1, 4, 13):
             for doors in (4, 13, 64):
-                reports, median, most, memory = serve(program, bidder, folder, active, doors, seconds)
+                reports, median, most, memory = serve(program, bidder, folder, active, doors, seconds, pause)
                 bare = pairs(folder, active, seconds)
                 print(f"{active:6} {doors:5} {reports:9.0f} {bare:7.0f} {commits(folder, seconds):9.0f} {median:14.0f} {most:11.0f} {memory:7}")
     shutil.rmtree(folder, ignore_errors=True)
