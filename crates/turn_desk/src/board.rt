@@ -4,13 +4,13 @@ ghost use Rattle.turn_desk.specs.Views.{founder};
 ghost use Rattle.turn_desk.specs.Steps.{Ends};
 ghost use Rattle.turn_desk.specs.declared.view.Stage.TheVariants.{Rests};
 
+use crate::bells::Bells;
 use crate::book::Book;
 use crate::rule::Turns;
 use crate::view::View;
 use atomic_table::{Refused, Seat, Table};
 use std::alloc::Global;
 use std::snapshot::Snapshot;
-use std::sync::atomic::AtomicU32;
 
 /// The word of the next ticket.
 pub(crate) const TICKET: usize = 0;
@@ -31,8 +31,8 @@ pub type Place<B> = Seat<Option<B>, View<<B as Book>::Entry, <B as Book>::Origin
 pub(crate) struct Board<B: Book> {
     /// Its words: the next ticket, the one that is served and the number of entries. Its slot: the book, None while a turn has it.
     pub(crate) table: Table<Option<B>, View<B::Entry, B::Origin>, Snapshot<B>, Turns<B>, Global>,
-    /// How many threads sleep until a turn passes on, or are about to. No clause speaks of it.
-    pub(crate) sleepers: AtomicU32,
+    /// Where threads sleep until their turn comes. No clause speaks of it.
+    pub(crate) bells: Bells,
     ghost sized: { (table.shared.table_id.words ≡ 3) × (table.shared.table_id.slots ≡ 1) },
 }
 
@@ -52,8 +52,8 @@ impl<B: Book> Board<B> {
         }
         match Table::new(alloc, &[0, 0, count], slots, &about) {
             Ok((table, seat)) => {
-                let sleepers = AtomicU32::new(0);
-                Ok((Board { table, sleepers }, seat))
+                let bells = Bells::new();
+                Ok((Board { table, bells }, seat))
             }
             Err(Refused { mut slots }) => {
                 let last = slots.pop();
@@ -69,7 +69,7 @@ impl<B: Book> Board<B> {
         requires all { (seat.me.0.stage ≡ Rests) × (seat.me.0.seats ≡ seat.me.0.made) × (0 < seat.me.0.made) }
         ensures { Ends B.history B.origin self.table.shared.key.value seat.me.0 result }
     {
-        let Board { table, sleepers: _ } = self;
+        let Board { table, bells: _ } = self;
         let mut closed = table.close_with(seat);
         let book = closed.take(BOOK);
         closed.free();

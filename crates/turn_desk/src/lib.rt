@@ -2,6 +2,7 @@
 //! Each taker is handed a history that begins with all that its pass has seen, and each pass knows which entries are its own.
 #![tactic(auto)]
 
+mod bells;
 mod board;
 mod book;
 mod desk;

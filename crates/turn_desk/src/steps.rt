@@ -42,15 +42,15 @@ impl<B: Book> Board<B> {
         self.table.shared.fetch_add::<Append<B>>(seat, COUNT, 1);
     }
 
-    /// Ends the turn, with the book in hand on the board again.
-    pub(crate) fn pass_on(&self, seat: &mut Place<B>)
+    /// Ends the turn, with the book in hand on the board again, and answers its number.
+    pub(crate) fn pass_on(&self, seat: &mut Place<B>) -> u64
         requires desk { seat.old.table_id ≡ self.now.table.shared.table_id }
         requires turn { holding seat.old.me.0.stage ≡ 1 }
         requires book { (b : B) × (seat.old.me.1 ≡ (0, Some b) ∷ []) × (B.history b ≡ reached seat.old.me.0.stage) × (seat.old.me.0.origin ≡ Some (B.origin b)) }
         ensures same { (seat.new.table_id ≡ seat.old.table_id) × (seat.new.id ≡ seat.old.id) }
         ensures rests { seat.new.me ≡ (rested seat.old.me.0, []) }
     {
-        self.table.shared.fetch_add::<PassOn>(seat, SERVING, 1);
+        self.table.shared.fetch_add::<PassOn>(seat, SERVING, 1)
     }
 
     /// Splits a new seat from this one.

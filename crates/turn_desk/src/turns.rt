@@ -5,11 +5,10 @@ ghost use Rattle.turn_desk.specs.Histories.{StartsWith};
 ghost use Rattle.turn_desk.specs.Views.{holding, began, unsteady};
 ghost use Rattle.turn_desk.specs.Steps.{TakesTurn, after_turn};
 
-use crate::board::{BOOK, Board, Place, SERVING};
+use crate::board::{BOOK, Board, Place};
 use crate::book::Book;
 use std::hint::spin_loop;
 use std::sync::Wait;
-use std::sync::atomic::Ordering::SeqCst;
 
 /// How often a thread whose turn is near looks at the number that is served before it sleeps.
 const LOOKS: u32 = 200;
@@ -30,32 +29,28 @@ impl<B: Book> Board<B> {
         let ticket = self.draw(seat);
         let mut looks = 0;
         for _ in rt.forever() {
+            let heard = self.bells.heard(ticket);
             let served = self.look(seat);
             if served == ticket {
                 return self.table.shared.exchange(seat, BOOK, None).unwrap();
             }
-            looks = self.pause(rt, served, ticket, looks);
+            looks = self.pause(rt, heard, served, ticket, looks);
         }
         unreachable!()
     }
 
-    /// Waits a moment, or sleeps until a turn passes on, and answers how often the thread has looked since it slept. It sleeps
-    /// where its turn is far, or it has looked for long. The kernel lets it sleep only where the number that is served has not
-    /// changed since it looked, by the low 32 bits.
-    fn pause<T: Wait>(&self, rt: &T, served: u64, ticket: u64, looks: u32) -> u32 {
+    /// Waits a moment, or sleeps until the turn comes, and answers how often the thread has looked since it slept. It sleeps where
+    /// its turn is far, or it has looked for long.
+    fn pause<T: Wait>(&self, rt: &T, heard: u64, served: u64, ticket: u64, looks: u32) -> u32 {
         if looks < LOOKS && ticket.wrapping_sub(served) <= NEAR {
             spin_loop();
             return looks + 1;
         }
-        self.sleepers.fetch_add(1, SeqCst);
-        self.table
-            .shared
-            .park(rt, SERVING, (served & 0xffff_ffff) as u32);
-        self.sleepers.fetch_sub(1, SeqCst);
+        self.bells.sleep(rt, ticket, heard);
         0
     }
 
-    /// Puts the book back, makes its last `more` entries the seat's own, and passes the turn on.
+    /// Puts the book back, makes its last `more` entries the seat's own, passes the turn on, and wakes the thread whose turn is next.
     pub(crate) fn leave(&self, seat: &mut Place<B>, book: B, more: u64)
         requires desk { seat.old.table_id ≡ self.now.table.shared.table_id }
         requires turn { (holding seat.old.me.0.stage ≡ 1) × (unsteady seat.old.me.0.stage ≡ 0) × (seat.old.me.1 ≡ (0, None) ∷ []) }
@@ -71,16 +66,7 @@ impl<B: Book> Board<B> {
         for _made in 0..more {
             self.append(seat);
         }
-        self.pass_on(seat);
-        self.wake();
-    }
-
-    /// Wakes the threads that sleep, all of them: the one whose turn it is may be any. A thread counts itself before it sleeps, and
-    /// the number that is served has changed before the count is read, so either it is counted here or it finds the change and
-    /// does not sleep.
-    fn wake(&self) {
-        if self.sleepers.load(SeqCst) > 0 {
-            self.table.shared.wake_all(SERVING);
-        }
+        let served = self.pass_on(seat);
+        self.bells.ring(served.wrapping_add(1));
     }
 }

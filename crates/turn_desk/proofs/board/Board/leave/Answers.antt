@@ -30,8 +30,8 @@ loop-made-preserved g c =
           (subst (λ z. StartsWith z (reached c.loop-made.seat.me.0.stage ++ a.0 ∷ [])) (ap (in_hand g.B.Book.history) (i.2 ∙ ap (λ m. m.1) e.3)) a.1) a.2,
     )
 
-pub pass_on-requires-clause-book : goal.pass_on-requires-clause-book
-pass_on-requires-clause-book g c =
+pub pass_on-served-requires-clause-book : goal.pass_on-served-requires-clause-book
+pass_on-served-requires-clause-book g c =
     let e = c.exchange.ensures in let x = c.requires.goes_on in let i = c.loop-made.invariant in
     let end = given_from c.args.seat.now.me.0 c.exchange.new.seat.me.0 c.loop-made.seat.me.0 (g.B.Book.history c.args.book) x.0 c.loop-made._made c.args.more (ap (λ m. m.0) e.3) c.requires.turn.0 c.requires.turn.1 x.1 x.2 i.3 (omega arith) in (
       c.args.book,
@@ -44,4 +44,4 @@ pub returns-clause-given : goal.returns-clause-given
 returns-clause-given g c =
     let e = c.exchange.ensures in let x = c.requires.goes_on in let i = c.loop-made.invariant in
     let end = given_from c.args.seat.now.me.0 c.exchange.new.seat.me.0 c.loop-made.seat.me.0 (g.B.Book.history c.args.book) x.0 c.loop-made._made c.args.more (ap (λ m. m.0) e.3) c.requires.turn.0 c.requires.turn.1 x.1 x.2 i.3 (omega arith) in
-    ap (λ m. m.0) c.pass_on.ensures.rests ∙ end.1
+    ap (λ m. m.0) c.pass_on-served.ensures.rests ∙ end.1
