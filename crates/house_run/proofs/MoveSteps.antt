@@ -22,7 +22,7 @@ use Rattle.house_run.specs.Disks.{IsJournalBelow}
 use Rattle.house_run.specs.Found.{as_found, found, told_first}
 use Rattle.house_run.specs.Frame.{KeepsAll, KeepsContents, OnlySynced, RisesAmong}
 use Rattle.house_run.specs.Journals.{AreFromJournals, IsBadJournal, IsFirstRefused, IsTermsOf}
-use Rattle.house_run.specs.MigrateCommand.{MigrateDone, MigrateFrame, MovesFiles, TellsLeft, migrate_needs, moved_line}
+use Rattle.house_run.specs.MigrateCommand.{MigrateDone, MigrateFrame, MovesFiles, TellsJournal, TellsLeft, migrate_needs, moved_line}
 use Rattle.house_run.specs.MoveSteps.{AreFilesRead, IsMoveRead, StopsMoving}
 use Rattle.house_run.specs.MoveEnds.{MayReadSecond}
 use Rattle.house_run.specs.Moves.{IsMove, IsSameListing}
@@ -47,15 +47,27 @@ use Rattle.house_run.proofs.ServeJobs.{found-same}
 
 -- the files that a migration reads
 
+-- what a command needs that reads this auction file alone
+abbrev alone : List ℕ → Needs
+alone auction = record nothing_needed { auction = Some auction }
+
+-- an end that every command with an auction file may have tells of no journal
+file-early : (auction : List ℕ) (seen : Outside) (end : Ended) → EndsAtAuction auction seen end → TellsJournal end → ⊥
+file-early auction seen end ends (clock, inl is) =
+    let may : MayEnd (alone auction) seen (how.DiskFault clock) = subst (λ (e : Ended). MayEnd (alone auction) seen e) is (ends (alone auction) refl).cause in may
+file-early auction seen end ends (clock, inr (fault, is)) =
+    let may : MayEnd (alone auction) seen (how.BadJournal clock fault) = subst (λ (e : Ended). MayEnd (alone auction) seen e) is (ends (alone auction) refl).cause in may
+
 module _ (old journals new target : List ℕ) (seen : Outside) where
   -- it stopped while it read them
-  stopped : (end : Ended) (count : ℕ) → ((net : NetSeen) → Ends (migrate_needs old journals new target) (as_found seen) net end)
+  stopped : (end : Ended) (count : ℕ) → (TellsJournal end → ⊥) → ((net : NetSeen) → Ends (migrate_needs old journals new target) (as_found seen) net end)
       → seen.shelf.opened ≡ with_names (take count (old ∷ new ∷ [])) seen.shelf.opened_before → RisesAmong (Tells (migrate_needs old journals new target) end) seen.shelf.faults_before seen.shelf.faults
       → ChangesNone seen.shelf.files_before seen.shelf.files → StopsMoving old journals new target seen end
-  stopped end count cause names counts same = record {
+  stopped end count early cause names counts same = record {
     cause = cause;
     frame = record {
       names = inl (inl (record { count = count; names = names }));
+      second = λ tells. absurd (early tells);
       counts = record { later = counts.later; others = λ name not. counts.others name (λ t. not (inl t)) };
       files = inl (none-kept (IsJournal journals) seen.shelf.files_before seen.shelf.files same);
     };
@@ -69,12 +81,8 @@ module _ (old journals new target : List ℕ) (seen : Outside) where
       cause net = subst (λ (x : Outside). Ends (migrate_needs old journals new target) x net end) (sym (found-same seen reads.unchanged)) (inl (ends (migrate_needs old journals new target) refl).cause)
 
       of : OpensOnly old seen.shelf.opened_before seen.shelf.opened → StopsMoving old journals new target seen end
-      of (inl same) = stopped end 0 cause same (ends (migrate_needs old journals new target) refl).counts reads.unchanged
-      of (inr opened) = stopped end 1 cause opened (ends (migrate_needs old journals new target) refl).counts reads.unchanged
-
--- what a command needs that reads this auction file alone
-abbrev alone : List ℕ → Needs
-alone auction = record nothing_needed { auction = Some auction }
+      of (inl same) = stopped end 0 (file-early old seen end ends) cause same (ends (migrate_needs old journals new target) refl).counts reads.unchanged
+      of (inr opened) = stopped end 1 (file-early old seen end ends) cause opened (ends (migrate_needs old journals new target) refl).counts reads.unchanged
 
 source-of : (old journals new target name : List ℕ) → IsSource (alone new) name → IsSource (migrate_needs old journals new target) name
 source-of old journals new target name (inl is) = inr (inr (inr is))
@@ -180,9 +188,12 @@ module _ (old journals new target : List ℕ) (seen : Outside) (files : Option (
       cause : (net : NetSeen) → Ends (migrate_needs old journals new target) (as_found seen) net end
       cause net = second-cause end net (listing, first-found listing one one-is old_is) (ends (alone new) refl).cause
 
+      early : TellsJournal end → ⊥
+      early = file-early new (record { shelf = later seen.shelf files faults names }) end ends
+
       of : OpensOnly new names seen.shelf.opened → StopsMoving old journals new target seen end
-      of (inl same) = stopped old journals new target seen end 1 cause (same ∙ r.opened) counts both-unchanged
-      of (inr opened) = stopped old journals new target seen end 2 cause (opened ∙ ap (with_name new) r.opened) counts both-unchanged
+      of (inl same) = stopped old journals new target seen end 1 early cause (same ∙ r.opened) counts both-unchanged
+      of (inr opened) = stopped old journals new target seen end 2 early cause (opened ∙ ap (with_name new) r.opened) counts both-unchanged
 
   module _ (first second : Auction) (one : ShelfSeen) (one-is : one.files ≡ files) (old_is : IsAuctionAt one old (listing_of first)) (new_is : IsAuctionAt (later seen.shelf files faults names) new (listing_of second))
       (steady : IsSteady (later seen.shelf files faults names)) (opened : seen.shelf.opened ≡ with_name new names) where
@@ -217,8 +228,12 @@ module _ (old journals new target : List ℕ) (seen : Outside) (files : Option (
 
     -- and the auction can't go on under the second
     pub terms-stop : (IsSameAuction first second → ⊥) → StopsMoving old journals new target seen how.OtherTerms
-    terms-stop other = stopped old journals new target seen how.OtherTerms 2 cause (opened ∙ ap (with_name new) r.opened) (steady-counts (Tells (migrate_needs old journals new target) how.OtherTerms) seen.shelf both-steady) both-unchanged
+    terms-stop other = stopped old journals new target seen how.OtherTerms 2 early cause (opened ∙ ap (with_name new) r.opened) (steady-counts (Tells (migrate_needs old journals new target) how.OtherTerms) seen.shelf both-steady) both-unchanged
       where
+        early : TellsJournal how.OtherTerms → ⊥
+        early (clock, inl is) = let no : ⊥ = cc in no
+        early (clock, inr (fault, is)) = let no : ⊥ = cc in no
+
         cause : (net : NetSeen) → Ends (migrate_needs old journals new target) (as_found seen) net how.OtherTerms
         cause net = inr (inr (record {
           first = listing_of first;
@@ -290,6 +305,13 @@ module _ (old journals new : List ℕ) (first second : Auction) (seen : Outside)
         clocks_are = (let e = (terms-of first).bidders_are in let f = synced.few in omega arith);
         names = names-read synced.count synced.synced;
       }));
+      second = λ tells. record {
+        first = listing_of first;
+        second = listing_of second;
+        old_is = old-then synced.synced.files;
+        new_is = new-then synced.synced.files;
+        same = r.same;
+      };
       counts = record { later = counts.later; others = λ name not. counts.others name (λ t. not (inl t)) };
       files = inl (whole-kept synced.synced.files);
     }
@@ -416,12 +438,15 @@ module _ (old journals new target : List ℕ) (second : Auction) (cs : List Cloc
     old-still : IsAuctionAt (found seen.shelf) old r.move.first
     old-still = auction-reads (found (earlier seen.shelf files faults names)) (found seen.shelf) old r.move.first found-still r.move.old_is
 
+    new-still : IsAuctionAt (found seen.shelf) new r.move.second
+    new-still = auction-reads (found (earlier seen.shelf files faults names)) (found seen.shelf) new r.move.second found-still r.move.new_is
+
     pub move-still : IsMove (found seen.shelf) old journals new cs second.terms second.digest
     move-still = record {
       first = r.move.first;
       second = r.move.second;
       old_is = old-still;
-      new_is = auction-reads (found (earlier seen.shelf files faults names)) (found seen.shelf) new r.move.second found-still r.move.new_is;
+      new_is = new-still;
       same = r.move.same;
       before = r.move.before;
       before_are = r.move.before_are;
@@ -452,6 +477,13 @@ module _ (old journals new target : List ℕ) (second : Auction) (cs : List Cloc
         names = keeps.names ∙ ap (with_names (first_journals target keeps.front)) r.names
             ∙ sym (names-then (old ∷ new ∷ first_journals journals (length r.move.first.bidder_names + 1)) (first_journals target keeps.front) seen.shelf.opened_before);
       });
+      second = λ tells. record {
+        first = r.move.first;
+        second = r.move.second;
+        old_is = old-still;
+        new_is = new-still;
+        same = r.move.same;
+      };
       counts = record {
         later = λ name. let e = r.steady name in let l = keeps.counts.later name in omega arith;
         others = λ name not. keeps.counts.others name (λ t. not (inr t)) ∙ r.steady name;

@@ -11,12 +11,13 @@ use Rattle.demand_set.specs.declared.reports.Report.{Report}
 use Rattle.house_io.specs.Moments.{Moments}
 use Rattle.recovery.specs.Journaled.{Owner, owner_of}
 use Rattle.clock_book.specs.Opened.{LeftUnopened}
+use Rattle.clock_book.specs.declared.faults.OpenFault.{OpenFault}
 use Rattle.migration.specs.Moving.{IsMoved, LeavesTarget}
 use Rattle.house_run.specs.Causes.{Tells}
 use Rattle.house_run.specs.Disks.{IsJournalBelow}
 use Rattle.house_run.specs.Found.{found}
 use Rattle.house_run.specs.Frame.{KeepsAll, OnlySynced, OpensInOrder, RisesAmong}
-use Rattle.house_run.specs.Moves.{IsMove}
+use Rattle.house_run.specs.Moves.{IsMove, IsOneAuction}
 use Rattle.house_run.specs.Needs.{IsJournal, Needs, first_journals, journal_name, nothing_needed, with_names}
 use Rattle.house_run.specs.Seen.{IsAuctionAt, Outside, ShelfSeen}
 use Rattle.house_run.specs.declared.ends.Ended.{Ended}
@@ -76,8 +77,14 @@ pub record MovesFiles (old journals new target : List ℕ) (end : Ended) (shelf 
   pub told : IfTells shelf.files (λ after. IfWasTold shelf.files_before (λ before. (k : ℕ) (c : ClockHistory) → k ≤ terms.bidders
       → TellsLeft end (owner_of terms k digest) k (slice_index_or histories k c).reports (moments_at before (journal_name target k)) (moments_at after (journal_name target k))))
 
+-- the end tells of a journal or of a target
+abbrev pub TellsJournal : Ended → Type 0
+TellsJournal end = (clock : ℕ) × ((end ≡ how.DiskFault clock) ⊎ ((fault : OpenFault) × (end ≡ how.BadJournal clock fault)))
+
 -- A migration that ended so opened what it needs, in order, passed over no fault that its end does not tell, and wrote to its targets alone.
+-- It came to no journal before the second file was read and named the auction.
 pub record MigrateFrame (old journals new target : List ℕ) (end : Ended) (seen : Outside) : Type 0 where
   pub names : OpensInOrder (migrate_needs old journals new target) (found seen.shelf) ⊎ OpensTargets old journals new target (found seen.shelf)
+  pub second : TellsJournal end → IsOneAuction (found seen.shelf) old new
   pub counts : RisesAmong (λ name. Tells (migrate_needs old journals new target) end name ⊎ TellsTarget target end name) seen.shelf.faults_before seen.shelf.faults
   pub files : KeepsAll (IsJournal journals) seen.shelf.files_before seen.shelf.files ⊎ MovesFiles old journals new target end seen.shelf

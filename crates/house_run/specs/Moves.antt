@@ -34,6 +34,14 @@ pub record AreOtherTerms (shelf : ShelfSeen) (old new : List ℕ) : Type 0 where
   pub new_is : IsAuctionAt shelf new second
   pub other : IsSameListing first second → ⊥
 
+-- both files were read, and the auction can go on under the second
+pub record IsOneAuction (shelf : ShelfSeen) (old new : List ℕ) : Type 0 where
+  pub first : Listing
+  pub second : Listing
+  pub old_is : IsAuctionAt shelf old first
+  pub new_is : IsAuctionAt shelf new second
+  pub same : IsSameListing first second
+
 -- Both files were read, the auction can go on under the second, and its journals have these histories. The targets are journals of these
 -- terms and of this digest.
 pub record IsMove (shelf : ShelfSeen) (old journals new : List ℕ) (histories : List ClockHistory) (terms : Terms) (digest : List ℕ) : Type 0 where
