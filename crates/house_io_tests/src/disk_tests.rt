@@ -1,21 +1,24 @@
 //! What no clause says of disks: that the calls succeed with ample memory, and what a real file does.
-use crate::tests::{list_shelf, one, sure_shelf, text_of};
+use crate::tests::{bytes_of, list_shelf, one, sure_shelf, text_of};
 use house_io::{
-    Disk, Failed, FileDisk, Fill, FolderShelf, ListDisk, Refusal, Shelf, SureDisk, SureShelf,
+    Disk, Failed, FileDisk, Fill, FolderShelf, ListDisk, ListShelf, Refusal, Shelf, SureDisk,
+    SureShelf,
 };
 use std::alloc::Global;
 use std::fs::{self, File};
 use std::test::Fail;
 
-fn sure_disk(alloc: Global) -> Result<SureDisk, Fail> {
-    let bytes = b"lot".to_vec(alloc)?;
-    Ok(SureDisk::new(alloc, bytes, 40)?)
+fn sure_disk(alloc: Global) -> Option<SureDisk> {
+    SureDisk::new(alloc, bytes_of(alloc, b"lot")?, 40).ok()
+}
+
+fn list_disk_of(alloc: Global, bytes: Vec<u8>, failing: Vec<u64>) -> Option<ListDisk> {
+    ListDisk::new(alloc, bytes, 40, failing).ok()
 }
 
 /// A disk of which the second call fails.
-fn list_disk(alloc: Global) -> Result<ListDisk, Fail> {
-    let bytes = b"lots".to_vec(alloc)?;
-    Ok(ListDisk::new(alloc, bytes, 40, one(alloc, 1)?)?)
+fn list_disk(alloc: Global) -> Option<ListDisk> {
+    list_disk_of(alloc, bytes_of(alloc, b"lots")?, one(alloc, 1)?)
 }
 
 /// A value that a thread may own.
@@ -25,168 +28,293 @@ fn moved<T: Send>(value: T) -> T {
 
 /// So may a disk on a file, where the file may.
 #[test]
-fn a_thread_may_own_each_disk(rt: HostRuntime) -> Result<(), Fail> {
-    let _ = moved(sure_disk(rt.alloc())?);
-    let _ = moved(list_disk(rt.alloc())?);
+fn a_thread_may_own_each_disk(rt: HostRuntime) {
+    assert!(rt; moved(sure_disk(rt.alloc())).is_some());
+    assert!(rt; moved(list_disk(rt.alloc())).is_some());
     let file: Option<FileDisk<File>> = None;
     assert!(rt; moved(file).is_none());
+}
+
+/// A call that may change a disk.
+#[derive(Clone, Copy)]
+pub(crate) enum Change<'a> {
+    /// Writes this text at this offset.
+    Write(u64, &'a [u8]),
+    Sync,
+}
+
+pub(crate) fn make<D: Disk>(disk: &mut D, change: Change) -> Result<(), Failed> {
+    match change {
+        Change::Write(at, text) => disk.write_at(at, text),
+        Change::Sync => disk.sync(),
+    }
+}
+
+/// Makes the changes, up to one that fails.
+fn make_all<D: Disk>(disk: &mut D, changes: &[Change]) -> Result<(), Failed> {
+    for change in changes {
+        if make(disk, *change).is_err() {
+            return Err(Failed);
+        }
+    }
     Ok(())
 }
 
-/// Writes a text at an offset, syncs, and reads the first eight bytes and the length.
-fn written_on<D: Disk>(
+pub(crate) fn read<D: Disk>(disk: &mut D, at: u64, into: &mut [u8]) -> Result<usize, Failed> {
+    disk.read_at(at, into)
+}
+
+pub(crate) fn size<D: Disk>(disk: &mut D) -> Result<u64, Failed> {
+    disk.size()
+}
+
+/// How many bytes are read into the buffer from this offset on, and the length, once the changes are made.
+pub(crate) fn changed<D: Disk>(
     disk: &mut D,
+    changes: &[Change],
     at: u64,
-    text: &[u8],
-) -> Result<([u8; 8], usize, u64), Failed> {
-    disk.write_at(at, text)?;
-    disk.sync()?;
+    into: &mut [u8],
+) -> Result<(usize, u64), Failed> {
+    make_all(disk, changes)?;
+    let count = read(disk, at, into)?;
+    let size = size(disk)?;
+    Ok((count, size))
+}
+
+/// What is read from the start and the length, once a text is written after the end.
+fn written_after_the_end(alloc: Global, front: &mut [u8]) -> Option<Result<(usize, u64), Failed>> {
+    let mut disk = sure_disk(alloc)?;
+    let found = changed(&mut disk, &[Change::Write(5, b"s"), Change::Sync], 0, front);
+    if disk.bytes() == b"lot\0\0s".as_slice() {
+        Some(found)
+    } else {
+        None
+    }
+}
+
+#[test]
+fn a_write_after_the_end_leaves_zeros(rt: HostRuntime) {
     let mut front = [0; 8];
-    let count = disk.read_at(0, &mut front)?;
-    let size = disk.size()?;
-    Ok((front, count, size))
+    let found = written_after_the_end(rt.alloc(), &mut front);
+    assert_eq!(rt; found, Some(Ok((6, 6))));
+    assert_eq!(rt; front, *b"lot\0\0s\0\0");
+}
+
+/// A disk on which one write went well, and one failed.
+fn torn_disk(alloc: Global) -> Option<ListDisk> {
+    let mut disk = list_disk(alloc)?;
+    let answers = [
+        make(&mut disk, Change::Write(3, b"ted")),
+        make(&mut disk, Change::Write(0, b"p")),
+    ];
+    if answers == [Ok(()), Err(Failed)] {
+        Some(disk)
+    } else {
+        None
+    }
+}
+
+/// Whether this is the image of such a disk, with such a fill.
+fn is_image_of_torn_disk(alloc: Global, fill: Fill, expected: &str) -> Option<bool> {
+    let disk = torn_disk(alloc)?;
+    match disk.image(alloc, fill) {
+        Ok(image) => Some(image.as_slice() == expected.as_bytes()),
+        Err(_) => None,
+    }
 }
 
 #[test]
-fn a_write_after_the_end_leaves_zeros(rt: HostRuntime) -> Result<(), Fail> {
-    let mut disk = sure_disk(rt.alloc())?;
-    let found = written_on(&mut disk, 5, b"s");
-    assert_eq!(rt; found, Ok((*b"lot\0\0s\0\0", 6, 6)));
-    assert_eq!(rt; disk.bytes(), b"lot\0\0s".as_slice());
-    Ok(())
-}
-
-/// Whether this is the image of a disk, with such a fill.
-fn is_image(alloc: Global, disk: &ListDisk, fill: Fill, expected: &str) -> Result<bool, Fail> {
-    let image = disk.image(alloc, fill)?;
-    Ok(image.as_slice() == expected.as_bytes())
-}
-
-#[test]
-fn a_failed_write_leaves_its_range_in_doubt(rt: HostRuntime) -> Result<(), Fail> {
-    let mut disk = list_disk(rt.alloc())?;
-    assert_eq!(rt; disk.write_at(3, b"ted"), Ok(()));
-    assert_eq!(rt; disk.write_at(0, b"p"), Err(Failed));
+fn a_failed_write_leaves_its_range_in_doubt(rt: HostRuntime) {
     for (fill, image) in [
         (Fill::Old, "lots"),
         (Fill::New, "lotted"),
         (Fill::Byte(b'x'), "xotxxx"),
     ] {
-        assert!(rt; is_image(rt.alloc(), &disk, fill, image)?, "{fill:?}");
+        assert_eq!(rt;
+            is_image_of_torn_disk(rt.alloc(), fill, image),
+            Some(true),
+            "{fill:?}"
+        );
     }
-    Ok(())
 }
 
-/// Opens a disk of this name, writes a text at its start, and closes it.
+/// Opens a disk of this name, makes the changes, reads into the buffer from an offset on, and closes the disk. Answers how
+/// many bytes were read, and the length.
+fn changed_by_name<H: Shelf>(
+    alloc: Global,
+    shelf: &mut H,
+    name: &str,
+    changes: &[Change],
+    at: u64,
+    into: &mut [u8],
+) -> Result<Result<(usize, u64), Failed>, Refusal> {
+    match shelf.disk(alloc, name) {
+        Ok(mut disk) => {
+            let found = changed(&mut disk, changes, at, into);
+            shelf.close_disk(name, disk);
+            Ok(found)
+        }
+        Err(refusal) => Err(refusal),
+    }
+}
+
+/// Opens a disk of this name, writes a text at its start, and closes it. Answers the length.
 fn write_named<H: Shelf>(
     alloc: Global,
     shelf: &mut H,
     name: &str,
     text: &str,
 ) -> Result<u64, Refusal> {
-    let mut disk = match shelf.disk(alloc, name) {
-        Ok(disk) => disk,
-        Err(refusal) => return Err(refusal),
-    };
-    let answer = written_on(&mut disk, 0, text.as_bytes());
-    shelf.close_disk(name, disk);
-    match answer {
-        Ok((_, _, size)) => Ok(size),
+    let changes = [Change::Write(0, text.as_bytes()), Change::Sync];
+    match changed_by_name(alloc, shelf, name, &changes, 0, &mut [0; 8])? {
+        Ok((_, size)) => Ok(size),
         Err(Failed) => Err(Refusal::Failed),
     }
 }
 
-/// Whether a shelf has this text under a name.
-fn holds(shelf: &SureShelf, name: &str, text: &str) -> bool {
-    match shelf.file(name) {
+/// A name, a text, and what a shelf answers where the text is written at the start of the disk of that name.
+type Row<'a> = (&'a str, &'a str, Result<u64, Refusal>);
+
+/// The number, from 0, of the first row for which a shelf answers otherwise, or that of all rows.
+fn first_other<H: Shelf>(alloc: Global, shelf: &mut H, rows: &[Row]) -> usize {
+    let mut number: usize = 0;
+    for (name, text, answer) in rows {
+        if write_named(alloc, shelf, name, text) != *answer {
+            break;
+        }
+        number = number.saturating_add(1);
+    }
+    number
+}
+
+/// Whether a file is there and has this text.
+fn holds(file: Option<&[u8]>, text: &str) -> bool {
+    match file {
         Some(bytes) => bytes == text.as_bytes(),
         None => false,
     }
 }
 
+fn sure_shelf_holds(shelf: &SureShelf, name: &str, text: &str) -> bool {
+    holds(shelf.file(name), text)
+}
+
+/// The first row that does not hold of a shelf, and whether it has these texts then.
+fn kept_by_sure_shelf(alloc: Global, rows: &[Row]) -> Option<(usize, bool, bool)> {
+    let mut shelf = sure_shelf(alloc)?;
+    let other = first_other(alloc, &mut shelf, rows);
+    let old = sure_shelf_holds(&shelf, "auction", "plo");
+    Some((other, old, sure_shelf_holds(&shelf, "absent", "new")))
+}
+
 #[test]
-fn a_shelf_keeps_a_closed_disk(rt: HostRuntime) -> Result<(), Fail> {
-    let mut shelf = sure_shelf(rt.alloc())?;
-    for (name, text, size) in [
-        ("auction", "c", 3),
-        ("absent", "new", 3),
-        ("auction", "pl", 3),
-    ] {
-        assert_eq!(rt;
-            write_named(rt.alloc(), &mut shelf, name, text),
-            Ok(size),
-            "{text}"
-        );
-    }
-    assert!(rt; holds(&shelf, "auction", "plo"));
-    assert!(rt; holds(&shelf, "absent", "new"));
-    Ok(())
+fn a_shelf_keeps_a_closed_disk(rt: HostRuntime) {
+    let rows = [
+        ("auction", "c", Ok(3)),
+        ("absent", "new", Ok(3)),
+        ("auction", "pl", Ok(3)),
+    ];
+    assert_eq!(rt;
+        kept_by_sure_shelf(rt.alloc(), &rows),
+        Some((3, true, true))
+    );
+}
+
+fn list_shelf_holds(shelf: &ListShelf, name: &str, text: &str) -> bool {
+    holds(shelf.file(name), text)
+}
+
+/// The first row that does not hold of a shelf, and whether it has this text then.
+fn kept_by_list_shelf(alloc: Global, rows: &[Row]) -> Option<(usize, bool)> {
+    let mut shelf = list_shelf(alloc)?;
+    let other = first_other(alloc, &mut shelf, rows);
+    Some((other, list_shelf_holds(&shelf, "journal", "plts")))
 }
 
 /// The sixth call on the disk, its second sync, fails, and then the third opening.
 #[test]
-fn a_list_shelf_counts_on_with_a_closed_disk(rt: HostRuntime) -> Result<(), Fail> {
-    let mut shelf = list_shelf(rt.alloc())?;
-    for (text, answer) in [
-        ("c", Ok(4)),
-        ("pl", Err(Refusal::Failed)),
-        ("x", Err(Refusal::Failed)),
-    ] {
-        assert_eq!(rt;
-            write_named(rt.alloc(), &mut shelf, "journal", text),
-            answer,
-            "{text}"
-        );
-    }
-    assert_eq!(rt; shelf.file("journal"), Some(b"plts".as_slice()));
-    Ok(())
+fn a_list_shelf_counts_on_with_a_closed_disk(rt: HostRuntime) {
+    let rows = [
+        ("journal", "c", Ok(4)),
+        ("journal", "pl", Err(Refusal::Failed)),
+        ("journal", "x", Err(Refusal::Failed)),
+    ];
+    assert_eq!(rt; kept_by_list_shelf(rt.alloc(), &rows), Some((3, true)));
+}
+
+/// Whether a file in the folder that the program runs in has these bytes. It is removed.
+fn is_kept(rt: &HostRuntime, name: &str, bytes: &[u8]) -> Result<bool, Fail> {
+    let kept = fs::read(rt, name);
+    fs::remove_file(rt, name)?;
+    Ok(kept?.as_slice() == bytes)
 }
 
 #[test]
 fn a_folder_shelf_makes_a_real_file_and_keeps_it(rt: HostRuntime) -> Result<(), Fail> {
     let name = "a_real_journal_of_house_io";
     let mut shelf = FolderShelf::new(rt.alloc(), &rt);
-    for (text, size) in [("lots", 4), ("p", 4)] {
-        assert_eq!(rt;
-            write_named(rt.alloc(), &mut shelf, name, text),
-            Ok(size),
-            "{text}"
-        );
-    }
-    let kept = fs::read(&rt, name);
-    fs::remove_file(&rt, name)?;
-    assert_eq!(rt; kept?.as_slice(), b"pots".as_slice());
-    let answer = write_named(rt.alloc(), &mut shelf, "no_folder/journal", "x");
-    assert_eq!(rt; answer, Err(Refusal::Failed));
+    let rows = [(name, "lots", Ok(4)), (name, "p", Ok(4))];
+    assert_eq!(rt; first_other(rt.alloc(), &mut shelf, &rows), 2);
+    assert!(rt; is_kept(&rt, name, b"pots")?);
+    let rows = [("no_folder/journal", "x", Err(Refusal::Failed))];
+    assert_eq!(rt; first_other(rt.alloc(), &mut shelf, &rows), 1);
     Ok(())
+}
+
+/// What is read and the length, of a file in the folder that the program runs in, once it is changed.
+fn changed_in_folder(
+    rt: &HostRuntime,
+    name: &str,
+    changes: &[Change],
+    at: u64,
+    into: &mut [u8],
+) -> Option<(usize, u64)> {
+    let mut shelf = FolderShelf::new(rt.alloc(), rt);
+    match changed_by_name(rt.alloc(), &mut shelf, name, changes, at, into) {
+        Ok(Ok(found)) => Some(found),
+        _ => None,
+    }
+}
+
+/// The same, and the file is removed.
+fn changed_file(
+    rt: &HostRuntime,
+    name: &str,
+    changes: &[Change],
+    at: u64,
+    into: &mut [u8],
+) -> Result<Option<(usize, u64)>, Fail> {
+    let found = changed_in_folder(rt, name, changes, at, into);
+    fs::remove_file(rt, name)?;
+    Ok(found)
+}
+
+/// Whether these bytes are zeros and then a text.
+fn are_zeros_and(bytes: &[u8], text: &[u8]) -> bool {
+    let (gap, rest) = bytes.split_at(bytes.len().saturating_sub(text.len()));
+    gap.iter().all(|&byte| byte == 0) && rest == text
 }
 
 /// What a file of three bytes is once a text was written at an offset after its end: its length, and whether it has zeros
 /// up to the text, and then the text.
-fn grown<D: Disk>(
-    disk: &mut D,
+fn grown_file(
+    rt: &HostRuntime,
     at: u64,
     text: &[u8],
     buffer: &mut [u8],
-) -> Result<(u64, bool), Failed> {
-    disk.write_at(0, b"lot")?;
-    disk.write_at(at, text)?;
-    let count = disk.read_at(3, buffer)?;
-    let (gap, rest) = buffer[..count].split_at(count.saturating_sub(text.len()));
-    let holds = gap.iter().all(|&byte| byte == 0) && rest == text;
-    Ok((disk.size()?, holds))
+) -> Result<(u64, bool), Fail> {
+    let changes = [Change::Write(0, b"lot"), Change::Write(at, text)];
+    let found = changed_file(rt, "a_grown_file_of_house_io", &changes, 3, buffer)?;
+    let (count, size) = found.ok_or("a call failed")?;
+    let bytes = buffer.get(..count).ok_or("too many bytes")?;
+    Ok((size, are_zeros_and(bytes, text)))
 }
 
-/// The same of a file in the folder that the program runs in.
-fn grown_file(rt: &HostRuntime, at: u64, text: &[u8]) -> Result<(u64, bool), Fail> {
-    let name = "a_grown_file_of_house_io";
-    let mut shelf = FolderShelf::new(rt.alloc(), rt);
+/// The same of a text of so many bytes.
+fn grown_by(rt: &HostRuntime, at: u64, length: usize) -> Result<(u64, bool), Fail> {
+    let text = text_of(rt.alloc(), length).ok_or("no memory")?;
     let mut buffer = vec![in rt.alloc(); 1u8; 300_000]?;
-    let mut disk = shelf.disk(rt.alloc(), name)?;
-    let found = grown(&mut disk, at, text, &mut buffer);
-    shelf.close_disk(name, disk);
-    fs::remove_file(rt, name)?;
-    Ok(found?)
+    grown_file(rt, at, &text, &mut buffer)
 }
 
 /// About a page, about 65,535, and a piece that is longer than that.
@@ -202,8 +330,7 @@ fn a_real_file_grows_by_zeros_up_to_a_text(rt: HostRuntime) -> Result<(), Fail> 
         (70_000, 9),
         (70_000, 150_000),
     ] {
-        let text = text_of(rt.alloc(), length)?;
-        let found = grown_file(&rt, at, &text)?;
+        let found = grown_by(&rt, at, length)?;
         assert_eq!(rt; found, (at + length as u64, true), "{length} bytes at {at}");
     }
     Ok(())
@@ -212,18 +339,12 @@ fn a_real_file_grows_by_zeros_up_to_a_text(rt: HostRuntime) -> Result<(), Fail> 
 /// A write of no bytes within a file leaves it as it is.
 #[test]
 fn a_real_file_is_never_cut(rt: HostRuntime) -> Result<(), Fail> {
-    let name = "an_uncut_file_of_house_io";
-    let mut shelf = FolderShelf::new(rt.alloc(), &rt);
-    let mut disk = shelf.disk(rt.alloc(), name)?;
-    let answers = [
-        disk.write_at(0, b"lots"),
-        disk.write_at(4, b""),
-        disk.write_at(2, b""),
+    let changes = [
+        Change::Write(0, b"lots"),
+        Change::Write(4, b""),
+        Change::Write(2, b""),
     ];
-    let size = disk.size();
-    shelf.close_disk(name, disk);
-    fs::remove_file(&rt, name)?;
-    assert_eq!(rt; answers, [Ok(()); 3]);
-    assert_eq!(rt; size, Ok(4));
+    let found = changed_file(&rt, "an_uncut_file_of_house_io", &changes, 0, &mut [])?;
+    assert_eq!(rt; found, Some((0, 4)));
     Ok(())
 }

@@ -1,5 +1,6 @@
 //! What no clause says of real files: which calls on them fail, that a sync is one, and what an opening syncs.
-use house_io::{Disk, FileDisk, FolderShelf, Shelf};
+use crate::disk_tests::{Change, make, read, size};
+use house_io::{Disk, Failed, FileDisk, FolderShelf, Shelf};
 use std::alloc::{Allocator, Global};
 use std::cell::Cell;
 use std::fs::{Metadata, OpenFile, OpenOptions};
@@ -99,48 +100,81 @@ fn slow_file(calls: u64, syncs: &Arc<AtomicU64>) -> io::Result<SlowFile> {
     }
 }
 
-fn slow_disk(alloc: Global, calls: u64) -> Result<FileDisk<SlowFile>, Fail> {
-    let syncs = Arc::new(alloc, AtomicU64::new(0))?;
-    Ok(FileDisk::new(slow_file(calls, &syncs)?))
+fn counter(alloc: Global) -> Option<Arc<AtomicU64>> {
+    Arc::new(alloc, AtomicU64::new(0)).ok()
+}
+
+fn slow_disk(alloc: Global, calls: u64) -> Option<FileDisk<SlowFile>> {
+    let syncs = counter(alloc)?;
+    match slow_file(calls, &syncs) {
+        Ok(file) => Some(FileDisk::new(file)),
+        Err(_) => None,
+    }
 }
 
 #[test]
 fn a_disk_on_a_file_reads_on_after_a_short_read(rt: HostRuntime) -> Result<(), Fail> {
-    let mut disk = slow_disk(rt.alloc(), 99)?;
+    let mut disk = slow_disk(rt.alloc(), 99).ok_or("no disk")?;
     let mut front = [0; 4];
-    assert_eq!(rt; disk.read_at(3, &mut front), Ok(4));
-    assert_eq!(rt; front, [3, 4, 5, 6]);
-    assert_eq!(rt; disk.read_at(8, &mut front), Ok(2));
-    assert_eq!(rt; front, [8, 9, 5, 6]);
-    assert_eq!(rt; disk.size(), Ok(10));
+    for (at, count, bytes) in [(3, 4, [3, 4, 5, 6]), (8, 2, [8, 9, 5, 6])] {
+        assert_eq!(rt; read(&mut disk, at, &mut front), Ok(count), "at {at}");
+        assert_eq!(rt; front, bytes, "at {at}");
+    }
+    assert_eq!(rt; size(&mut disk), Ok(10));
     Ok(())
+}
+
+/// Which of five calls on a disk fail.
+fn failing_calls_of<D: Disk>(disk: &mut D) -> [bool; 5] {
+    [
+        read(disk, 0, &mut [0; 2]).is_err(),
+        size(disk).is_err(),
+        make(disk, Change::Write(0, b"lots")).is_err(),
+        make(disk, Change::Write(40, b"")).is_err(),
+        make(disk, Change::Sync).is_err(),
+    ]
 }
 
 /// Which calls on a disk fail, where the call of this number on its file does, and how many faults it counts. Reading two
 /// bytes is a seek and two reads; the size is a seek; writing four bytes is a seek and two writes; lengthening is a seek and
 /// one more call; and a sync is one.
-fn failing_calls(alloc: Global, call: u64) -> Result<([bool; 5], u64), Fail> {
+fn failing_calls(alloc: Global, call: u64) -> Option<([bool; 5], u64)> {
     let mut disk = slow_disk(alloc, call)?;
-    let mut front = [0; 2];
-    let failing = [
-        disk.read_at(0, &mut front).is_err(),
-        disk.size().is_err(),
-        disk.write_at(0, b"lots").is_err(),
-        disk.write_at(40, b"").is_err(),
-        disk.sync().is_err(),
-    ];
-    Ok((failing, disk.faults()))
+    let failing = failing_calls_of(&mut disk);
+    Some((failing, disk.faults()))
+}
+
+/// Of five, only that of this number.
+fn only(number: u64) -> [bool; 5] {
+    [
+        number == 0,
+        number == 1,
+        number == 2,
+        number == 3,
+        number == 4,
+    ]
 }
 
 #[test]
-fn each_call_of_a_file_that_fails_is_a_counted_fault(rt: HostRuntime) -> Result<(), Fail> {
-    for (call, failing) in [0, 0, 0, 1, 2, 2, 2, 3, 3, 4].iter().enumerate() {
-        let mut expected = [false; 5];
-        expected[*failing] = true;
-        let found = failing_calls(rt.alloc(), call as u64)?;
-        assert_eq!(rt; found, (expected, 1), "at the call {call}");
+fn each_call_of_a_file_that_fails_is_a_counted_fault(rt: HostRuntime) {
+    for (call, failing) in [
+        (0, 0),
+        (1, 0),
+        (2, 0),
+        (3, 1),
+        (4, 2),
+        (5, 2),
+        (6, 2),
+        (7, 3),
+        (8, 3),
+        (9, 4),
+    ] {
+        assert_eq!(rt;
+            failing_calls(rt.alloc(), call),
+            Some((only(failing), 1)),
+            "at the call {call}"
+        );
     }
-    Ok(())
 }
 
 /// A folder in which one file stands, or may be made.
@@ -164,19 +198,17 @@ enum Fails {
     Folder,
 }
 
-fn slow_folder(
-    alloc: Global,
-    folder: &'static str,
-    file: &'static str,
-) -> Result<SlowFolder, Fail> {
-    Ok(SlowFolder {
+fn slow_folder(alloc: Global, folder: &'static str, file: &'static str) -> Option<SlowFolder> {
+    let file_syncs = counter(alloc)?;
+    let folder_syncs = counter(alloc)?;
+    Some(SlowFolder {
         folder,
         file,
         is_made: Cell::new(false),
         fails: Cell::new(Fails::Nothing),
         openings: Cell::new(0),
-        file_syncs: Arc::new(alloc, AtomicU64::new(0))?,
-        folder_syncs: Arc::new(alloc, AtomicU64::new(0))?,
+        file_syncs,
+        folder_syncs,
     })
 }
 
@@ -267,9 +299,28 @@ fn opens(alloc: Global, files: &SlowFolder, name: &str) -> bool {
     shelf.disk(alloc, name).is_ok()
 }
 
+/// The same where such a sync fails, and what the folder was asked for until then.
+fn opened(alloc: Global, files: &SlowFolder, name: &str, fails: Fails) -> (bool, [u64; 3]) {
+    files.fails.set(fails);
+    let is_opened = opens(alloc, files, name);
+    (is_opened, files.asked())
+}
+
+/// The same in a folder of its own, in which this file may be made.
+fn opened_in(
+    alloc: Global,
+    folder: &'static str,
+    file: &'static str,
+    name: &str,
+    fails: Fails,
+) -> Option<(bool, [u64; 3])> {
+    let files = slow_folder(alloc, folder, file)?;
+    Some(opened(alloc, &files, name, fails))
+}
+
 /// An opening opens and syncs the file, and then its folder. One that fails is not tried again.
 #[test]
-fn an_opening_syncs_the_file_and_its_folder(rt: HostRuntime) -> Result<(), Fail> {
+fn an_opening_syncs_the_file_and_its_folder(rt: HostRuntime) {
     for (folder, file, name, fails, good, asked) in [
         (".", "journal", "journal", Fails::Nothing, true, [2, 1, 1]),
         (
@@ -308,25 +359,23 @@ fn an_opening_syncs_the_file_and_its_folder(rt: HostRuntime) -> Result<(), Fail>
         (".", "journal", "journal", Fails::File, false, [1, 1, 0]),
         (".", "journal", "journal", Fails::Folder, false, [2, 1, 1]),
     ] {
-        let files = slow_folder(rt.alloc(), folder, file)?;
-        files.fails.set(fails);
-        assert_eq!(rt; opens(rt.alloc(), &files, name), good, "{name} in {folder}");
-        assert_eq!(rt; files.asked(), asked, "{name} in {folder}");
+        assert_eq!(rt;
+            opened_in(rt.alloc(), folder, file, name, fails),
+            Some((good, asked)),
+            "{name} in {folder}"
+        );
     }
-    Ok(())
 }
 
 /// The second opening finds a file that may have been made without its folder, and syncs both.
 #[test]
 fn a_file_that_is_found_is_synced_and_so_is_its_folder(rt: HostRuntime) -> Result<(), Fail> {
-    let files = slow_folder(rt.alloc(), ".", "journal")?;
+    let files = slow_folder(rt.alloc(), ".", "journal").ok_or("no folder")?;
     for (fails, good, asked) in [
         (Fails::Folder, false, [2, 1, 1]),
         (Fails::Nothing, true, [4, 2, 2]),
     ] {
-        files.fails.set(fails);
-        assert_eq!(rt; opens(rt.alloc(), &files, "journal"), good);
-        assert_eq!(rt; files.asked(), asked);
+        assert_eq!(rt; opened(rt.alloc(), &files, "journal", fails), (good, asked));
     }
     Ok(())
 }
@@ -337,14 +386,20 @@ fn source_opens(alloc: Global, files: &SlowFolder, name: &str) -> bool {
     shelf.source(alloc, name).is_ok()
 }
 
+/// The same where the file is there or is not, and what the folder was asked for until then.
+fn source_opened(alloc: Global, files: &SlowFolder, name: &str, is_made: bool) -> (bool, [u64; 3]) {
+    files.is_made.set(is_made);
+    let is_opened = source_opens(alloc, files, name);
+    (is_opened, files.asked())
+}
+
 /// A file that is opened to be read is not made, nor synced.
 #[test]
 fn a_source_is_opened_on_a_file_that_is_there(rt: HostRuntime) -> Result<(), Fail> {
-    let files = slow_folder(rt.alloc(), ".", "log")?;
+    let files = slow_folder(rt.alloc(), ".", "log").ok_or("no folder")?;
     for (is_made, asked) in [(false, [1, 0, 0]), (true, [2, 0, 0])] {
-        files.is_made.set(is_made);
-        assert_eq!(rt; source_opens(rt.alloc(), &files, "log"), is_made);
-        assert_eq!(rt; files.asked(), asked);
+        let found = source_opened(rt.alloc(), &files, "log", is_made);
+        assert_eq!(rt; found, (is_made, asked));
     }
     Ok(())
 }
