@@ -1,13 +1,13 @@
 //! Books over disks of which chosen calls fail.
-ghost use Rattle.std.specs.Prelude.{◌≡◌, IfOk};
+ghost use Rattle.std.specs.Prelude.{◌≡◌, IfSome};
+ghost use Rattle.lot_base.specs.Demands.{IsDemand};
 
 use clock::{Judgement, Offered};
-use clock_book::{ClockBook, Unopened};
+use clock_book::ClockBook;
 use demand_set::Demand;
 use house_io::{Fill, ListDisk};
 use lot_base::{Goods, Prices, Terms};
 use std::alloc::Global;
-use std::test::Fail;
 
 /// The digest of the auction.
 const DIGEST: [u8; 32] = [7; 32];
@@ -18,8 +18,80 @@ const OPENING: u64 = 8;
 /// How many calls an append makes.
 const APPEND: u64 = 4;
 
+/// Two units of one good among two bidders.
+fn plain_terms() -> Option<Terms> {
+    match Goods::new(&[2]) {
+        Ok(goods) => Terms::new(goods, 2, 10).ok(),
+        Err(_) => None,
+    }
+}
+
+/// The same, from a price of 3 on.
+fn priced_terms() -> Option<Terms> {
+    let goods = Goods::new(&[2]).ok()?;
+    let opening = Prices::read(&[3])?;
+    if opening.count() != goods.count() {
+        return None;
+    }
+    Terms::with_opening(goods, 2, 10, opening).ok()
+}
+
+/// The calls of a disk that fail: so many from the one with this number on.
+#[derive(Clone, Copy)]
+struct Failing {
+    first: u64,
+    count: u64,
+}
+
+/// No call fails.
+const NEVER: Failing = Failing { first: 1, count: 0 };
+
+/// The call with this number fails alone.
+fn once(first: u64) -> Failing {
+    Failing { first, count: 1 }
+}
+
+/// The calls from this one on fail, as many as these tests make.
+fn from_on(first: u64) -> Failing {
+    Failing { first, count: 40 }
+}
+
+/// The numbers of the calls that fail.
+fn numbers_of(alloc: Global, failing: Failing) -> Option<Vec<u64>> {
+    let mut numbers = Vec::new(alloc);
+    for more in 0..failing.count {
+        numbers.push(failing.first.saturating_add(more)).ok()?;
+    }
+    Some(numbers)
+}
+
+fn bytes_of(alloc: Global, file: &[u8]) -> Option<Vec<u8>> {
+    file.to_vec(alloc).ok()
+}
+
+fn disk_of(alloc: Global, bytes: Vec<u8>, numbers: Vec<u64>) -> Option<ListDisk> {
+    ListDisk::new(alloc, bytes, 600, numbers).ok()
+}
+
+/// A disk with a file, of which some calls fail.
+fn disk_with(alloc: Global, file: &[u8], failing: Failing) -> Option<ListDisk> {
+    let bytes = bytes_of(alloc, file)?;
+    let numbers = numbers_of(alloc, failing)?;
+    disk_of(alloc, bytes, numbers)
+}
+
+/// The demand of so many units of the one good.
+fn demand_of(alloc: Global, goods: &Goods, units: u16) -> Option<Demand>
+    ensures { IfSome result (λ d. IsDemand goods.now d) }
+{
+    match Demand::read_quantities(alloc, goods, 1, &[units]) {
+        Ok(demand) => Some(demand),
+        Err(_) => None,
+    }
+}
+
 /// A report of some units of the one good.
-#[derive(Clone, Copy, Debug)]
+#[derive(Clone, Copy)]
 struct Line {
     /// Its number, from 1.
     bidder: u8,
@@ -37,24 +109,25 @@ fn report(bidder: u8, round: u32, units: u16) -> Line {
     }
 }
 
-/// Two units of one good among two bidders.
-fn plain_terms() -> Result<Terms, Fail> {
-    Ok(Terms::new(Goods::new(&[2])?, 2, 10)?)
+/// Offers the report of a demand to a book.
+fn offer_to(
+    alloc: Global,
+    book: &mut ClockBook<ListDisk>,
+    bidder: u8,
+    round: u32,
+    demand: Demand,
+) -> Offered
+    requires { IsDemand book.old.origin.terms.goods demand }
+    ensures { book.new.origin ≡ book.old.origin }
+{
+    let _kept = book.clock();
+    book.offer(alloc, bidder, round, demand)
 }
 
-/// The same, from a price of 3 on.
-fn priced_terms() -> Result<Terms, Fail> {
-    let goods = Goods::new(&[2])?;
-    let _one = goods.count();
-    match Prices::read(&[3]) {
-        Some(opening) => Ok(Terms::with_opening(goods, 2, 10, opening)?),
-        None => Err("no prices".into()),
-    }
-}
-
-/// A book of clock 0 of these terms.
+/// A book of clock 0 beside its terms.
 #[derive(Drop)]
 struct Stand {
+    alloc: Global,
     /// Those that the book was opened with.
     terms: Terms,
     /// Of clock 0, over a disk of which chosen calls fail.
@@ -63,16 +136,26 @@ struct Stand {
 }
 
 impl Stand {
-    fn offer(&mut self, alloc: Global, line: Line) -> Result<Offered, Fail> {
-        let demand = Demand::read_quantities(alloc, &self.terms.goods, 1, &[line.units])?;
-        let _kept = self.book.clock();
-        Ok(self.book.offer(alloc, line.bidder, line.round, demand))
+    /// A book on a disk.
+    fn open(alloc: Global, disk: ListDisk, terms: Terms) -> Option<Stand> {
+        match ClockBook::open(alloc, disk, &terms, 0, &DIGEST) {
+            Ok(book) => Some(Stand { alloc, terms, book }),
+            Err(_) => None,
+        }
     }
 
-    fn into_disk(self) -> ListDisk {
-        let Stand { terms: _, book } = self;
-        let (_clock, disk) = book.into_parts();
-        disk
+    /// What is answered to the offer of a report. There is no answer where there is no memory for its demand.
+    fn offer(&mut self, line: Line) -> Option<Offered> {
+        match demand_of(self.alloc, &self.terms.goods, line.units) {
+            None => None,
+            Some(demand) => Some(offer_to(
+                self.alloc,
+                &mut self.book,
+                line.bidder,
+                line.round,
+                demand,
+            )),
+        }
     }
 
     fn round(&self) -> u32 {
@@ -86,97 +169,142 @@ impl Stand {
     fn is_pending(&self) -> bool {
         self.book.is_pending()
     }
-}
 
-fn stand_on(alloc: Global, disk: ListDisk, terms: Terms) -> Result<Stand, Fail> {
-    match ClockBook::open(alloc, disk, &terms, 0, &DIGEST) {
-        Ok(book) => Ok(Stand { terms, book }),
-        Err(Unopened { disk: _, fault: _ }) => Err("not opened".into()),
+    fn into_disk(self) -> ListDisk {
+        let Stand {
+            alloc: _,
+            terms: _,
+            book,
+        } = self;
+        book.into_parts().1
     }
 }
 
-/// The calls with numbers from this one on, as many as these tests make.
-fn from_on(alloc: Global, first: u64, count: u64) -> Result<Vec<u64>, Fail> {
-    let mut failing = Vec::new(alloc);
-    for more in 0..count {
-        failing.push(first.saturating_add(more))?;
+/// A book on a file, of whose disk some calls fail.
+fn stand_with(alloc: Global, terms: Option<Terms>, file: &[u8], failing: Failing) -> Option<Stand> {
+    let terms = terms?;
+    let disk = disk_with(alloc, file, failing)?;
+    Stand::open(alloc, disk, terms)
+}
+
+/// What is asked of a book, and what it answers.
+#[derive(Clone, Copy)]
+enum Step {
+    /// The report of this bidder in this round, of so many units, is answered so.
+    Offers(u8, u32, u16, Offered),
+    /// Whether a report is pending.
+    Pends(bool),
+    /// How many entries there are.
+    Counts(u64),
+    /// The round of the clock.
+    Stands(u32),
+}
+
+/// Whether a step goes as it says.
+fn goes(stand: &mut Stand, step: Step) -> bool {
+    match step {
+        Step::Offers(bidder, round, units, answer) => {
+            stand.offer(report(bidder, round, units)) == Some(answer)
+        }
+        Step::Pends(pending) => stand.is_pending() == pending,
+        Step::Counts(entries) => stand.entries() == entries,
+        Step::Stands(round) => stand.round() == round,
     }
-    Ok(failing)
 }
 
-fn disk_with(alloc: Global, file: &[u8], first: u64, count: u64) -> Result<ListDisk, Fail> {
-    let failing = from_on(alloc, first, count)?;
-    Ok(ListDisk::new(alloc, file.to_vec(alloc)?, 600, failing)?)
+/// The number, from 1, of the first step that goes otherwise.
+fn first_other(stand: &mut Stand, steps: &[Step]) -> Option<u32> {
+    let mut number: u32 = 0;
+    for step in steps {
+        number = number.saturating_add(1);
+        if !goes(stand, *step) {
+            return Some(number);
+        }
+    }
+    None
 }
 
-/// A book on an empty file, of which so many calls fail from this one on.
-fn stand_with(alloc: Global, terms: Terms, first: u64, count: u64) -> Result<Stand, Fail> {
-    stand_on(alloc, disk_with(alloc, &[], first, count)?, terms)
+/// The same for a book that may not have been opened, which gives 0, and the file behind these steps.
+fn first_other_and_file(
+    alloc: Global,
+    stand: Option<Stand>,
+    steps: &[Step],
+) -> (Option<u32>, Option<Vec<u8>>) {
+    match stand {
+        None => (Some(0), None),
+        Some(mut stand) => {
+            let other = first_other(&mut stand, steps);
+            (other, file_of(alloc, &stand.into_disk()))
+        }
+    }
 }
 
-/// A book on a file.
-fn reopened(alloc: Global, file: &[u8]) -> Result<Stand, Fail> {
-    stand_on(alloc, disk_with(alloc, file, 1, 0)?, plain_terms()?)
+fn file_of(alloc: Global, disk: &ListDisk) -> Option<Vec<u8>> {
+    bytes_of(alloc, disk.bytes())
 }
 
-fn bytes_of(alloc: Global, stand: Stand) -> Result<Vec<u8>, Fail> {
-    let disk = stand.into_disk();
-    Ok(disk.bytes().to_vec(alloc)?)
+/// What goes otherwise on a new book, and on the book that is opened on its file behind these steps.
+fn others(
+    alloc: Global,
+    failing: Failing,
+    steps: &[Step],
+    again: &[Step],
+) -> (Option<u32>, Option<u32>) {
+    let stand = stand_with(alloc, plain_terms(), &[], failing);
+    let (other, file) = first_other_and_file(alloc, stand, steps);
+    match file {
+        None => (other, Some(0)),
+        Some(file) => (other, other_on(alloc, &file, again)),
+    }
+}
+
+/// The number, from 1, of the first step that goes otherwise on the book that is opened on a file.
+fn other_on(alloc: Global, file: &[u8], steps: &[Step]) -> Option<u32> {
+    let stand = stand_with(alloc, plain_terms(), file, NEVER);
+    first_other_and_file(alloc, stand, steps).0
+}
+
+const TOLD: &[Step] = &[
+    Step::Offers(1, 1, 2, Offered::Taken),
+    Step::Offers(1, 1, 2, Offered::Again),
+    Step::Offers(1, 1, 1, Offered::Refused(Judgement::Conflict(1))),
+    Step::Offers(2, 1, 2, Offered::Taken),
+    Step::Offers(1, 1, 2, Offered::Again),
+    Step::Offers(1, 1, 1, Offered::Refused(Judgement::Conflict(1))),
+    Step::Offers(1, 3, 1, Offered::Refused(Judgement::Early(2))),
+    Step::Offers(1, 0, 1, Offered::Refused(Judgement::NoRound)),
+    Step::Offers(1, 2, 1, Offered::Taken),
+    Step::Offers(2, 2, 1, Offered::Taken),
+    Step::Offers(1, 3, 1, Offered::Refused(Judgement::Over(2))),
+    Step::Offers(1, 2, 0, Offered::Refused(Judgement::Conflict(2))),
+    Step::Offers(1, 1, 2, Offered::Again),
+    Step::Offers(2, 2, 1, Offered::Again),
+    Step::Counts(4),
+];
+
+#[test]
+fn repeats_conflicts_and_late_reports_are_told(rt: HostRuntime) {
+    let again = [Step::Counts(4), Step::Stands(2)];
+    let found = others(rt.alloc(), NEVER, TOLD, &again);
+    assert_eq!(rt; found, (None, None));
 }
 
 #[test]
-fn repeats_conflicts_and_late_reports_are_told(rt: HostRuntime) -> Result<(), Fail> {
-    let alloc = rt.alloc();
-    let mut stand = stand_with(alloc, plain_terms()?, 1, 0)?;
-    let table: [(Line, Offered); 14] = [
-        (report(1, 1, 2), Offered::Taken),
-        (report(1, 1, 2), Offered::Again),
-        (report(1, 1, 1), Offered::Refused(Judgement::Conflict(1))),
-        (report(2, 1, 2), Offered::Taken),
-        (report(1, 1, 2), Offered::Again),
-        (report(1, 1, 1), Offered::Refused(Judgement::Conflict(1))),
-        (report(1, 3, 1), Offered::Refused(Judgement::Early(2))),
-        (report(1, 0, 1), Offered::Refused(Judgement::NoRound)),
-        (report(1, 2, 1), Offered::Taken),
-        (report(2, 2, 1), Offered::Taken),
-        (report(1, 3, 1), Offered::Refused(Judgement::Over(2))),
-        (report(1, 2, 0), Offered::Refused(Judgement::Conflict(2))),
-        (report(1, 1, 2), Offered::Again),
-        (report(2, 2, 1), Offered::Again),
-    ];
-    for (line, expected) in table {
-        assert_eq!(rt; stand.offer(alloc, line)?, expected);
+fn a_report_in_doubt_is_counted_or_dropped(rt: HostRuntime) {
+    // The call that fails, the last sync or the first write of an append, and what the second offer is answered.
+    for (failing, second) in [
+        (OPENING + APPEND, Offered::Again),
+        (OPENING + 1, Offered::Taken),
+    ] {
+        let steps = [
+            Step::Offers(1, 1, 2, Offered::DiskFault),
+            Step::Pends(true),
+            Step::Offers(1, 1, 2, second),
+            Step::Counts(2),
+        ];
+        let found = others(rt.alloc(), once(failing), &steps, &[Step::Counts(1)]);
+        assert_eq!(rt; found, (None, None), "call {failing}");
     }
-    assert_eq!(rt; stand.entries(), 4);
-    let file = bytes_of(alloc, stand)?;
-    let again = reopened(alloc, &file)?;
-    assert_eq!(rt; (again.entries(), again.round()), (4, 2));
-    Ok(())
-}
-
-/// What two offers of one report answer where this call on the disk fails, whether the report was pending between them, how many
-/// entries there are then, and how many once the file is opened anew.
-fn twice(alloc: Global, failing: u64) -> Result<(Offered, bool, Offered, u64, u64), Fail> {
-    let mut stand = stand_with(alloc, plain_terms()?, failing, 1)?;
-    let first = stand.offer(alloc, report(1, 1, 2))?;
-    let pending = stand.is_pending();
-    let second = stand.offer(alloc, report(1, 1, 2))?;
-    let entries = stand.entries();
-    let file = bytes_of(alloc, stand)?;
-    let again = reopened(alloc, &file)?;
-    Ok((first, pending, second, entries, again.entries()))
-}
-
-#[test]
-fn a_report_in_doubt_is_counted_or_dropped(rt: HostRuntime) -> Result<(), Fail> {
-    let last_sync = twice(rt.alloc(), OPENING + APPEND)?;
-    assert_eq!(rt; last_sync, (Offered::DiskFault, true, Offered::Again, 2, 1));
-    let first_write = twice(rt.alloc(), OPENING + 1)?;
-    assert_eq!(rt;
-        first_write,
-        (Offered::DiskFault, true, Offered::Taken, 2, 1)
-    );
-    Ok(())
 }
 
 /// The file of a journal of version 1 of clock 0 with one report.
@@ -185,29 +313,43 @@ const ONE_REPORT: [u8; 57] = [
     7, 7, 7, 7, 7, 7, 7, 7, 7, 7, 7, 7, 7, 7, 0xa5, 0, 0, 0, 10, 1, 0, 0, 0, 1, 1, 0, 1, 0, 2, 0,
 ];
 
-/// The file after one report.
-fn one_report(alloc: Global, terms: Terms) -> Result<Vec<u8>, Fail> {
-    let mut stand = stand_with(alloc, terms, 1, 0)?;
-    let _taken = stand.offer(alloc, report(1, 1, 2))?;
-    bytes_of(alloc, stand)
+const NO_STEPS: &[Step] = &[];
+
+const ONE_STEP: &[Step] = &[Step::Offers(1, 1, 2, Offered::Taken)];
+
+/// The file of a new book behind these steps.
+fn file_behind(alloc: Global, terms: Option<Terms>, steps: &[Step]) -> Option<Vec<u8>> {
+    let stand = stand_with(alloc, terms, &[], NEVER);
+    first_other_and_file(alloc, stand, steps).1
 }
 
-fn empty_file(alloc: Global, terms: Terms) -> Result<Vec<u8>, Fail> {
-    bytes_of(alloc, stand_with(alloc, terms, 1, 0)?)
+/// Whether a file has just these bytes.
+fn has_bytes(file: Option<Vec<u8>>, wanted: &[u8]) -> bool {
+    match file {
+        None => false,
+        Some(bytes) => bytes.as_slice() == wanted,
+    }
+}
+
+/// How many bytes a file has, and its byte at a place.
+fn length_and_byte(file: Option<Vec<u8>>, place: usize) -> (usize, Option<u8>) {
+    match file {
+        None => (0, None),
+        Some(bytes) => (bytes.len(), bytes.get(place).copied()),
+    }
 }
 
 #[test]
-fn an_unformed_file_is_formed_in_the_version_of_the_terms(rt: HostRuntime) -> Result<(), Fail> {
+fn an_unformed_file_is_formed_in_the_version_of_the_terms(rt: HostRuntime) {
     let alloc = rt.alloc();
-    assert_eq!(rt; empty_file(alloc, plain_terms()?)?.len(), 42);
-    assert_eq!(rt;
-        one_report(alloc, plain_terms()?)?.as_slice(),
-        ONE_REPORT.as_slice()
-    );
-    assert_eq!(rt; empty_file(alloc, priced_terms()?)?.len(), 48);
-    let priced = one_report(alloc, priced_terms()?)?;
-    assert_eq!(rt; (priced.len(), priced.get(47).copied()), (63, Some(0xa5)));
-    Ok(())
+    let empty = file_behind(alloc, plain_terms(), NO_STEPS);
+    assert_eq!(rt; length_and_byte(empty, 0).0, 42);
+    let one = file_behind(alloc, plain_terms(), ONE_STEP);
+    assert!(rt; has_bytes(one, &ONE_REPORT));
+    let priced = file_behind(alloc, priced_terms(), NO_STEPS);
+    assert_eq!(rt; length_and_byte(priced, 0).0, 48);
+    let one = file_behind(alloc, priced_terms(), ONE_STEP);
+    assert_eq!(rt; length_and_byte(one, 47), (63, Some(0xa5)));
 }
 
 /// The four reports that are to be taken.
@@ -221,86 +363,109 @@ fn four() -> [Line; 4] {
 }
 
 /// How many of the four reports are answered `Taken`, in their order.
-fn taken_of(alloc: Global, stand: &mut Stand) -> Result<u64, Fail> {
+fn taken_of(stand: &mut Stand) -> u64 {
     let mut taken = 0u64;
     for line in four() {
-        if stand.offer(alloc, line)? == Offered::Taken {
+        if stand.offer(line) == Some(Offered::Taken) {
             taken = taken.saturating_add(1);
         }
     }
-    Ok(taken)
+    taken
 }
 
 /// Whether the four reports are answered `Again`, as many as these, and `Taken` from then on.
-fn goes_on_behind(alloc: Global, stand: &mut Stand, found: u64) -> Result<bool, Fail> {
+fn goes_on_behind(stand: &mut Stand, found: u64) -> bool {
     let mut left = found;
     let mut as_wanted = true;
     for line in four() {
-        let wanted = if left > 0 {
-            Offered::Again
-        } else {
-            Offered::Taken
-        };
+        let wanted = wanted_with(left);
         left = left.saturating_sub(1);
-        as_wanted = stand.offer(alloc, line)? == wanted && as_wanted;
+        as_wanted = stand.offer(line) == Some(wanted) && as_wanted;
     }
-    Ok(as_wanted)
+    as_wanted
+}
+
+/// The answer to a report where so many are left that were found.
+fn wanted_with(left: u64) -> Offered {
+    if left > 0 {
+        Offered::Again
+    } else {
+        Offered::Taken
+    }
 }
 
 /// What a crash may leave in the ranges that were written since the last good sync.
 const FILLS: [Fill; 4] = [Fill::Old, Fill::New, Fill::Byte(0), Fill::Byte(0xa5)];
 
-/// The four reports, offered to a book whose disk fails from some call on.
-#[derive(Drop)]
-struct Stopped {
-    /// How many were answered `Taken`.
-    taken: u64,
-    /// The disk then.
-    disk: ListDisk,
+/// How many of the four reports are answered `Taken` by a book of whose disk the calls fail from this one on, and the disk then.
+fn stopped_at(alloc: Global, first: u64) -> Option<(u64, ListDisk)> {
+    match stand_with(alloc, plain_terms(), &[], from_on(first)) {
+        None => None,
+        Some(mut stand) => {
+            let taken = taken_of(&mut stand);
+            Some((taken, stand.into_disk()))
+        }
+    }
 }
 
-/// Where the calls fail from this one on.
-fn stopped_at(alloc: Global, first: u64) -> Result<Stopped, Fail> {
-    let mut stand = stand_with(alloc, plain_terms()?, first, 40)?;
-    let taken = taken_of(alloc, &mut stand)?;
-    Ok(Stopped {
-        taken,
-        disk: stand.into_disk(),
-    })
+/// How many of the four reports are answered `Taken` where the calls fail from this one on, and what a crash may leave then.
+fn crashed_at(alloc: Global, first: u64, fill: Fill) -> Option<(u64, Vec<u8>)> {
+    match stopped_at(alloc, first) {
+        None => None,
+        Some((taken, disk)) => match image_of(alloc, &disk, fill) {
+            None => None,
+            Some(image) => Some((taken, image)),
+        },
+    }
 }
 
-/// A book on what a crash may leave of a disk.
-fn opened_behind_a_crash(alloc: Global, disk: &ListDisk, fill: Fill) -> Result<Stand, Fail> {
-    let image = disk.image(alloc, fill)?;
-    reopened(alloc, &image)
+fn image_of(alloc: Global, disk: &ListDisk, fill: Fill) -> Option<Vec<u8>> {
+    disk.image(alloc, fill).ok()
+}
+
+/// How many entries a book has that is opened on a file, whether it takes the four reports behind those, and how many it has then.
+fn found_on(alloc: Global, file: &[u8]) -> Option<(u64, bool, u64)> {
+    match stand_with(alloc, plain_terms(), file, NEVER) {
+        None => None,
+        Some(mut stand) => {
+            let found = stand.entries();
+            let goes_on = goes_on_behind(&mut stand, found);
+            Some((found, goes_on, stand.entries()))
+        }
+    }
 }
 
 /// Whether what a crash may leave, opened anew, has every report that was taken and at most the one in hand, and takes the others.
-fn keeps_what_was_taken(alloc: Global, first: u64, fill: Fill) -> Result<bool, Fail> {
-    let Stopped { taken, disk } = stopped_at(alloc, first)?;
-    let mut again = opened_behind_a_crash(alloc, &disk, fill)?;
-    let found = again.entries();
-    let goes_on = goes_on_behind(alloc, &mut again, found)?;
-    Ok(goes_on && again.entries() == 4 && taken <= found && found <= taken.saturating_add(1))
+fn keeps_what_was_taken(alloc: Global, first: u64, fill: Fill) -> bool {
+    let Some((taken, image)) = crashed_at(alloc, first, fill) else {
+        return false;
+    };
+    match found_on(alloc, &image) {
+        None => false,
+        Some((found, goes_on, entries)) => {
+            goes_on && entries == 4 && taken <= found && found <= taken.saturating_add(1)
+        }
+    }
 }
 
 /// How many reports are answered `Taken` where the calls fail from this one on.
-fn taken_until(alloc: Global, first: u64) -> Result<u64, Fail> {
-    let Stopped { taken, disk: _ } = stopped_at(alloc, first)?;
-    Ok(taken)
+fn taken_until(alloc: Global, first: u64) -> Option<u64> {
+    match stopped_at(alloc, first) {
+        None => None,
+        Some((taken, _)) => Some(taken),
+    }
 }
 
 #[test]
-fn each_crash_behind_a_stop_leaves_what_was_taken(rt: HostRuntime) -> Result<(), Fail> {
+fn each_crash_behind_a_stop_leaves_what_was_taken(rt: HostRuntime) {
     // The first call that no run makes.
     let end = OPENING + 4 * APPEND + 1;
     for first in OPENING + 1..=end {
         for fill in FILLS {
-            let kept = keeps_what_was_taken(rt.alloc(), first, fill)?;
+            let kept = keeps_what_was_taken(rt.alloc(), first, fill);
             assert!(rt; kept, "call {first} {fill:?}");
         }
     }
-    assert_eq!(rt; taken_until(rt.alloc(), end - 1)?, 3);
-    assert_eq!(rt; taken_until(rt.alloc(), end)?, 4);
-    Ok(())
+    assert_eq!(rt; taken_until(rt.alloc(), end - 1), Some(3));
+    assert_eq!(rt; taken_until(rt.alloc(), end), Some(4));
 }

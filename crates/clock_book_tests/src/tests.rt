@@ -5,19 +5,20 @@ use house_io::{ListDisk, SureDisk};
 use lot_base::{Goods, Phase, Prices, Terms};
 use recovery::{Broken, JournalCause};
 use std::alloc::Global;
-use std::process::Abort;
-use std::test::Fail;
 
 /// The digest of the auction.
 const DIGEST: [u8; 32] = [7; 32];
 
 /// Two units of one good among two bidders.
-fn terms() -> Result<Terms, Fail> {
-    Ok(Terms::new(Goods::new(&[2])?, 2, 10)?)
+fn terms() -> Option<Terms> {
+    match Goods::new(&[2]) {
+        Ok(goods) => Terms::new(goods, 2, 10).ok(),
+        Err(_) => None,
+    }
 }
 
 /// A report of some units of the one good.
-#[derive(Clone, Copy, Debug)]
+#[derive(Clone, Copy)]
 struct Line {
     bidder: u8,
     round: u8,
@@ -33,28 +34,51 @@ fn entry(bidder: u8, round: u8, units: u8) -> Line {
 }
 
 /// The front of a journal of version 1: clock 0's, with 32 times this byte.
-fn front_of(alloc: Global, digest: u8) -> Result<Vec<u8>, Fail> {
+fn front_of(alloc: Global, digest: u8) -> Option<Vec<u8>> {
     let mut file = Vec::new(alloc);
-    file.extend_from_slice(&[0xa5, 0x41, 0x48, 0x4a, 0x31, 0, 0, 0, 0])?;
-    file.extend_from_slice(&[digest; 32])?;
-    Ok(file)
+    file.extend_from_slice(&[0xa5, 0x41, 0x48, 0x4a, 0x31, 0, 0, 0, 0])
+        .ok()?;
+    file.extend_from_slice(&[digest; 32]).ok()?;
+    Some(file)
 }
 
-/// Appends a record after an open gate.
-fn push_record(file: &mut Vec<u8>, line: Line) -> Result<(), Fail> {
-    file.extend_from_slice(&[0xa5, 0, 0, 0, 10])?;
-    file.extend_from_slice(&[line.bidder, 0, 0, 0, line.round, 1, 0, 1, 0, line.units])?;
-    Ok(())
+/// Appends a record after an open gate, if there is memory.
+fn push_record(file: &mut Vec<u8>, line: Line) -> bool {
+    let record = [
+        0xa5,
+        0,
+        0,
+        0,
+        10,
+        line.bidder,
+        0,
+        0,
+        0,
+        line.round,
+        1,
+        0,
+        1,
+        0,
+        line.units,
+    ];
+    file.extend_from_slice(&record).is_ok()
+}
+
+/// The journal of these reports behind this front, whose last gate has this byte.
+fn with_records(front: Vec<u8>, rows: &[Line], last: u8) -> Option<Vec<u8>> {
+    let mut file = front;
+    for line in rows {
+        if !push_record(&mut file, *line) {
+            return None;
+        }
+    }
+    file.push(last).ok()?;
+    Some(file)
 }
 
 /// The journal of these reports, whose last gate has this byte.
-fn journal_of(alloc: Global, rows: &[Line], last: u8) -> Result<Vec<u8>, Fail> {
-    let mut file = front_of(alloc, 7)?;
-    for line in rows {
-        push_record(&mut file, *line)?;
-    }
-    file.push(last)?;
-    Ok(file)
+fn journal_of(alloc: Global, rows: &[Line], last: u8) -> Option<Vec<u8>> {
+    with_records(front_of(alloc, 7)?, rows, last)
 }
 
 /// How a clock stands.
@@ -85,32 +109,35 @@ fn first_of(prices: &Prices) -> u32 {
     prices.get(0)
 }
 
-fn disk_of(alloc: Global, file: &[u8]) -> Result<SureDisk, Fail> {
-    Ok(SureDisk::new(alloc, file.to_vec(alloc)?, 8)?)
-}
+/// What is read as clock 0, or why nothing is.
+type Read = Result<Seen, OpenFault>;
 
-/// What is read from a file as clock 0.
-fn read_from(rt: &impl Abort, alloc: Global, file: &[u8]) -> Result<Result<Seen, OpenFault>, Fail> {
-    let terms = terms()?;
-    assert!(rt; terms.bidders > 0);
-    let mut disk = disk_of(alloc, file)?;
-    match read_clock(alloc, &mut disk, &terms, 0, &DIGEST) {
-        Ok(clock) => Ok(Ok(seen_of(&clock))),
-        Err(fault) => Ok(Err(fault)),
+fn read_sure(alloc: Global, disk: &mut SureDisk, terms: &Terms) -> Read {
+    match read_clock(alloc, disk, terms, 0, &DIGEST) {
+        Ok(clock) => Ok(seen_of(&clock)),
+        Err(fault) => Err(fault),
     }
 }
 
-/// What is read from a journal of these reports.
-fn read_rows(
-    rt: &impl Abort,
-    alloc: Global,
-    rows: &[Line],
-    last: u8,
-) -> Result<Result<Seen, OpenFault>, Fail> {
-    read_from(rt, alloc, &journal_of(alloc, rows, last)?)
+fn sure_disk(alloc: Global, file: Vec<u8>) -> Option<SureDisk> {
+    SureDisk::new(alloc, file, 8).ok()
 }
 
-fn running(round: u32, missing: u8, price: u32) -> Result<Seen, OpenFault> {
+/// What is read from a file.
+fn read_from(alloc: Global, file: Option<Vec<u8>>) -> Option<Read> {
+    let terms = terms()?;
+    match sure_disk(alloc, file?) {
+        None => None,
+        Some(mut disk) => Some(read_sure(alloc, &mut disk, &terms)),
+    }
+}
+
+/// What is read from a journal of these reports, whose last gate has this byte.
+fn read_rows(alloc: Global, rows: &[Line], last: u8) -> Option<Read> {
+    read_from(alloc, journal_of(alloc, rows, last))
+}
+
+fn running(round: u32, missing: u8, price: u32) -> Read {
     Ok(Seen {
         round,
         phase: Phase::Running,
@@ -119,86 +146,96 @@ fn running(round: u32, missing: u8, price: u32) -> Result<Seen, OpenFault> {
     })
 }
 
-#[test]
-fn a_clock_stands_as_its_journal_says(rt: HostRuntime) -> Result<(), Fail> {
-    let none = read_from(&rt, rt.alloc(), &[])?;
-    assert_eq!(rt; none, running(1, 1, 0));
-    let one = read_rows(&rt, rt.alloc(), &[entry(1, 1, 2)], 0)?;
-    assert_eq!(rt; one, running(1, 2, 0));
-    let two = read_rows(&rt, rt.alloc(), &[entry(1, 1, 2), entry(2, 1, 2)], 0)?;
-    assert_eq!(rt; two, running(2, 1, 1));
-    Ok(())
-}
-
-fn not_acceptable(number: u32, judgement: Judgement) -> Result<Seen, OpenFault> {
+fn not_acceptable(number: u32, judgement: Judgement) -> Read {
     Err(OpenFault::NotAcceptable { number, judgement })
 }
 
-fn broken(number: u32, cause: JournalCause) -> Result<Seen, OpenFault> {
+fn broken(number: u32, cause: JournalCause) -> Read {
     Err(OpenFault::Broken(Broken { number, cause }))
 }
 
 #[test]
-fn the_first_report_that_is_not_taken_is_told(rt: HostRuntime) -> Result<(), Fail> {
-    let early = read_rows(&rt, rt.alloc(), &[entry(1, 2, 2)], 0)?;
-    assert_eq!(rt; early, not_acceptable(1, Judgement::Early(1)));
-    let again = read_rows(&rt, rt.alloc(), &[entry(1, 1, 2), entry(1, 1, 2)], 0)?;
-    assert_eq!(rt; again, not_acceptable(2, Judgement::Again));
-    let conflict = read_rows(
-        &rt,
-        rt.alloc(),
-        &[entry(2, 1, 2), entry(2, 1, 1), entry(1, 9, 1)],
-        0,
-    )?;
-    assert_eq!(rt; conflict, not_acceptable(2, Judgement::Conflict(1)));
-    Ok(())
+fn a_clock_stands_as_its_journal_says(rt: HostRuntime) {
+    let none = read_from(rt.alloc(), Some(Vec::new(rt.alloc())));
+    assert_eq!(rt; none, Some(running(1, 1, 0)));
+    let one = read_rows(rt.alloc(), &[entry(1, 1, 2)], 0);
+    assert_eq!(rt; one, Some(running(1, 2, 0)));
+    let two = read_rows(rt.alloc(), &[entry(1, 1, 2), entry(2, 1, 2)], 0);
+    assert_eq!(rt; two, Some(running(2, 1, 1)));
 }
 
 #[test]
-fn the_smaller_record_is_told(rt: HostRuntime) -> Result<(), Fail> {
-    let before = read_rows(&rt, rt.alloc(), &[entry(1, 2, 2)], 0xa5)?;
-    assert_eq!(rt; before, not_acceptable(1, Judgement::Early(1)));
-    let behind = read_rows(&rt, rt.alloc(), &[entry(1, 1, 2)], 0xa5)?;
-    assert_eq!(rt; behind, broken(2, JournalCause::Damaged));
-    let stranger = read_rows(&rt, rt.alloc(), &[entry(3, 1, 2), entry(1, 2, 2)], 0)?;
-    assert_eq!(rt; stranger, broken(1, JournalCause::NotReport));
-    Ok(())
+fn the_first_report_that_is_not_taken_is_told(rt: HostRuntime) {
+    let early = read_rows(rt.alloc(), &[entry(1, 2, 2)], 0);
+    assert_eq!(rt; early, Some(not_acceptable(1, Judgement::Early(1))));
+    let again = read_rows(rt.alloc(), &[entry(1, 1, 2), entry(1, 1, 2)], 0);
+    assert_eq!(rt; again, Some(not_acceptable(2, Judgement::Again)));
+    let rows = [entry(2, 1, 2), entry(2, 1, 1), entry(1, 9, 1)];
+    let conflict = read_rows(rt.alloc(), &rows, 0);
+    assert_eq!(rt; conflict, Some(not_acceptable(2, Judgement::Conflict(1))));
 }
 
 #[test]
-fn a_journal_of_another_auction_is_broken(rt: HostRuntime) -> Result<(), Fail> {
-    let mut file = front_of(rt.alloc(), 9)?;
-    file.push(0)?;
-    let other = read_from(&rt, rt.alloc(), &file)?;
-    assert_eq!(rt; other, broken(0, JournalCause::OtherAuction([9; 32])));
-    Ok(())
+fn the_smaller_record_is_told(rt: HostRuntime) {
+    let before = read_rows(rt.alloc(), &[entry(1, 2, 2)], 0xa5);
+    assert_eq!(rt; before, Some(not_acceptable(1, Judgement::Early(1))));
+    let behind = read_rows(rt.alloc(), &[entry(1, 1, 2)], 0xa5);
+    assert_eq!(rt; behind, Some(broken(2, JournalCause::Damaged)));
+    let stranger = read_rows(rt.alloc(), &[entry(3, 1, 2), entry(1, 2, 2)], 0);
+    assert_eq!(rt; stranger, Some(broken(1, JournalCause::NotReport)));
+}
+
+/// A journal of no reports, of an auction with 32 times this byte.
+fn journal_of_another(alloc: Global, digest: u8) -> Option<Vec<u8>> {
+    with_records(front_of(alloc, digest)?, &[], 0)
+}
+
+#[test]
+fn a_journal_of_another_auction_is_broken(rt: HostRuntime) {
+    let other = read_from(rt.alloc(), journal_of_another(rt.alloc(), 9));
+    assert_eq!(rt; other, Some(broken(0, JournalCause::OtherAuction([9; 32]))));
+}
+
+/// The number of the one call that fails.
+fn one_call(alloc: Global, call: u64) -> Option<Vec<u64>> {
+    let mut failing = Vec::new(alloc);
+    failing.push(call).ok()?;
+    Some(failing)
+}
+
+fn list_disk(alloc: Global, file: Vec<u8>, failing: Vec<u64>) -> Option<ListDisk> {
+    ListDisk::new(alloc, file, 8, failing).ok()
 }
 
 /// A disk of which the call with this number fails, with the journal of one report.
-fn failing_disk(alloc: Global, call: u64) -> Result<ListDisk, Fail> {
-    let mut failing = Vec::new(alloc);
-    failing.push(call)?;
+fn failing_disk(alloc: Global, call: u64) -> Option<ListDisk> {
+    let failing = one_call(alloc, call)?;
     let file = journal_of(alloc, &[entry(1, 1, 2)], 0)?;
-    Ok(ListDisk::new(alloc, file, 8, failing)?)
+    list_disk(alloc, file, failing)
+}
+
+/// The fault of a reading, if there is one.
+fn fault_of(alloc: Global, disk: &mut ListDisk, terms: &Terms) -> Option<OpenFault> {
+    match read_clock(alloc, disk, terms, 0, &DIGEST) {
+        Ok(_) => None,
+        Err(fault) => Some(fault),
+    }
 }
 
 /// The fault of a reading of which the call with this number fails.
-fn fault_at(rt: &impl Abort, alloc: Global, call: u64) -> Result<Option<OpenFault>, Fail> {
+fn fault_at(alloc: Global, call: u64) -> Option<Option<OpenFault>> {
     let terms = terms()?;
-    assert!(rt; terms.bidders > 0);
-    let mut disk = failing_disk(alloc, call)?;
-    match read_clock(alloc, &mut disk, &terms, 0, &DIGEST) {
-        Ok(_) => Ok(None),
-        Err(fault) => Ok(Some(fault)),
+    match failing_disk(alloc, call) {
+        None => None,
+        Some(mut disk) => Some(fault_of(alloc, &mut disk, &terms)),
     }
 }
 
 #[test]
-fn each_call_of_a_reading_may_fail(rt: HostRuntime) -> Result<(), Fail> {
+fn each_call_of_a_reading_may_fail(rt: HostRuntime) {
     for call in 0..6 {
-        let fault = fault_at(&rt, rt.alloc(), call)?;
-        assert_eq!(rt; fault, Some(OpenFault::DiskFault), "call {call}");
+        let fault = fault_at(rt.alloc(), call);
+        assert_eq!(rt; fault, Some(Some(OpenFault::DiskFault)), "call {call}");
     }
-    assert_eq!(rt; fault_at(&rt, rt.alloc(), 6)?, None);
-    Ok(())
+    assert_eq!(rt; fault_at(rt.alloc(), 6), Some(None));
 }
