@@ -1,5 +1,4 @@
 //! Two passes of a house over disks in memory.
-ghost use Rattle.std.specs.Prelude.{◌≡◌, ◌+◌, length, IfOk};
 ghost use Rattle.clock_family_tests.specs.Ready.{IsReady};
 
 use auction_file::{Auction, MOST_BYTES, read};
@@ -10,9 +9,7 @@ use demand_set::Demand;
 use house_io::{Disk, ListDisk};
 use lot_base::{Phase, Terms};
 use std::alloc::Global;
-use std::process::Abort;
 use std::sync::Wait;
-use std::test::Fail;
 
 /// Two units of one good for two bidders.
 const FILE: &str = r#"
@@ -32,34 +29,58 @@ name = "bob"
 token = "2cf24dba5fb0a30e26e83b2ac5b9e29e1b161e5c1fa7425e73043362938b9824"
 "#;
 
-fn auction(rt: &impl Abort, alloc: Global) -> Result<Auction, Fail> {
-    assert!(rt; FILE.len() <= MOST_BYTES);
-    Ok(read(alloc, FILE.as_bytes())?)
+fn auction(alloc: Global) -> Option<Auction> {
+    if FILE.len() > MOST_BYTES {
+        return None;
+    }
+    match read(alloc, FILE.as_bytes()) {
+        Ok(auction) => Some(auction),
+        Err(_) => None,
+    }
+}
+
+/// The number of the one call that fails, if one is given.
+fn plan_of(alloc: Global, failing: Option<u64>) -> Option<Vec<u64>> {
+    let mut plan = Vec::new(alloc);
+    match failing {
+        None => Some(plan),
+        Some(call) => match plan.push(call) {
+            Ok(()) => Some(plan),
+            Err(_) => None,
+        },
+    }
+}
+
+fn disk_of(alloc: Global, plan: Vec<u64>) -> Option<ListDisk> {
+    ListDisk::new(alloc, Vec::new(alloc), 600, plan).ok()
 }
 
 /// An empty disk, of which the call with this number fails, if one is given.
-fn empty_disk(alloc: Global, failing: Option<u64>) -> Result<ListDisk, Fail> {
-    let mut plan = Vec::new(alloc);
-    if let Some(call) = failing {
-        plan.push(call)?;
+fn empty_disk(alloc: Global, failing: Option<u64>) -> Option<ListDisk> {
+    match plan_of(alloc, failing) {
+        None => None,
+        Some(plan) => disk_of(alloc, plan),
     }
-    Ok(ListDisk::new(alloc, Vec::new(alloc), 600, plan)?)
 }
 
-/// An empty disk for each clock. A call on that of clock 0 may be chosen to fail.
-fn empty_disks(
-    alloc: Global,
-    auction: &Auction,
-    failing: Option<u64>,
-) -> Result<Vec<ListDisk>, Fail>
-    ensures { IfOk result (λ disks. length disks.items ≡ auction.now.terms.bidders + 1) }
-{
-    let mut disks = Vec::new(alloc);
-    disks.push(empty_disk(alloc, failing)?)?;
-    for _clock in 0..auction.terms.bidders {
-        disks.push(empty_disk(alloc, None)?)?;
+/// Puts an empty disk behind others, if there is memory.
+fn push_disk(alloc: Global, disks: &mut Vec<ListDisk>, failing: Option<u64>) -> bool {
+    match empty_disk(alloc, failing) {
+        None => false,
+        Some(disk) => disks.push(disk).is_ok(),
     }
-    Ok(disks)
+}
+
+/// So many empty disks. A call on the first may be chosen to fail.
+fn empty_disks(alloc: Global, count: usize, failing: Option<u64>) -> Option<Vec<ListDisk>> {
+    let mut disks = Vec::new(alloc);
+    let mut planned = failing;
+    for _ in 0..count {
+        if !push_disk(alloc, &mut disks, planned.take()) {
+            return None;
+        }
+    }
+    Some(disks)
 }
 
 /// A report of some units of the one good, and the clock to which a pass offers it.
@@ -179,10 +200,26 @@ fn take_turn<D: Disk, T: Wait>(
     }
 }
 
-/// The first turn that went otherwise than it should, and the books of the closed house.
-struct Closed<D: Disk> {
-    other: Option<Turn>,
-    books: Vec<ClockBook<D>>,
+/// Takes these turns, and tells the first that went otherwise than it should.
+fn first_other<D: Disk, T: Wait>(
+    rt: &T,
+    alloc: Global,
+    terms: &Terms,
+    house: &House<D>,
+    passes: &mut Vec<HousePass<D>>,
+    turns: &[Turn],
+) -> Option<Turn>
+    requires { IsReady terms.now house.now passes.old.items }
+    ensures { IsReady terms.now house.now passes.new.items }
+{
+    let mut other = None;
+    for turn in turns {
+        let found = take_turn(rt, alloc, terms, house, passes, turn.line);
+        if other.is_none() && found != *turn {
+            other = Some(found);
+        }
+    }
+    other
 }
 
 /// Takes these turns, and closes the house.
@@ -193,29 +230,24 @@ fn take_turns<D: Disk, T: Wait>(
     house: House<D>,
     mut passes: Vec<HousePass<D>>,
     turns: &[Turn],
-) -> Closed<D>
+) -> (Option<Turn>, Vec<ClockBook<D>>)
     requires { IsReady terms.now house passes.items }
 {
-    let mut other = None;
-    for turn in turns {
-        let found = take_turn(rt, alloc, terms, &house, &mut passes, turn.line);
-        if other.is_none() && found != *turn {
-            other = Some(found);
-        }
-    }
-    let books = house.close(passes);
-    Closed { other, books }
+    let other = first_other(rt, alloc, terms, &house, &mut passes, turns);
+    (other, house.close(passes))
 }
 
-/// Opens a house of two passes over empty disks, takes these turns, and closes it.
+/// Opens a house of two passes over these disks, one for each clock, takes these turns, and closes it.
 fn run_turns<T: Wait>(
     rt: &T,
     alloc: Global,
     auction: &Auction,
-    failing: Option<u64>,
+    disks: Vec<ListDisk>,
     turns: &[Turn],
-) -> Result<Closed<ListDisk>, Fail> {
-    let disks = empty_disks(alloc, auction, failing)?;
+) -> Option<(Option<Turn>, Vec<ClockBook<ListDisk>>)> {
+    if disks.len() != auction.terms.bidders as usize + 1 {
+        return None;
+    }
     match House::open(alloc, auction, disks, 2) {
         Err(
             NotOpen {
@@ -223,8 +255,8 @@ fn run_turns<T: Wait>(
                 clock: _clock,
                 fault: _fault,
             },
-        ) => Err("not opened".into()),
-        Ok((house, passes)) => Ok(take_turns(rt, alloc, &auction.terms, house, passes, turns)),
+        ) => None,
+        Ok((house, passes)) => Some(take_turns(rt, alloc, &auction.terms, house, passes, turns)),
     }
 }
 
@@ -280,31 +312,63 @@ fn ending_of(book: ClockBook<ListDisk>) -> Ending {
     }
 }
 
-/// Takes these turns, and tells the first that went otherwise, and how the books end.
-fn outcome<T: Wait>(
+/// How these books end, in their order.
+fn endings_of(alloc: Global, books: Vec<ClockBook<ListDisk>>) -> Option<Vec<Ending>> {
+    let mut ends = Vec::new(alloc);
+    for book in books {
+        if ends.push(ending_of(book)).is_err() {
+            return None;
+        }
+    }
+    Some(ends)
+}
+
+/// Whether the books end so.
+fn end_so(alloc: Global, books: Vec<ClockBook<ListDisk>>, wanted: &[Ending]) -> bool {
+    match endings_of(alloc, books) {
+        None => false,
+        Some(ends) => ends.as_slice() == wanted,
+    }
+}
+
+/// Takes these turns in an auction over empty disks. It tells the first that went otherwise, and whether the books end as wanted.
+fn outcome_in<T: Wait>(
     rt: &T,
     alloc: Global,
     auction: &Auction,
     failing: Option<u64>,
     turns: &[Turn],
-) -> Result<(Option<Turn>, Vec<Ending>), Fail> {
-    let Closed { other, books } = run_turns(rt, alloc, auction, failing, turns)?;
-    let mut ends = Vec::new(alloc);
-    for book in books {
-        ends.push(ending_of(book))?;
+    wanted: &[Ending],
+) -> Option<(Option<Turn>, bool)> {
+    let disks = empty_disks(alloc, auction.terms.bidders as usize + 1, failing)?;
+    match run_turns(rt, alloc, auction, disks, turns) {
+        None => None,
+        Some((other, books)) => Some((other, end_so(alloc, books, wanted))),
     }
-    Ok((other, ends))
+}
+
+/// The same in the auction of two bidders.
+fn outcome<T: Wait>(
+    rt: &T,
+    alloc: Global,
+    failing: Option<u64>,
+    turns: &[Turn],
+    wanted: &[Ending],
+) -> Option<(Option<Turn>, bool)> {
+    match auction(alloc) {
+        None => None,
+        Some(auction) => outcome_in(rt, alloc, &auction, failing, turns, wanted),
+    }
 }
 
 fn refused(judgement: Judgement) -> Offered {
     Offered::Refused(judgement)
 }
 
-#[test]
-fn each_pass_is_shown_what_the_other_offered(rt: HostRuntime) -> Result<(), Fail> {
-    let auction = auction(&rt, rt.alloc())?;
+/// The turns of two passes, one after the other.
+fn turns_in_turn() -> [Turn; 10] {
     let opened = running(1, 0);
-    let turns = [
+    [
         went(report(0, 0, 1, 1, 2), opened, Offered::Taken, opened),
         went(report(1, 0, 1, 1, 2), opened, Offered::Again, opened),
         went(
@@ -345,16 +409,18 @@ fn each_pass_is_shown_what_the_other_offered(rt: HostRuntime) -> Result<(), Fail
             refused(Judgement::Early(1)),
             opened,
         ),
-    ];
-    let (other, ends) = outcome(&rt, rt.alloc(), &auction, None, &turns)?;
-    assert_eq!(rt; other, None);
+    ]
+}
+
+#[test]
+fn each_pass_is_shown_what_the_other_offered(rt: HostRuntime) {
     let wanted = [
         ends_with(ended(2, 1), 4, 102),
-        ends_with(opened, 0, 42),
+        ends_with(running(1, 0), 0, 42),
         ends_with(ended(1, 0), 1, 57),
     ];
-    assert_eq!(rt; ends.as_slice(), wanted.as_slice());
-    Ok(())
+    let found = outcome(&rt, rt.alloc(), None, &turns_in_turn(), &wanted);
+    assert_eq!(rt; found, Some((None, true)));
 }
 
 /// The number, from 0, of the last call of a disk in the opening of an empty file.
@@ -387,9 +453,18 @@ fn other_first(counted: Seen) -> [Turn; 5] {
     ]
 }
 
+/// Whether these turns go as they should where this call on the disk of clock 0 fails, and its book ends so, and the others as ever.
+fn goes<T: Wait>(rt: &T, alloc: Global, failing: u64, turns: &[Turn], end: Ending) -> bool {
+    let wanted = [
+        end,
+        ends_with(running(1, 0), 0, 42),
+        ends_with(ended(1, 0), 1, 57),
+    ];
+    outcome(rt, alloc, Some(failing), turns, &wanted) == Some((None, true))
+}
+
 #[test]
-fn a_report_in_doubt_is_counted_once(rt: HostRuntime) -> Result<(), Fail> {
-    let auction = auction(&rt, rt.alloc())?;
+fn a_report_in_doubt_is_counted_once(rt: HostRuntime) {
     let first_write = OPENING + 1;
     let last_sync = OPENING + APPEND;
     // With the mark of the fault.
@@ -402,14 +477,9 @@ fn a_report_in_doubt_is_counted_once(rt: HostRuntime) -> Result<(), Fail> {
         (last_sync, other_first(running(2, 1)), both),
     ];
     for (failing, turns, end) in cases {
-        let (other, ends) = outcome(&rt, rt.alloc(), &auction, Some(failing), &turns)?;
-        assert_eq!(rt; other, None, "call {failing}");
-        let wanted = [
-            end,
-            ends_with(running(1, 0), 0, 42),
-            ends_with(ended(1, 0), 1, 57),
-        ];
-        assert_eq!(rt; ends.as_slice(), wanted.as_slice(), "call {failing}");
+        assert!(rt;
+            goes(&rt, rt.alloc(), failing, &turns, end),
+            "call {failing} {end:?}"
+        );
     }
-    Ok(())
 }
