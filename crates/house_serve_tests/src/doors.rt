@@ -1,61 +1,129 @@
 //! Sessions at a door.
-use crate::tests::{BYE, HELLO, QUIT, REPORT, TAKEN, WELCOME, auction, joined, sure_link};
+use crate::tests::{
+    BYE, HELLO, QUIT, REPORT, TAKEN, WELCOME, auction, is_written, joined, list_link_with,
+    sure_link,
+};
 use auction_file::Auction;
-use house_io::{ListDoor, ListLink, SureDoor};
+use house_io::{Door, ListDoor, ListLink, SureDoor, SureLink};
 use house_serve::{SessionEnd, serve_door};
 use session::ListHall;
 use std::alloc::Global;
 use std::sync::Wait;
-use std::test::Fail;
+
+/// A session to its end, and one that stops behind its first frame.
+fn sure_links(alloc: Global) -> Option<Vec<SureLink>> {
+    let first = sure_link(alloc, &[HELLO, REPORT, QUIT])?;
+    let second = sure_link(alloc, &[HELLO])?;
+    both_links(alloc, first, second)
+}
+
+fn both_links(alloc: Global, first: SureLink, second: SureLink) -> Option<Vec<SureLink>> {
+    let mut links = Vec::new(alloc);
+    links.push(first).ok()?;
+    links.push(second).ok()?;
+    Some(links)
+}
 
 /// A door with a session to its end, and one that stops behind its first frame.
-fn sure_door(alloc: Global) -> Result<SureDoor, Fail> {
+fn sure_door(alloc: Global) -> Option<SureDoor> {
+    match sure_links(alloc) {
+        None => None,
+        Some(links) => SureDoor::new(alloc, links).ok(),
+    }
+}
+
+/// The link of one session to its end.
+fn whole_link(alloc: Global) -> Option<ListLink> {
+    match joined(alloc, &[HELLO, QUIT]) {
+        None => None,
+        Some(bytes) => list_link_with(alloc, bytes, Vec::new(alloc)),
+    }
+}
+
+fn one_link(alloc: Global, link: ListLink) -> Option<Vec<ListLink>> {
     let mut links = Vec::new(alloc);
-    links.push(sure_link(alloc, &[HELLO, REPORT, QUIT])?)?;
-    links.push(sure_link(alloc, &[HELLO])?)?;
-    Ok(SureDoor::new(alloc, links)?)
+    links.push(link).ok()?;
+    Some(links)
+}
+
+fn list_door_with(alloc: Global, links: Vec<ListLink>) -> Option<ListDoor> {
+    ListDoor::new(alloc, links, Vec::new(alloc)).ok()
 }
 
 /// A door with one session to its end.
-fn list_door(alloc: Global) -> Result<ListDoor, Fail> {
-    let mut links = Vec::new(alloc);
-    let bytes = joined(alloc, &[HELLO, QUIT])?;
-    links.push(ListLink::new(alloc, bytes, 1000, Vec::new(alloc))?)?;
-    Ok(ListDoor::new(alloc, links, Vec::new(alloc))?)
+fn list_door(alloc: Global) -> Option<ListDoor> {
+    let link = whole_link(alloc)?;
+    let links = one_link(alloc, link)?;
+    list_door_with(alloc, links)
+}
+
+/// Serves two sessions at a door: whether the door failed, and how they ended.
+fn serve_two<D: Door, T: Wait>(
+    rt: &T,
+    alloc: Global,
+    auction: &Auction,
+    door: &mut D,
+) -> Option<(bool, Vec<SessionEnd>)> {
+    let mut ends = Vec::with_capacity(alloc, 2).ok()?;
+    match ListHall::open(alloc, &auction.terms) {
+        Err(_) => None,
+        Ok(mut hall) => {
+            let failed = serve_door(rt, alloc, auction, &mut hall, door, 2, &mut ends);
+            Some((failed, ends))
+        }
+    }
+}
+
+/// Whether serving two sessions at a door fails or not, as wanted, and they end so.
+fn serves_so<D: Door, T: Wait>(
+    rt: &T,
+    alloc: Global,
+    door: &mut D,
+    fails: bool,
+    wanted: &[SessionEnd],
+) -> bool {
+    match auction(alloc) {
+        None => false,
+        Some(auction) => match serve_two(rt, alloc, &auction, door) {
+            None => false,
+            Some((failed, ends)) => failed == fails && ends.as_slice() == wanted,
+        },
+    }
 }
 
 /// Whether the first link has the whole session written, and the second a welcome.
-fn has_both(alloc: Global, door: &SureDoor) -> Result<bool, Fail> {
-    let whole = joined(alloc, &[WELCOME, TAKEN, BYE])?;
-    Ok(match door.hung_up() {
-        [first, second] => first.written() == whole.as_slice() && second.written() == WELCOME,
+fn has_both(alloc: Global, door: &SureDoor) -> bool {
+    match door.hung_up() {
+        [first, second] => {
+            is_written(alloc, first.written(), &[WELCOME, TAKEN, BYE])
+                && second.written() == WELCOME
+        }
         _ => false,
-    })
+    }
 }
 
-const ENDS: &[SessionEnd] = &[SessionEnd::Quit, SessionEnd::Closed { rest: 0 }];
-
-fn serves_two<T: Wait>(rt: &T, alloc: Global, auction: &Auction) -> Result<bool, Fail> {
-    let mut hall = ListHall::open(alloc, &auction.terms)?;
-    let mut door = sure_door(alloc)?;
-    let mut ends = Vec::with_capacity(alloc, 2)?;
-    let failed = serve_door(rt, alloc, auction, &mut hall, &mut door, 2, &mut ends);
-    Ok(!failed && ends.as_slice() == ENDS && has_both(alloc, &door)?)
+fn serves_two<T: Wait>(rt: &T, alloc: Global) -> bool {
+    let ends = [SessionEnd::Quit, SessionEnd::Closed { rest: 0 }];
+    match sure_door(alloc) {
+        None => false,
+        Some(mut door) => {
+            serves_so(rt, alloc, &mut door, false, &ends) && has_both(alloc, &door)
+        }
+    }
 }
 
 /// The door has one link, and fails behind it.
-fn fails_behind_one<T: Wait>(rt: &T, alloc: Global, auction: &Auction) -> Result<bool, Fail> {
-    let mut hall = ListHall::open(alloc, &auction.terms)?;
-    let mut door = list_door(alloc)?;
-    let mut ends = Vec::with_capacity(alloc, 2)?;
-    let failed = serve_door(rt, alloc, auction, &mut hall, &mut door, 2, &mut ends);
-    Ok(failed && ends.as_slice() == [SessionEnd::Quit].as_slice() && door.hung_up().len() == 1)
+fn fails_behind_one<T: Wait>(rt: &T, alloc: Global) -> bool {
+    match list_door(alloc) {
+        None => false,
+        Some(mut door) => {
+            serves_so(rt, alloc, &mut door, true, &[SessionEnd::Quit]) && door.hung_up().len() == 1
+        }
+    }
 }
 
 #[test]
-fn a_door_serves_one_link_after_another(rt: HostRuntime) -> Result<(), Fail> {
-    let auction = auction(&rt, rt.alloc())?;
-    assert!(rt; serves_two(&rt, rt.alloc(), &auction)?);
-    assert!(rt; fails_behind_one(&rt, rt.alloc(), &auction)?);
-    Ok(())
+fn a_door_serves_one_link_after_another(rt: HostRuntime) {
+    assert!(rt; serves_two(&rt, rt.alloc()));
+    assert!(rt; fails_behind_one(&rt, rt.alloc()));
 }

@@ -1,16 +1,13 @@
 //! A house that is served at two doors, each on a thread of its own, and closed.
-ghost use Rattle.std.specs.Prelude.{◌≡◌, ◌+◌, length, IfOk};
-
-use crate::tests::{BYE, HELLO, QUIT, REPORT, TAKEN, WELCOME, auction, joined, sure_link};
+use crate::tests::{BYE, HELLO, QUIT, REPORT, TAKEN, WELCOME, auction, is_written, sure_link};
 use auction_file::Auction;
 use clock_book::ClockBook;
 use clock_family::{House, NotOpen};
-use house_io::{SureDisk, SureDoor};
+use house_io::{SureDisk, SureDoor, SureLink};
 use house_serve::{DoorLog, NotServed, Served, SessionEnd, serve};
 use lot_base::Phase;
 use std::alloc::Global;
 use std::sync::Wait;
-use std::test::Fail;
 use std::thread::Threads;
 
 /// Bidder 1 wants the unit, and says so to the clock of all and to that without bidder 2.
@@ -45,45 +42,71 @@ const TO_SECOND: &[&[u8]] = &[
     BYE,
 ];
 
-/// Two doors, at each of which a bidder comes in once.
-fn two_doors(alloc: Global) -> Result<Vec<SureDoor>, Fail>
-    ensures { IfOk result (λ doors. length doors.items ≡ 2) }
-{
-    let mut doors = Vec::new(alloc);
-    doors.push(door_of(alloc, FIRST)?)?;
-    doors.push(door_of(alloc, SECOND)?)?;
-    Ok(doors)
+fn one_link(alloc: Global, link: SureLink) -> Option<Vec<SureLink>> {
+    let mut links = Vec::new(alloc);
+    links.push(link).ok()?;
+    Some(links)
+}
+
+fn door_with(alloc: Global, links: Vec<SureLink>) -> Option<SureDoor> {
+    SureDoor::new(alloc, links).ok()
 }
 
 /// A door with one link, on which these frames come.
-fn door_of(alloc: Global, frames: &[&[u8]]) -> Result<SureDoor, Fail> {
-    let mut links = Vec::new(alloc);
-    links.push(sure_link(alloc, frames)?)?;
-    Ok(SureDoor::new(alloc, links)?)
+fn door_of(alloc: Global, frames: &[&[u8]]) -> Option<SureDoor> {
+    let link = sure_link(alloc, frames)?;
+    let links = one_link(alloc, link)?;
+    door_with(alloc, links)
 }
 
-/// An empty disk in memory for each clock.
-fn empty_disks(alloc: Global, auction: &Auction) -> Result<Vec<SureDisk>, Fail>
-    ensures { IfOk result (λ disks. length disks.items ≡ auction.now.terms.bidders + 1) }
-{
-    let mut disks = Vec::new(alloc);
-    for _clock in 0..auction.terms.bidders + 1 {
-        disks.push(SureDisk::new(alloc, Vec::new(alloc), 10_000)?)?;
+fn both_doors(alloc: Global, first: SureDoor, second: SureDoor) -> Option<Vec<SureDoor>> {
+    let mut doors = Vec::new(alloc);
+    doors.push(first).ok()?;
+    doors.push(second).ok()?;
+    Some(doors)
+}
+
+/// Two doors, at each of which a bidder comes in once.
+fn two_doors(alloc: Global) -> Option<Vec<SureDoor>> {
+    let first = door_of(alloc, FIRST)?;
+    let second = door_of(alloc, SECOND)?;
+    both_doors(alloc, first, second)
+}
+
+fn empty_disk(alloc: Global) -> Option<SureDisk> {
+    SureDisk::new(alloc, Vec::new(alloc), 10_000).ok()
+}
+
+/// Puts an empty disk behind others, if there is memory.
+fn push_disk(alloc: Global, disks: &mut Vec<SureDisk>) -> bool {
+    match empty_disk(alloc) {
+        None => false,
+        Some(disk) => disks.push(disk).is_ok(),
     }
-    Ok(disks)
 }
 
-/// Opens a house, serves one session at each of the doors, and closes it.
+/// So many empty disks in memory.
+fn empty_disks(alloc: Global, count: usize) -> Option<Vec<SureDisk>> {
+    let mut disks = Vec::new(alloc);
+    for _ in 0..count {
+        if !push_disk(alloc, &mut disks) {
+            return None;
+        }
+    }
+    Some(disks)
+}
+
+/// Opens a house on these disks, one for each clock, serves one session at each of two doors, and closes it.
 fn serve_once<T: Threads + Wait + Sync>(
     rt: &T,
     alloc: Global,
     auction: &Auction,
     disks: Vec<SureDisk>,
     doors: Vec<SureDoor>,
-) -> Result<Served<SureDisk, SureDoor>, Fail>
-    requires disks { length disks.items ≡ auction.now.terms.bidders + 1 }
-    requires doors { length doors.items ≡ 2 }
-{
+) -> Option<Served<SureDisk, SureDoor>> {
+    if disks.len() != auction.terms.bidders as usize + 1 || doors.len() != 2 {
+        return None;
+    }
     match House::open(alloc, auction, disks, 2) {
         Err(
             NotOpen {
@@ -91,7 +114,7 @@ fn serve_once<T: Threads + Wait + Sync>(
                 clock: _clock,
                 fault: _fault,
             },
-        ) => Err("not opened".into()),
+        ) => None,
         Ok((house, passes)) => match serve(rt, alloc, auction, house, passes, doors, 1) {
             Err(
                 NotServed {
@@ -101,21 +124,39 @@ fn serve_once<T: Threads + Wait + Sync>(
                 },
             ) => {
                 let _books = house.close(passes);
-                Err("not served".into())
+                None
             }
-            Ok(served) => Ok(served),
+            Ok(served) => Some(served),
         },
     }
 }
 
+/// A house of an auction that was served once at two doors, and closed.
+fn served_once<T: Threads + Wait + Sync>(
+    rt: &T,
+    alloc: Global,
+    auction: &Auction,
+) -> Option<Served<SureDisk, SureDoor>> {
+    let disks = empty_disks(alloc, auction.terms.bidders as usize + 1)?;
+    let doors = two_doors(alloc)?;
+    serve_once(rt, alloc, auction, disks, doors)
+}
+
 /// Whether the door's one session ended by a quit, and was answered so.
-fn went(alloc: Global, log: &DoorLog<SureDoor>, replies: &[&[u8]]) -> Result<bool, Fail> {
-    let bytes = joined(alloc, replies)?;
+fn went(alloc: Global, log: &DoorLog<SureDoor>, replies: &[&[u8]]) -> bool {
     let written = match log.door.hung_up() {
-        [link] => link.written() == bytes.as_slice(),
+        [link] => is_written(alloc, link.written(), replies),
         _ => false,
     };
-    Ok(written && !log.failed && log.ends.as_slice() == [SessionEnd::Quit].as_slice())
+    written && !log.failed && log.ends.as_slice() == [SessionEnd::Quit].as_slice()
+}
+
+/// Whether there are two doors, and the sessions of both went as they should.
+fn both_went(alloc: Global, doors: &[DoorLog<SureDoor>]) -> bool {
+    match doors {
+        [first, second] => went(alloc, first, TO_FIRST) && went(alloc, second, TO_SECOND),
+        _ => false,
+    }
 }
 
 /// Whether the clock has ended at a price of 0.
@@ -124,18 +165,20 @@ fn ended(book: &ClockBook<SureDisk>) -> bool {
     look.phase == Phase::Ended && look.prices.as_slice() == [0].as_slice()
 }
 
+/// Whether both doors went as they should, how many clocks there are, and whether each has ended at a price of 0.
+fn outcome<T: Threads + Wait + Sync>(rt: &T, alloc: Global) -> Option<(bool, usize, bool)> {
+    let auction = auction(alloc)?;
+    match served_once(rt, alloc, &auction) {
+        None => None,
+        Some(Served { books, doors }) => Some((
+            both_went(alloc, &doors),
+            books.len(),
+            books.iter().all(ended),
+        )),
+    }
+}
+
 #[test]
-fn a_house_is_served_at_two_doors_and_closed(rt: HostRuntime) -> Result<(), Fail> {
-    let auction = auction(&rt, rt.alloc())?;
-    let disks = empty_disks(rt.alloc(), &auction)?;
-    let doors = two_doors(rt.alloc())?;
-    let Served { books, doors } = serve_once(&rt, rt.alloc(), &auction, disks, doors)?;
-    let [first, second] = doors.as_slice() else {
-        return Err("a door is wanting".into());
-    };
-    assert!(rt; went(rt.alloc(), first, TO_FIRST)?);
-    assert!(rt; went(rt.alloc(), second, TO_SECOND)?);
-    assert_eq!(rt; books.len(), 3);
-    assert!(rt; books.iter().all(ended));
-    Ok(())
+fn a_house_is_served_at_two_doors_and_closed(rt: HostRuntime) {
+    assert_eq!(rt; outcome(&rt, rt.alloc()), Some((true, 3, true)));
 }

@@ -7,7 +7,6 @@ use session::ListHall;
 use std::alloc::Global;
 use std::process::Abort;
 use std::sync::Wait;
-use std::test::Fail;
 
 /// One unit of one good for two bidders, whose tokens are `abc` and `hello`.
 const FILE: &str = r#"
@@ -45,58 +44,103 @@ pub(crate) const BYE: &[u8] = b"\x00\x00\x00\x00\x16";
 type Case<'a> = (&'a [&'a [u8]], &'a [&'a [u8]], SessionEnd);
 
 /// The auction of the two bidders.
-pub(crate) fn auction(rt: &impl Abort, alloc: Global) -> Result<Auction, Fail> {
-    assert!(rt; FILE.len() <= MOST_BYTES);
-    Ok(read(alloc, FILE.as_bytes())?)
+pub(crate) fn auction(alloc: Global) -> Option<Auction> {
+    if FILE.len() > MOST_BYTES {
+        return None;
+    }
+    match read(alloc, FILE.as_bytes()) {
+        Ok(auction) => Some(auction),
+        Err(_) => None,
+    }
 }
 
 /// The bytes of the pieces, one piece behind the other.
-pub(crate) fn joined(alloc: Global, pieces: &[&[u8]]) -> Result<Vec<u8>, Fail> {
+pub(crate) fn joined(alloc: Global, pieces: &[&[u8]]) -> Option<Vec<u8>> {
     let mut bytes = Vec::new(alloc);
     for piece in pieces {
-        bytes.extend_from_slice(piece)?;
+        if bytes.extend_from_slice(piece).is_err() {
+            return None;
+        }
     }
-    Ok(bytes)
+    Some(bytes)
+}
+
+/// Whether the pieces, one behind the other, were written.
+pub(crate) fn is_written(alloc: Global, written: &[u8], pieces: &[&[u8]]) -> bool {
+    match joined(alloc, pieces) {
+        None => false,
+        Some(wanted) => written == wanted.as_slice(),
+    }
+}
+
+fn sure_link_with(alloc: Global, bytes: Vec<u8>) -> Option<SureLink> {
+    SureLink::new(alloc, bytes, 1000).ok()
 }
 
 /// A link that never fails, over which these pieces come, with room for 1,000 bytes to go.
-pub(crate) fn sure_link(alloc: Global, pieces: &[&[u8]]) -> Result<SureLink, Fail> {
-    Ok(SureLink::new(alloc, joined(alloc, pieces)?, 1000)?)
+pub(crate) fn sure_link(alloc: Global, pieces: &[&[u8]]) -> Option<SureLink> {
+    match joined(alloc, pieces) {
+        None => None,
+        Some(bytes) => sure_link_with(alloc, bytes),
+    }
+}
+
+/// The numbers of the calls that fail: this one alone.
+fn one_call(alloc: Global, call: u64) -> Option<Vec<u64>> {
+    let mut numbers = Vec::new(alloc);
+    numbers.push(call).ok()?;
+    Some(numbers)
+}
+
+pub(crate) fn list_link_with(alloc: Global, bytes: Vec<u8>, numbers: Vec<u64>) -> Option<ListLink> {
+    ListLink::new(alloc, bytes, 1000, numbers).ok()
 }
 
 /// A link with a hello, a report and a quit, of which the call of this number fails.
-fn list_link(alloc: Global, failing: u64) -> Result<ListLink, Fail> {
+fn list_link(alloc: Global, failing: u64) -> Option<ListLink> {
     let bytes = joined(alloc, &[HELLO, REPORT, QUIT])?;
-    let mut numbers = Vec::new(alloc);
-    numbers.push(failing)?;
-    Ok(ListLink::new(alloc, bytes, 1000, numbers)?)
+    let numbers = one_call(alloc, failing)?;
+    list_link_with(alloc, bytes, numbers)
 }
 
-/// Serves a session over a link, with a hall of its own.
-fn serve<L: Link, T: Wait + Abort>(
+/// Serves a session of an auction over a link, with a hall of its own.
+fn serve_in<L: Link, T: Wait>(
     rt: &T,
     alloc: Global,
+    auction: &Auction,
     link: &mut L,
-) -> Result<SessionEnd, Fail> {
-    let auction = auction(rt, alloc)?;
-    let mut hall = ListHall::open(alloc, &auction.terms)?;
-    Ok(serve_hall(rt, alloc, &auction, &mut hall, link))
+) -> Option<SessionEnd> {
+    match ListHall::open(alloc, &auction.terms) {
+        Err(_) => None,
+        Ok(mut hall) => Some(serve_hall(rt, alloc, auction, &mut hall, link)),
+    }
 }
 
-fn serves<T: Wait + Abort>(rt: &T, alloc: Global, case: &Case) -> Result<bool, Fail> {
+/// The same in the auction of the two bidders.
+fn serve<L: Link, T: Wait>(rt: &T, alloc: Global, link: &mut L) -> Option<SessionEnd> {
+    match auction(alloc) {
+        None => None,
+        Some(auction) => serve_in(rt, alloc, &auction, link),
+    }
+}
+
+/// Whether a session goes and ends so.
+fn serves<T: Wait>(rt: &T, alloc: Global, case: &Case) -> bool {
     let (comes, goes, end) = case;
-    let mut link = sure_link(alloc, comes)?;
-    let found = serve(rt, alloc, &mut link)?;
-    let wanted = joined(alloc, goes)?;
-    Ok(found == *end && link.written() == wanted.as_slice())
+    match sure_link(alloc, comes) {
+        None => false,
+        Some(mut link) => {
+            let found = serve(rt, alloc, &mut link);
+            found == Some(*end) && is_written(alloc, link.written(), goes)
+        }
+    }
 }
 
-fn check<T: Wait + Abort>(rt: &T, alloc: Global, cases: &[Case]) -> Result<(), Fail> {
+fn check<T: Wait + Abort>(rt: &T, alloc: Global, cases: &[Case]) {
     for case in cases {
-        let served = serves(rt, alloc, case)?;
+        let served = serves(rt, alloc, case);
         assert!(rt; served, "{case:?}");
     }
-    Ok(())
 }
 
 fn fault(place: u64, kind: WireKind) -> SessionEnd {
@@ -104,7 +148,7 @@ fn fault(place: u64, kind: WireKind) -> SessionEnd {
 }
 
 #[test]
-fn each_frame_is_answered(rt: HostRuntime) -> Result<(), Fail> {
+fn each_frame_is_answered(rt: HostRuntime) {
     let comes = [
         b"\x00\x00\x00\x01\x02\x00".as_slice(),
         HELLO,
@@ -125,11 +169,11 @@ fn each_frame_is_answered(rt: HostRuntime) -> Result<(), Fail> {
         b"\x00\x00\x00\x06\x15\x03\x00\x00\x00\x00\x03",
         BYE,
     ];
-    check(&rt, rt.alloc(), &[(&comes, &goes, SessionEnd::Quit)])
+    check(&rt, rt.alloc(), &[(&comes, &goes, SessionEnd::Quit)]);
 }
 
 #[test]
-fn a_fault_is_answered_behind_the_frames_and_ends_the_session(rt: HostRuntime) -> Result<(), Fail> {
+fn a_fault_is_answered_behind_the_frames_and_ends_the_session(rt: HostRuntime) {
     check(
         &rt,
         rt.alloc(),
@@ -174,11 +218,11 @@ fn a_fault_is_answered_behind_the_frames_and_ends_the_session(rt: HostRuntime) -
                 fault(9, WireKind::BadPayload { kind: 3, length: 8 }),
             ),
         ],
-    )
+    );
 }
 
 #[test]
-fn a_session_ends_with_its_frames_or_its_input(rt: HostRuntime) -> Result<(), Fail> {
+fn a_session_ends_with_its_frames_or_its_input(rt: HostRuntime) {
     check(
         &rt,
         rt.alloc(),
@@ -205,27 +249,27 @@ fn a_session_ends_with_its_frames_or_its_input(rt: HostRuntime) -> Result<(), Fa
                 SessionEnd::BadToken,
             ),
         ],
-    )
+    );
 }
 
-/// Whether the session ends by the link's fault, with these replies before it.
-fn is_cut<T: Wait + Abort>(
-    rt: &T,
-    alloc: Global,
-    failing: u64,
-    goes: &[&[u8]],
-) -> Result<bool, Fail> {
-    let mut link = list_link(alloc, failing)?;
-    let end = serve(rt, alloc, &mut link)?;
-    let wanted = joined(alloc, goes)?;
-    Ok(end == SessionEnd::LinkFault && link.written() == wanted.as_slice())
+/// Whether the session ends by the fault of this call of the link, with these replies before it.
+fn is_cut<T: Wait>(rt: &T, alloc: Global, failing: u64, goes: &[&[u8]]) -> bool {
+    match list_link(alloc, failing) {
+        None => false,
+        Some(mut link) => {
+            let found = serve(rt, alloc, &mut link);
+            found == Some(SessionEnd::LinkFault) && is_written(alloc, link.written(), goes)
+        }
+    }
 }
+
+/// The call that fails, and the replies before it.
+const CUTS: [(u64, &[&[u8]]); 4] = [(0, &[]), (1, &[]), (2, &[WELCOME]), (3, &[WELCOME, TAKEN])];
 
 #[test]
-fn a_link_that_fails_ends_its_session(rt: HostRuntime) -> Result<(), Fail> {
-    assert!(rt; is_cut(&rt, rt.alloc(), 0, &[])?);
-    assert!(rt; is_cut(&rt, rt.alloc(), 1, &[])?);
-    assert!(rt; is_cut(&rt, rt.alloc(), 2, &[WELCOME])?);
-    assert!(rt; is_cut(&rt, rt.alloc(), 3, &[WELCOME, TAKEN])?);
-    Ok(())
+fn a_link_that_fails_ends_its_session(rt: HostRuntime) {
+    for (failing, goes) in CUTS {
+        let cut = is_cut(&rt, rt.alloc(), failing, goes);
+        assert!(rt; cut, "call {failing}");
+    }
 }
