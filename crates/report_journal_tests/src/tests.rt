@@ -1,7 +1,4 @@
 //! What no clause says: the calls answer with ample memory, the format's bytes, and what is left at each stop.
-ghost use Rattle.std.specs.Prelude.{◌≡◌, [], IfOk, length};
-ghost use Rattle.house_io.specs.Moments.{opened};
-ghost use Rattle.house_io.specs.Recorded.{moments_of};
 ghost use Rattle.report_journal.specs.Format.{IsHeader};
 
 use house_io::{Disk, FileDisk, Fill, FolderShelf, ListDisk, Shelf, SureDisk};
@@ -77,43 +74,53 @@ fn seen_by(scanned: &Scanned) -> Seen {
     }
 }
 
-fn disk_of(alloc: Global, file: &[u8]) -> Result<SureDisk, Fail> {
-    Ok(SureDisk::new(alloc, file.to_vec(alloc)?, ROOM)?)
+fn copy_of(alloc: Global, bytes: &[u8]) -> Option<Vec<u8>> {
+    bytes.to_vec(alloc).ok()
 }
 
-fn scanned(alloc: Global, file: &[u8]) -> Result<Scanned, Fail> {
+fn disk_of(alloc: Global, file: &[u8]) -> Option<SureDisk> {
+    SureDisk::new(alloc, copy_of(alloc, file)?, ROOM).ok()
+}
+
+fn scanned_on<D: Disk>(alloc: Global, disk: &mut D) -> Option<Scanned> {
+    scan(alloc, disk).ok()
+}
+
+fn scanned(alloc: Global, file: &[u8]) -> Option<Scanned> {
     let mut disk = disk_of(alloc, file)?;
-    Ok(scan(alloc, &mut disk)?)
+    scanned_on(alloc, &mut disk)
 }
 
 /// What a scan answers of a file.
-fn seen_in(alloc: Global, file: &[u8]) -> Result<Seen, Fail> {
+fn seen_in(alloc: Global, file: &[u8]) -> Option<Seen> {
     let found = scanned(alloc, file)?;
-    Ok(seen_by(&found))
+    Some(seen_by(&found))
 }
 
-/// The offset of the gate that ends the list of records of a file.
-fn end_of(alloc: Global, file: &[u8]) -> Result<Option<u32>, Fail> {
-    match scanned(alloc, file)? {
-        Scanned::Formed { end, .. } => Ok(Some(end)),
-        _ => Ok(None),
+fn end_by(scanned: &Scanned) -> Option<u32> {
+    match scanned {
+        Scanned::Formed { end, .. } => Some(*end),
+        _ => None,
     }
 }
 
-/// The journal of a file that is formed.
-fn reopened(alloc: Global, file: &[u8]) -> Result<Journal<SureDisk>, Fail> {
-    attached(alloc, disk_of(alloc, file)?)
+/// The offset of the gate that ends the list of records of a file.
+fn end_in(alloc: Global, file: &[u8]) -> Option<u32> {
+    let found = scanned(alloc, file)?;
+    end_by(&found)
 }
 
 /// The journal of a disk whose file is formed.
-fn attached<D: Disk + Drop>(alloc: Global, disk: D) -> Result<Journal<D>, Fail> {
+fn attached<D: Disk + Drop>(alloc: Global, disk: D) -> Option<Journal<D>> {
     let mut disk = disk;
-    match scan(alloc, &mut disk)? {
-        Scanned::Formed {
-            header,
-            records,
-            end,
-        } => Ok(Journal::attach(
+    match scan(alloc, &mut disk) {
+        Ok(
+            Scanned::Formed {
+                header,
+                records,
+                end,
+            },
+        ) => Some(Journal::attach(
             disk,
             Scanned::Formed {
                 header,
@@ -121,95 +128,201 @@ fn attached<D: Disk + Drop>(alloc: Global, disk: D) -> Result<Journal<D>, Fail> 
                 end,
             },
         )),
-        _ => Err("not formed".into()),
+        _ => None,
     }
 }
 
-fn formed<D: Disk>(answer: Result<Journal<D>, NotFormed<D>>) -> Result<Journal<D>, D> {
-    match answer {
-        Ok(journal) => Ok(journal),
-        Err(NotFormed { disk, fault: _ }) => Err(disk),
+/// The journal of a file that is formed.
+fn reopened(alloc: Global, file: &[u8]) -> Option<Journal<SureDisk>> {
+    attached(alloc, disk_of(alloc, file)?)
+}
+
+/// An empty journal, whose goods open at these prices.
+fn empty(alloc: Global, opening: Option<Prices>) -> Option<Journal<SureDisk>> {
+    match SureDisk::new(alloc, Vec::new(alloc), ROOM) {
+        Ok(disk) => Journal::form(alloc, disk, &header(opening)).ok(),
+        Err(_) => None,
     }
 }
 
-fn empty_journal(alloc: Global, opening: Option<Prices>) -> Result<Journal<SureDisk>, Fail> {
-    let disk = SureDisk::new(alloc, Vec::new(alloc), ROOM)?;
-    match formed(Journal::form(alloc, disk, &header(opening))) {
-        Ok(journal) => Ok(journal),
-        Err(_) => Err("not formed".into()),
+/// What is asked of a journal, and what it answers.
+#[derive(Clone, Copy)]
+enum Step<'a> {
+    /// There is memory for so many records.
+    Reserves(u32),
+    /// This payload is appended so.
+    Appends(&'a [u8], Result<u32, JournalFault>),
+    Mends(Result<Mended, JournalFault>),
+    Counts(u32),
+    /// The record of this number has this payload.
+    Holds(u32, &'a [u8]),
+    /// The record of this number cannot be read.
+    Fails(u32),
+}
+
+fn reserve<D: Disk>(alloc: Global, journal: &mut Journal<D>, records: u32) -> bool {
+    journal.reserve(alloc, records).is_ok()
+}
+
+/// What an append answers, if the payload is not too long for a journal.
+fn append<D: Disk>(
+    alloc: Global,
+    journal: &mut Journal<D>,
+    payload: &[u8],
+) -> Option<Result<u32, JournalFault>> {
+    if payload.len() > GREATEST_PAYLOAD as usize {
+        return None;
+    }
+    Some(journal.append(alloc, payload))
+}
+
+fn mend<D: Disk>(journal: &mut Journal<D>) -> Result<Mended, JournalFault> {
+    journal.mend()
+}
+
+fn count<D: Disk>(journal: &Journal<D>) -> u32 {
+    journal.count()
+}
+
+/// The payload of the record of this number, if there is one.
+fn payload<D: Disk>(
+    alloc: Global,
+    journal: &mut Journal<D>,
+    number: u32,
+) -> Option<Result<Vec<u8>, JournalFault>> {
+    if number < 1 || number > journal.count() {
+        return None;
+    }
+    Some(journal.payload(alloc, number))
+}
+
+fn holds<D: Disk>(alloc: Global, journal: &mut Journal<D>, number: u32, bytes: &[u8]) -> bool {
+    match payload(alloc, journal, number) {
+        Some(Ok(found)) => found.as_slice() == bytes,
+        _ => false,
     }
 }
 
-fn append_both(alloc: Global, journal: &mut Journal<SureDisk>) -> Result<(u32, u32), JournalFault> {
-    let first = journal.append(alloc, &PAYLOAD)?;
-    let second = journal.append(alloc, &LONGER)?;
-    Ok((first, second))
+fn fails<D: Disk>(alloc: Global, journal: &mut Journal<D>, number: u32) -> bool {
+    match payload(alloc, journal, number) {
+        Some(Err(_)) => true,
+        _ => false,
+    }
 }
 
-fn bytes_of(alloc: Global, journal: Journal<SureDisk>) -> Result<Vec<u8>, Fail> {
+/// Whether a step goes as it says.
+fn goes<D: Disk>(alloc: Global, journal: &mut Journal<D>, step: Step) -> bool {
+    match step {
+        Step::Reserves(records) => reserve(alloc, journal, records),
+        Step::Appends(payload, answer) => append(alloc, journal, payload) == Some(answer),
+        Step::Mends(answer) => mend(journal) == answer,
+        Step::Counts(records) => count(journal) == records,
+        Step::Holds(number, payload) => holds(alloc, journal, number, payload),
+        Step::Fails(number) => fails(alloc, journal, number),
+    }
+}
+
+/// The number, from 0, of the first step that goes otherwise, or that of all of them.
+fn first_other<D: Disk>(alloc: Global, journal: &mut Journal<D>, steps: &[Step]) -> usize {
+    let mut number: usize = 0;
+    for step in steps {
+        if !goes(alloc, journal, *step) {
+            break;
+        }
+        number = number.saturating_add(1);
+    }
+    number
+}
+
+fn bytes_of(alloc: Global, journal: Journal<SureDisk>) -> Option<Vec<u8>> {
     let disk = journal.into_disk();
-    Ok(disk.bytes().to_vec(alloc)?)
+    copy_of(alloc, disk.bytes())
 }
 
-/// The file of an empty journal.
-fn empty_file(alloc: Global, opening: Option<Prices>) -> Result<Vec<u8>, Fail> {
-    bytes_of(alloc, empty_journal(alloc, opening)?)
-}
-
-/// The file of a journal with both records.
-fn full_file(alloc: Global, opening: Option<Prices>) -> Result<Vec<u8>, Fail> {
-    let mut journal = empty_journal(alloc, opening)?;
-    append_both(alloc, &mut journal)?;
-    bytes_of(alloc, journal)
-}
-
-#[test]
-fn a_record_is_written_as_the_format_says(rt: HostRuntime) -> Result<(), Fail> {
-    let alloc = rt.alloc();
-    let mut journal = empty_journal(alloc, plain())?;
-    assert_eq!(rt; journal.count(), 0);
-    assert_eq!(rt; journal.append(alloc, &PAYLOAD), Ok(1));
-    assert_eq!(rt; journal.count(), 1);
-    assert_eq!(rt; bytes_of(alloc, journal)?.as_slice(), FILE.as_slice());
-    Ok(())
-}
-
-/// The numbers that appends into reserved room answer: two records are reserved, and a third takes its own memory.
-fn reserved_numbers(alloc: Global) -> Result<(u32, u32, u32), Fail> {
-    let mut journal = empty_journal(alloc, plain())?;
-    journal.reserve(alloc, 2)?;
-    let (first, second) = append_both(alloc, &mut journal)?;
-    let third = journal.append(alloc, &PAYLOAD)?;
-    Ok((first, second, third))
-}
-
-#[test]
-fn records_are_appended_into_reserved_room(rt: HostRuntime) -> Result<(), Fail> {
-    assert_eq!(rt; reserved_numbers(rt.alloc())?, (1, 2, 3));
-    Ok(())
-}
-
-#[test]
-fn a_header_with_opening_prices_is_written_as_the_format_says(rt: HostRuntime) -> Result<(), Fail> {
-    let alloc = rt.alloc();
-    assert_eq!(rt; full_file(alloc, one_good())?.as_slice(), PRICED.as_slice());
-    assert_eq!(rt;
-        empty_file(alloc, six_goods())?.as_slice(),
-        SIX_GOODS.as_slice()
-    );
-    Ok(())
-}
-
-#[test]
-fn each_version_has_its_length_and_its_first_gate(rt: HostRuntime) -> Result<(), Fail> {
-    let alloc = rt.alloc();
-    for (opening, gate, empty, full) in [(plain(), 41, 42, 74), (one_good(), 47, 48, 80)] {
-        let file = empty_file(alloc, opening)?;
-        assert_eq!(rt; file.len(), empty);
-        assert_eq!(rt; end_of(alloc, &file)?, Some(gate));
-        assert_eq!(rt; full_file(alloc, opening)?.len(), full);
+/// The file of a journal after these steps.
+fn file_after(alloc: Global, journal: Journal<SureDisk>, steps: &[Step]) -> Option<Vec<u8>> {
+    let mut journal = journal;
+    if first_other(alloc, &mut journal, steps) == steps.len() {
+        bytes_of(alloc, journal)
+    } else {
+        None
     }
-    Ok(())
+}
+
+/// The file of a new journal after these steps.
+fn new_file(alloc: Global, opening: Option<Prices>, steps: &[Step]) -> Option<Vec<u8>> {
+    file_after(alloc, empty(alloc, opening)?, steps)
+}
+
+/// Whether the file of a new journal has these bytes after these steps.
+fn writes(alloc: Global, opening: Option<Prices>, steps: &[Step], file: &[u8]) -> Option<bool> {
+    let found = new_file(alloc, opening, steps)?;
+    Some(found.as_slice() == file)
+}
+
+const FIRST: &[Step] = &[
+    Step::Counts(0),
+    Step::Appends(&PAYLOAD, Ok(1)),
+    Step::Counts(1),
+];
+
+#[test]
+fn a_record_is_written_as_the_format_says(rt: HostRuntime) {
+    assert_eq!(rt; writes(rt.alloc(), plain(), FIRST, &FILE), Some(true));
+}
+
+/// Two records are reserved, and a third takes its own memory.
+const RESERVED: &[Step] = &[
+    Step::Reserves(2),
+    Step::Appends(&PAYLOAD, Ok(1)),
+    Step::Appends(&LONGER, Ok(2)),
+    Step::Appends(&PAYLOAD, Ok(3)),
+];
+
+/// The first step of a new journal that goes otherwise.
+fn first_other_of_new(alloc: Global, steps: &[Step]) -> Option<usize> {
+    let mut journal = empty(alloc, plain())?;
+    Some(first_other(alloc, &mut journal, steps))
+}
+
+#[test]
+fn records_are_appended_into_reserved_room(rt: HostRuntime) {
+    assert_eq!(rt; first_other_of_new(rt.alloc(), RESERVED), Some(4));
+}
+
+const BOTH: &[Step] = &[
+    Step::Appends(&PAYLOAD, Ok(1)),
+    Step::Appends(&LONGER, Ok(2)),
+];
+
+#[test]
+fn a_header_with_opening_prices_is_written_as_the_format_says(rt: HostRuntime) {
+    let alloc = rt.alloc();
+    assert_eq!(rt; writes(alloc, one_good(), BOTH, &PRICED), Some(true));
+    assert_eq!(rt; writes(alloc, six_goods(), &[], &SIX_GOODS), Some(true));
+}
+
+/// The length of a new journal's file after these steps.
+fn length_after(alloc: Global, opening: Option<Prices>, steps: &[Step]) -> Option<usize> {
+    let file = new_file(alloc, opening, steps)?;
+    Some(file.len())
+}
+
+/// The offset of the gate that ends a new journal's empty list of records.
+fn end_of_new(alloc: Global, opening: Option<Prices>) -> Option<u32> {
+    let file = new_file(alloc, opening, &[])?;
+    end_in(alloc, &file)
+}
+
+#[test]
+fn each_version_has_its_length_and_its_first_gate(rt: HostRuntime) {
+    let alloc = rt.alloc();
+    assert_eq!(rt; end_of_new(alloc, plain()), Some(41));
+    assert_eq!(rt; length_after(alloc, plain(), &[]), Some(42));
+    assert_eq!(rt; length_after(alloc, plain(), BOTH), Some(74));
+    assert_eq!(rt; end_of_new(alloc, one_good()), Some(47));
+    assert_eq!(rt; length_after(alloc, one_good(), &[]), Some(48));
+    assert_eq!(rt; length_after(alloc, one_good(), BOTH), Some(80));
 }
 
 /// The version, the clock, whether the digest is that of the fixtures, and the opening price of good 0.
@@ -237,74 +350,106 @@ fn header_by(scanned: &Scanned) -> Option<Told> {
 }
 
 /// What the header says that a scan finds in a file.
-fn header_in(alloc: Global, file: &[u8]) -> Result<Option<Told>, Fail> {
+fn header_in(alloc: Global, file: &[u8]) -> Option<Told> {
     let found = scanned(alloc, file)?;
-    Ok(header_by(&found))
+    header_by(&found)
 }
 
 #[test]
-fn a_scan_finds_the_header(rt: HostRuntime) -> Result<(), Fail> {
-    let alloc = rt.alloc();
-    assert_eq!(rt; header_in(alloc, &FILE)?, Some((1, 3, true, None)));
-    assert_eq!(rt; header_in(alloc, &PRICED)?, Some((2, 3, true, Some(300))));
-    assert_eq!(rt; header_in(alloc, &SIX_GOODS)?, Some((2, 3, true, Some(1))));
-    Ok(())
+fn a_scan_finds_the_header(rt: HostRuntime) {
+    for (file, header) in [
+        (FILE.as_slice(), (1, 3, true, None)),
+        (PRICED.as_slice(), (2, 3, true, Some(300))),
+        (SIX_GOODS.as_slice(), (2, 3, true, Some(1))),
+    ] {
+        assert_eq!(rt; header_in(rt.alloc(), file), Some(header));
+    }
+}
+
+fn place_by(scanned: &Scanned, number: usize) -> Option<Place> {
+    match scanned {
+        Scanned::Formed { records, .. } => records.as_slice().get(number).copied(),
+        _ => None,
+    }
 }
 
 /// The place of the record of this number, from 0.
-fn place_in(alloc: Global, file: &[u8], number: usize) -> Result<Option<Place>, Fail> {
-    match scanned(alloc, file)? {
-        Scanned::Formed { records, .. } => Ok(records.as_slice().get(number).copied()),
-        _ => Ok(None),
-    }
+fn place_in(alloc: Global, file: &[u8], number: usize) -> Option<Place> {
+    let found = scanned(alloc, file)?;
+    place_by(&found, number)
 }
 
 #[test]
-fn a_scan_finds_the_places(rt: HostRuntime) -> Result<(), Fail> {
+fn a_scan_finds_the_places(rt: HostRuntime) {
     let alloc = rt.alloc();
-    let place = place_in(alloc, &FILE, 0)?;
+    let place = place_in(alloc, &FILE, 0);
     assert_eq!(rt; place, Some(Place { at: 46, length: 10 }));
-    let place = place_in(alloc, &PRICED, 1)?;
+    let place = place_in(alloc, &PRICED, 1);
     assert_eq!(rt; place, Some(Place { at: 67, length: 12 }));
-    assert_eq!(rt; end_of(alloc, &PRICED)?, Some(79));
-    Ok(())
+    assert_eq!(rt; end_in(alloc, &PRICED), Some(79));
 }
 
-/// Whether a journal of two records holds these, in order, and the longer one at its place.
-fn holds_both(alloc: Global, journal: &mut Journal<SureDisk>) -> Result<bool, Fail> {
-    if journal.count() != 2 {
-        return Ok(false);
-    }
-    let first = journal.payload(alloc, 1)?;
-    let second = journal.payload(alloc, 2)?;
-    Ok(first.as_slice() == PAYLOAD.as_slice() && second.as_slice() == LONGER.as_slice())
+/// The first step that goes otherwise in the journal of a file.
+fn first_other_in(alloc: Global, file: &[u8], steps: &[Step]) -> Option<usize> {
+    let mut journal = reopened(alloc, file)?;
+    Some(first_other(alloc, &mut journal, steps))
 }
+
+/// The length of a file after these steps, and whether it has these bytes from this offset on.
+fn taken_up(
+    alloc: Global,
+    file: &[u8],
+    steps: &[Step],
+    at: usize,
+    bytes: &[u8],
+) -> Option<(usize, bool)> {
+    let found = file_after(alloc, reopened(alloc, file)?, steps)?;
+    Some((found.len(), found.get(at..)? == bytes))
+}
+
+const SECOND: &[Step] = &[
+    Step::Appends(&LONGER, Ok(2)),
+    Step::Counts(2),
+    Step::Holds(1, &PAYLOAD),
+    Step::Holds(2, &LONGER),
+];
+
+const THIRD: &[Step] = &[
+    Step::Counts(2),
+    Step::Holds(1, &PAYLOAD),
+    Step::Holds(2, &LONGER),
+    Step::Appends(&[], Ok(3)),
+];
 
 #[test]
-fn a_file_that_stands_is_taken_up_again(rt: HostRuntime) -> Result<(), Fail> {
+fn a_file_that_stands_is_taken_up_again(rt: HostRuntime) {
     let alloc = rt.alloc();
-    let mut journal = reopened(alloc, &FILE)?;
-    assert_eq!(rt; journal.append(alloc, &LONGER), Ok(2));
-    assert!(rt; holds_both(alloc, &mut journal)?);
-    let mut journal = reopened(alloc, &PRICED)?;
-    assert!(rt; holds_both(alloc, &mut journal)?);
-    assert_eq!(rt; journal.append(alloc, &[]), Ok(3));
-    let file = bytes_of(alloc, journal)?;
-    assert_eq!(rt; file.len(), 85);
-    assert_eq!(rt; &file[79..], [0xa5, 0, 0, 0, 0, 0].as_slice());
-    Ok(())
+    assert_eq!(rt; first_other_in(alloc, &FILE, SECOND), Some(4));
+    let found = taken_up(alloc, &PRICED, THIRD, 79, &[0xa5, 0, 0, 0, 0, 0]);
+    assert_eq!(rt; found, Some((85, true)));
 }
 
-fn longer_at(alloc: Global, at: u32) -> Result<Vec<u8>, Fail> {
+fn read_at<D: Disk>(alloc: Global, disk: &mut D, place: Place) -> Option<Vec<u8>> {
+    read_payload(alloc, disk, place).ok()
+}
+
+/// Whether the longer payload is read at this offset.
+fn is_longer_at(alloc: Global, at: u32) -> Option<bool> {
     let mut disk = disk_of(alloc, &PRICED)?;
-    Ok(read_payload(alloc, &mut disk, Place { at, length: 12 })?)
+    let found = read_at(alloc, &mut disk, Place { at, length: 12 })?;
+    Some(found.as_slice() == LONGER.as_slice())
 }
 
 #[test]
-fn a_payload_is_read_at_its_place(rt: HostRuntime) -> Result<(), Fail> {
-    let alloc = rt.alloc();
-    assert_eq!(rt; longer_at(alloc, 67)?.as_slice(), LONGER.as_slice());
-    Ok(())
+fn a_payload_is_read_at_its_place(rt: HostRuntime) {
+    assert_eq!(rt; is_longer_at(rt.alloc(), 67), Some(true));
+}
+
+/// What the first so many bytes of the file are read as, with this byte at the first record's gate.
+fn seen_in_cut(alloc: Global, gate: u8, cut: usize) -> Option<Seen> {
+    let mut file = FILE;
+    file[41] = gate;
+    seen_in(alloc, file.get(..cut)?)
 }
 
 /// The answer to a file of version 1 that is cut at this length, its first record's gate open or closed.
@@ -321,17 +466,18 @@ fn expected_at(cut: usize, open: bool) -> Seen {
 }
 
 #[test]
-fn each_cut_of_a_file_is_read_for_what_it_is(rt: HostRuntime) -> Result<(), Fail> {
+fn each_cut_of_a_file_is_read_for_what_it_is(rt: HostRuntime) {
     let alloc = rt.alloc();
     for cut in 0..58 {
-        let mut file = FILE;
-        let seen = seen_in(alloc, &file[..cut])?;
-        assert_eq!(rt; seen, expected_at(cut, true), "open, cut at {cut}");
-        file[41] = 0;
-        let seen = seen_in(alloc, &file[..cut])?;
-        assert_eq!(rt; seen, expected_at(cut, false), "closed, cut at {cut}");
+        let open = seen_in_cut(alloc, 0xa5, cut);
+        assert_eq!(rt; open, Some(expected_at(cut, true)), "open, cut at {cut}");
+        let closed = seen_in_cut(alloc, 0, cut);
+        assert_eq!(rt;
+            closed,
+            Some(expected_at(cut, false)),
+            "closed, cut at {cut}"
+        );
     }
-    Ok(())
 }
 
 /// The answer to the file of version 2 that is cut at this length.
@@ -346,204 +492,207 @@ fn priced_at(cut: usize) -> Seen {
 }
 
 #[test]
-fn each_cut_of_a_file_of_version_2_is_read_for_what_it_is(rt: HostRuntime) -> Result<(), Fail> {
-    let alloc = rt.alloc();
+fn each_cut_of_a_file_of_version_2_is_read_for_what_it_is(rt: HostRuntime) {
     for cut in 0..81 {
-        let seen = seen_in(alloc, &PRICED[..cut])?;
-        assert_eq!(rt; seen, priced_at(cut), "cut at {cut}");
+        let seen = seen_in(rt.alloc(), &PRICED[..cut]);
+        assert_eq!(rt; seen, Some(priced_at(cut)), "cut at {cut}");
     }
-    Ok(())
 }
 
-/// A file with other bytes from this offset on, cut at this length.
-fn altered(
-    alloc: Global,
-    file: &[u8],
-    at: usize,
-    bytes: &[u8],
-    cut: usize,
-) -> Result<Vec<u8>, Fail> {
-    let mut file = file.to_vec(alloc)?;
+/// Puts these bytes into a file from this offset on, as far as it reaches.
+fn put(file: &mut [u8], at: usize, bytes: &[u8]) {
     for (i, byte) in bytes.iter().enumerate() {
         if let Some(place) = file.get_mut(at.saturating_add(i)) {
             *place = *byte;
         }
     }
-    file.truncate(cut);
-    Ok(file)
 }
 
-fn seen_altered(
-    alloc: Global,
-    file: &[u8],
-    at: usize,
-    bytes: &[u8],
-    cut: usize,
-) -> Result<Seen, Fail> {
+/// A file with other bytes from this offset on, cut at this length.
+fn altered(alloc: Global, file: &[u8], at: usize, bytes: &[u8], cut: usize) -> Option<Vec<u8>> {
+    let mut file = copy_of(alloc, file)?;
+    put(&mut file, at, bytes);
+    file.truncate(cut);
+    Some(file)
+}
+
+fn seen_altered(alloc: Global, file: &[u8], at: usize, bytes: &[u8], cut: usize) -> Option<Seen> {
     let file = altered(alloc, file, at, bytes, cut)?;
     seen_in(alloc, &file)
 }
 
+/// What is altered, from which offset on to which bytes, the cut, and the answer then.
 type Alteration = (&'static str, usize, &'static [u8], usize, Seen);
 
+const HOSTILE_FILES: [Alteration; 12] = [
+    (
+        "the greatest length",
+        42,
+        &[0xff, 0xff, 0xff, 0xff],
+        57,
+        Seen::Damaged(1, 1),
+    ),
+    (
+        "a length past the limit",
+        42,
+        &[0, 0, 0x80, 1],
+        57,
+        Seen::Damaged(1, 1),
+    ),
+    (
+        "a length past the file",
+        42,
+        &[0, 0, 0, 11],
+        57,
+        Seen::Damaged(1, 1),
+    ),
+    (
+        "a shorter length, on a closed gate",
+        42,
+        &[0, 0, 0, 9, 1, 0, 0, 0, 1, 1, 0, 1, 0, 0],
+        57,
+        Seen::Formed(1),
+    ),
+    (
+        "a second record, past the file",
+        56,
+        &[0xa5],
+        57,
+        Seen::Damaged(2, 1),
+    ),
+    (
+        "version 2, and no opening",
+        1,
+        b"AHJ2",
+        57,
+        Seen::Damaged(0, 0),
+    ),
+    (
+        "another name and no record",
+        1,
+        b"BHJ1",
+        42,
+        Seen::Damaged(0, 0),
+    ),
+    ("another first gate", 0, &[0xa4], 57, Seen::Unformed),
+    ("41 bytes", 0, &[], 41, Seen::Unformed),
+    (
+        "42 bytes, an open gate the last",
+        0,
+        &[],
+        42,
+        Seen::Damaged(1, 1),
+    ),
+    (
+        "42 bytes, a closed gate the last",
+        41,
+        &[0x5a],
+        42,
+        Seen::Formed(0),
+    ),
+    ("43 bytes", 0, &[], 43, Seen::Damaged(1, 1)),
+];
+
 #[test]
-fn a_hostile_file_is_read_for_what_it_is(rt: HostRuntime) -> Result<(), Fail> {
-    let alloc = rt.alloc();
-    let table: [Alteration; 12] = [
-        (
-            "the greatest length",
-            42,
-            &[0xff, 0xff, 0xff, 0xff],
-            57,
-            Seen::Damaged(1, 1),
-        ),
-        (
-            "a length past the limit",
-            42,
-            &[0, 0, 0x80, 1],
-            57,
-            Seen::Damaged(1, 1),
-        ),
-        (
-            "a length past the file",
-            42,
-            &[0, 0, 0, 11],
-            57,
-            Seen::Damaged(1, 1),
-        ),
-        (
-            "a shorter length, on a closed gate",
-            42,
-            &[0, 0, 0, 9, 1, 0, 0, 0, 1, 1, 0, 1, 0, 0],
-            57,
-            Seen::Formed(1),
-        ),
-        (
-            "a second record, past the file",
-            56,
-            &[0xa5],
-            57,
-            Seen::Damaged(2, 1),
-        ),
-        (
-            "version 2, and no opening",
-            1,
-            b"AHJ2",
-            57,
-            Seen::Damaged(0, 0),
-        ),
-        (
-            "another name and no record",
-            1,
-            b"BHJ1",
-            42,
-            Seen::Damaged(0, 0),
-        ),
-        ("another first gate", 0, &[0xa4], 57, Seen::Unformed),
-        ("41 bytes", 0, &[], 41, Seen::Unformed),
-        (
-            "42 bytes, an open gate the last",
-            0,
-            &[],
-            42,
-            Seen::Damaged(1, 1),
-        ),
-        (
-            "42 bytes, a closed gate the last",
-            41,
-            &[0x5a],
-            42,
-            Seen::Formed(0),
-        ),
-        ("43 bytes", 0, &[], 43, Seen::Damaged(1, 1)),
-    ];
-    for (story, at, bytes, cut, expected) in table {
-        assert_eq!(rt;
-            seen_altered(alloc, &FILE, at, bytes, cut)?,
-            expected,
-            "{story}"
-        );
+fn a_hostile_file_is_read_for_what_it_is(rt: HostRuntime) {
+    for (story, at, bytes, cut, expected) in HOSTILE_FILES {
+        let seen = seen_altered(rt.alloc(), &FILE, at, bytes, cut);
+        assert_eq!(rt; seen, Some(expected), "{story}");
     }
-    Ok(())
 }
 
+const HOSTILE_OPENINGS: [Alteration; 8] = [
+    ("version 1", 1, b"AHJ1", 80, Seen::Formed(0)),
+    ("version 3", 1, b"AHJ3", 80, Seen::Damaged(0, 0)),
+    ("no goods", 42, &[0], 80, Seen::Damaged(0, 0)),
+    ("seven goods", 42, &[7], 80, Seen::Damaged(0, 0)),
+    (
+        "another byte before the goods",
+        41,
+        &[3],
+        80,
+        Seen::Damaged(0, 0),
+    ),
+    (
+        "an open gate before the goods",
+        41,
+        &[0xa5],
+        80,
+        Seen::Damaged(0, 0),
+    ),
+    (
+        "six goods, and a file that ends with them",
+        42,
+        &[6],
+        67,
+        Seen::Damaged(0, 0),
+    ),
+    ("a closed first gate", 47, &[0], 80, Seen::Formed(0)),
+];
+
 #[test]
-fn a_hostile_opening_is_read_for_what_it_is(rt: HostRuntime) -> Result<(), Fail> {
-    let alloc = rt.alloc();
-    let table: [Alteration; 8] = [
-        ("version 1", 1, b"AHJ1", 80, Seen::Formed(0)),
-        ("version 3", 1, b"AHJ3", 80, Seen::Damaged(0, 0)),
-        ("no goods", 42, &[0], 80, Seen::Damaged(0, 0)),
-        ("seven goods", 42, &[7], 80, Seen::Damaged(0, 0)),
-        (
-            "another byte before the goods",
-            41,
-            &[3],
-            80,
-            Seen::Damaged(0, 0),
-        ),
-        (
-            "an open gate before the goods",
-            41,
-            &[0xa5],
-            80,
-            Seen::Damaged(0, 0),
-        ),
-        (
-            "six goods, and a file that ends with them",
-            42,
-            &[6],
-            67,
-            Seen::Damaged(0, 0),
-        ),
-        ("a closed first gate", 47, &[0], 80, Seen::Formed(0)),
-    ];
-    for (story, at, bytes, cut, expected) in table {
-        assert_eq!(rt;
-            seen_altered(alloc, &PRICED, at, bytes, cut)?,
-            expected,
-            "{story}"
-        );
+fn a_hostile_opening_is_read_for_what_it_is(rt: HostRuntime) {
+    for (story, at, bytes, cut, expected) in HOSTILE_OPENINGS {
+        let seen = seen_altered(rt.alloc(), &PRICED, at, bytes, cut);
+        assert_eq!(rt; seen, Some(expected), "{story}");
     }
-    Ok(())
+}
+
+/// What the header says of a file that is altered so.
+fn header_altered(alloc: Global, file: &[u8], at: usize, bytes: &[u8], cut: usize) -> Option<Told> {
+    let file = altered(alloc, file, at, bytes, cut)?;
+    header_in(alloc, &file)
 }
 
 #[test]
-fn a_header_that_cannot_be_read_is_told_as_it_stands(rt: HostRuntime) -> Result<(), Fail> {
+fn a_header_that_cannot_be_read_is_told_as_it_stands(rt: HostRuntime) {
     let alloc = rt.alloc();
-    let file = altered(alloc, &FILE, 1, b"AHJ3", 57)?;
-    assert_eq!(rt; header_in(alloc, &file)?, Some((0, 3, true, None)));
-    let file = altered(alloc, &PRICED, 42, &[7], 80)?;
-    assert_eq!(rt; header_in(alloc, &file)?, Some((0, 3, true, None)));
-    Ok(())
+    let told = Some((0, 3, true, None));
+    assert_eq!(rt; header_altered(alloc, &FILE, 1, b"AHJ3", 57), told);
+    assert_eq!(rt; header_altered(alloc, &PRICED, 42, &[7], 80), told);
 }
 
 #[test]
-fn a_file_of_open_gates_has_no_header(rt: HostRuntime) -> Result<(), Fail> {
-    let alloc = rt.alloc();
-    assert_eq!(rt; seen_in(alloc, &[0xa5; 300])?, Seen::Damaged(0, 0));
-    Ok(())
+fn a_file_of_open_gates_has_no_header(rt: HostRuntime) {
+    assert_eq!(rt;
+        seen_in(rt.alloc(), &[0xa5; 300]),
+        Some(Seen::Damaged(0, 0))
+    );
 }
 
-/// A disk whose call of this number fails.
-fn listed(alloc: Global, failing: u64) -> Result<ListDisk, Fail>
-    ensures { IfOk result (λ disk. moments_of disk.file ≡ opened []) }
-{
-    let mut calls = Vec::new(alloc);
-    calls.push(failing)?;
-    Ok(ListDisk::new(alloc, Vec::new(alloc), ROOM, calls)?)
+/// The one number.
+fn one(alloc: Global, number: u64) -> Option<Vec<u64>> {
+    [number].to_vec(alloc).ok()
 }
 
-/// A journal on such a disk.
+/// The answer of a forming on an empty disk whose calls of these numbers fail, if there is memory for the disk.
+fn form_listed(
+    alloc: Global,
+    failing: Vec<u64>,
+    opening: Option<Prices>,
+) -> Option<Result<Journal<ListDisk>, NotFormed<ListDisk>>> {
+    match ListDisk::new(alloc, Vec::new(alloc), ROOM, failing) {
+        Ok(disk) => Some(Journal::form(alloc, disk, &header(opening))),
+        Err(_) => None,
+    }
+}
+
+/// A journal on a disk whose call of this number fails.
 fn listed_journal(
     alloc: Global,
     failing: u64,
     opening: Option<Prices>,
-) -> Result<Journal<ListDisk>, Fail> {
-    let disk = listed(alloc, failing)?;
-    match formed(Journal::form(alloc, disk, &header(opening))) {
-        Ok(journal) => Ok(journal),
-        Err(_) => Err("not formed".into()),
+) -> Option<Journal<ListDisk>> {
+    form_listed(alloc, one(alloc, failing)?, opening)?.ok()
+}
+
+/// Why no journal was formed, if none was, and the disk.
+fn fault_and_disk(
+    answer: Result<Journal<ListDisk>, NotFormed<ListDisk>>,
+) -> (Option<JournalFault>, ListDisk) {
+    match answer {
+        Ok(journal) => (None, journal.into_disk()),
+        Err(NotFormed { disk, fault }) => (Some(fault), disk),
     }
 }
 
@@ -552,64 +701,67 @@ fn form_failing(
     alloc: Global,
     failing: u64,
     opening: Option<Prices>,
-) -> Result<(Option<JournalFault>, Seen), Fail> {
-    let disk = listed(alloc, failing)?;
-    let (fault, disk) = match Journal::form(alloc, disk, &header(opening)) {
-        Ok(journal) => (None, journal.into_disk()),
-        Err(NotFormed { disk, fault }) => (Some(fault), disk),
-    };
-    Ok((fault, seen_in(alloc, disk.bytes())?))
+) -> Option<(Option<JournalFault>, Seen)> {
+    let answer = form_listed(alloc, one(alloc, failing)?, opening)?;
+    let (fault, disk) = fault_and_disk(answer);
+    Some((fault, seen_in(alloc, disk.bytes())?))
 }
 
-#[test]
-fn a_forming_tells_each_fault(rt: HostRuntime) -> Result<(), Fail> {
-    let alloc = rt.alloc();
-    for failing in 0..8 {
-        let expected = match failing {
-            0..6 => (Some(JournalFault::DiskFault), Seen::Unformed),
-            6 => (Some(JournalFault::DiskFault), Seen::Formed(0)),
-            _ => (None, Seen::Formed(0)),
-        };
-        assert_eq!(rt;
-            form_failing(alloc, failing, plain())?,
-            expected,
-            "at {failing}"
-        );
-        assert_eq!(rt;
-            form_failing(alloc, failing, one_good())?,
-            expected,
-            "at {failing}"
-        );
+/// The answer of a forming whose call of this number fails.
+fn expected_forming(failing: u64) -> (Option<JournalFault>, Seen) {
+    match failing {
+        0..6 => (Some(JournalFault::DiskFault), Seen::Unformed),
+        6 => (Some(JournalFault::DiskFault), Seen::Formed(0)),
+        _ => (None, Seen::Formed(0)),
     }
-    Ok(())
 }
 
 #[test]
-fn a_record_whose_last_sync_fails_is_counted_once(rt: HostRuntime) -> Result<(), Fail> {
-    let alloc = rt.alloc();
-    let mut journal = listed_journal(alloc, 10, plain())?;
-    let fault = Err(JournalFault::DiskFault);
-    assert_eq!(rt; journal.append(alloc, &PAYLOAD), fault);
-    assert_eq!(rt; journal.count(), 0);
-    let fault = Err(JournalFault::NotMended);
-    assert_eq!(rt; journal.append(alloc, &PAYLOAD), fault);
-    assert_eq!(rt; journal.mend(), Ok(Mended::Counted));
-    assert_eq!(rt; journal.count(), 1);
-    assert_eq!(rt; journal.mend(), Ok(Mended::Nothing));
-    assert_eq!(rt; journal.into_disk().bytes(), FILE.as_slice());
-    Ok(())
+fn a_forming_tells_each_fault(rt: HostRuntime) {
+    for failing in 0..8 {
+        let expected = Some(expected_forming(failing));
+        let found = form_failing(rt.alloc(), failing, plain());
+        assert_eq!(rt; found, expected, "at {failing}");
+        let found = form_failing(rt.alloc(), failing, one_good());
+        assert_eq!(rt; found, expected, "at {failing}");
+    }
 }
 
+/// The first step that goes otherwise where the call of this number fails, and whether the disk has the first record's file then.
+fn stepped(alloc: Global, failing: u64, steps: &[Step]) -> Option<(usize, bool)> {
+    let mut journal = listed_journal(alloc, failing, plain())?;
+    let other = first_other(alloc, &mut journal, steps);
+    Some((other, has_first_file(journal)))
+}
+
+fn has_first_file(journal: Journal<ListDisk>) -> bool {
+    let disk = journal.into_disk();
+    disk.bytes() == FILE.as_slice()
+}
+
+const COUNTED_ONCE: &[Step] = &[
+    Step::Appends(&PAYLOAD, Err(JournalFault::DiskFault)),
+    Step::Counts(0),
+    Step::Appends(&PAYLOAD, Err(JournalFault::NotMended)),
+    Step::Mends(Ok(Mended::Counted)),
+    Step::Counts(1),
+    Step::Mends(Ok(Mended::Nothing)),
+];
+
 #[test]
-fn a_record_whose_body_fails_is_dropped_and_put_again(rt: HostRuntime) -> Result<(), Fail> {
-    let alloc = rt.alloc();
-    let mut journal = listed_journal(alloc, 7, plain())?;
-    let fault = Err(JournalFault::DiskFault);
-    assert_eq!(rt; journal.append(alloc, &PAYLOAD), fault);
-    assert_eq!(rt; journal.mend(), Ok(Mended::Dropped));
-    assert_eq!(rt; journal.append(alloc, &PAYLOAD), Ok(1));
-    assert_eq!(rt; journal.into_disk().bytes(), FILE.as_slice());
-    Ok(())
+fn a_record_whose_last_sync_fails_is_counted_once(rt: HostRuntime) {
+    assert_eq!(rt; stepped(rt.alloc(), 10, COUNTED_ONCE), Some((6, true)));
+}
+
+const PUT_AGAIN: &[Step] = &[
+    Step::Appends(&PAYLOAD, Err(JournalFault::DiskFault)),
+    Step::Mends(Ok(Mended::Dropped)),
+    Step::Appends(&PAYLOAD, Ok(1)),
+];
+
+#[test]
+fn a_record_whose_body_fails_is_dropped_and_put_again(rt: HostRuntime) {
+    assert_eq!(rt; stepped(rt.alloc(), 7, PUT_AGAIN), Some((3, true)));
 }
 
 /// How far a run came: it forms a journal, appends, mends where that failed, and appends again.
@@ -620,33 +772,27 @@ enum Came {
     Acknowledged(u32),
 }
 
-/// Runs on a disk until a call fails for good, and gives it back.
-fn run(alloc: Global, disk: ListDisk) -> (ListDisk, Came)
-    requires { moments_of disk.file ≡ opened [] }
-{
-    let mut journal = match formed(Journal::form(alloc, disk, &header(one_good()))) {
-        Ok(journal) => journal,
-        Err(disk) => return (disk, Came::NotFormed),
-    };
+/// Appends twice at most, until an append fails, and mends.
+fn append_and_mend<D: Disk>(alloc: Global, journal: &mut Journal<D>) {
     for _ in 0..2 {
-        if journal.append(alloc, &PAYLOAD).is_err() {
-            break;
+        match append(alloc, journal, &PAYLOAD) {
+            Some(Ok(_)) => {}
+            _ => break,
         }
     }
-    let _ = journal.mend();
-    let count = journal.count();
-    (journal.into_disk(), Came::Acknowledged(count))
+    let _ = mend(journal);
 }
 
-/// A disk all of whose calls fail from this number on.
-fn stopped_at(alloc: Global, stop: u64) -> Result<ListDisk, Fail>
-    ensures { IfOk result (λ disk. moments_of disk.file ≡ opened []) }
-{
-    let mut calls = Vec::new(alloc);
-    for call in 0..32 {
-        calls.push(stop.saturating_add(call))?;
+/// Runs on with what a forming answered until a call fails for good, and gives the disk back.
+fn run(alloc: Global, answer: Result<Journal<ListDisk>, NotFormed<ListDisk>>) -> (ListDisk, Came) {
+    match answer {
+        Ok(mut journal) => {
+            append_and_mend(alloc, &mut journal);
+            let count = count(&journal);
+            (journal.into_disk(), Came::Acknowledged(count))
+        }
+        Err(NotFormed { disk, fault: _ }) => (disk, Came::NotFormed),
     }
-    Ok(ListDisk::new(alloc, Vec::new(alloc), ROOM, calls)?)
 }
 
 /// Whether a reopened image may be what such a run left.
@@ -660,115 +806,180 @@ fn is_left_by(came: Came, image: Seen) -> bool {
     }
 }
 
+/// What a scan answers of an image.
+fn seen_in_image(alloc: Global, disk: &ListDisk, fill: Fill) -> Option<Seen> {
+    match disk.image(alloc, fill) {
+        Ok(image) => seen_in(alloc, &image),
+        Err(_) => None,
+    }
+}
+
+fn is_left(alloc: Global, disk: &ListDisk, came: Came, fill: Fill) -> bool {
+    match seen_in_image(alloc, disk, fill) {
+        Some(image) => is_left_by(came, image),
+        None => false,
+    }
+}
+
 /// The first image of the disk that such a run has not left, if there is one.
-fn is_not_left(alloc: Global, disk: &ListDisk, came: Came) -> Result<Option<Fill>, Fail> {
+fn is_not_left(alloc: Global, disk: &ListDisk, came: Came) -> Option<Fill> {
     for fill in [Fill::Old, Fill::New, Fill::Byte(0), Fill::Byte(0xa5)] {
-        let image = disk.image(alloc, fill)?;
-        if !is_left_by(came, seen_in(alloc, &image)?) {
-            return Ok(Some(fill));
+        if !is_left(alloc, disk, came, fill) {
+            return Some(fill);
         }
     }
-    Ok(None)
+    None
 }
 
-fn lost_by_a_stop(alloc: Global, stop: u64) -> Result<Option<Fill>, Fail> {
-    let (disk, came) = run(alloc, stopped_at(alloc, stop)?);
-    is_not_left(alloc, &disk, came)
+/// The same of a run on a disk whose calls of these numbers fail, if there is memory for the disk.
+fn lost(alloc: Global, failing: Vec<u64>) -> Option<Option<Fill>> {
+    let (disk, came) = run(alloc, form_listed(alloc, failing, one_good())?);
+    Some(is_not_left(alloc, &disk, came))
 }
 
-fn lost_by_a_fault(alloc: Global, failing: u64) -> Result<Option<Fill>, Fail> {
-    let (disk, came) = run(alloc, listed(alloc, failing)?);
-    is_not_left(alloc, &disk, came)
+/// The numbers of 32 calls from this one on.
+fn calls_from(alloc: Global, stop: u64) -> Option<Vec<u64>> {
+    let mut calls = Vec::new(alloc);
+    for call in 0..32 {
+        if calls.push(stop.saturating_add(call)).is_err() {
+            return None;
+        }
+    }
+    Some(calls)
+}
+
+fn lost_by_a_stop(alloc: Global, stop: u64) -> Option<Option<Fill>> {
+    lost(alloc, calls_from(alloc, stop)?)
+}
+
+fn lost_by_a_fault(alloc: Global, failing: u64) -> Option<Option<Fill>> {
+    lost(alloc, one(alloc, failing)?)
 }
 
 #[test]
-fn each_stop_leaves_what_was_acknowledged(rt: HostRuntime) -> Result<(), Fail> {
-    let alloc = rt.alloc();
+fn each_stop_leaves_what_was_acknowledged(rt: HostRuntime) {
     for stop in 0..16 {
-        assert_eq!(rt; lost_by_a_stop(alloc, stop)?, None, "at {stop}");
+        assert_eq!(rt; lost_by_a_stop(rt.alloc(), stop), Some(None), "at {stop}");
     }
-    Ok(())
 }
 
 #[test]
-fn each_failing_call_is_mended(rt: HostRuntime) -> Result<(), Fail> {
-    let alloc = rt.alloc();
+fn each_failing_call_is_mended(rt: HostRuntime) {
     for failing in 0..20 {
-        assert_eq!(rt; lost_by_a_fault(alloc, failing)?, None, "at {failing}");
+        assert_eq!(rt;
+            lost_by_a_fault(rt.alloc(), failing),
+            Some(None),
+            "at {failing}"
+        );
     }
-    Ok(())
+}
+
+/// An empty disk whose call of this number fails.
+fn listed(alloc: Global, failing: u64) -> Option<ListDisk> {
+    ListDisk::new(alloc, Vec::new(alloc), ROOM, one(alloc, failing)?).ok()
 }
 
 /// Whether a scan of an empty file fails on such a disk.
-fn scan_fails(alloc: Global, failing: u64) -> Result<bool, Fail> {
+fn scan_fails(alloc: Global, failing: u64) -> Option<bool> {
     let mut disk = listed(alloc, failing)?;
-    Ok(scan(alloc, &mut disk).is_err())
+    Some(scanned_on(alloc, &mut disk).is_none())
 }
 
 #[test]
-fn a_scan_hands_on_a_fault(rt: HostRuntime) -> Result<(), Fail> {
-    let alloc = rt.alloc();
+fn a_scan_hands_on_a_fault(rt: HostRuntime) {
     for failing in 0..3 {
-        assert_eq!(rt; scan_fails(alloc, failing)?, failing < 2, "at {failing}");
+        assert_eq!(rt;
+            scan_fails(rt.alloc(), failing),
+            Some(failing < 2),
+            "at {failing}"
+        );
     }
-    Ok(())
+}
+
+const READ_AGAIN: &[Step] = &[
+    Step::Appends(&PAYLOAD, Ok(1)),
+    Step::Fails(1),
+    Step::Counts(1),
+    Step::Holds(1, &PAYLOAD),
+];
+
+/// The first step that goes otherwise in a journal with opening prices where the call of this number fails.
+fn first_other_failing(alloc: Global, failing: u64, steps: &[Step]) -> Option<usize> {
+    let mut journal = listed_journal(alloc, failing, one_good())?;
+    Some(first_other(alloc, &mut journal, steps))
 }
 
 #[test]
-fn a_payload_hands_on_a_fault(rt: HostRuntime) -> Result<(), Fail> {
-    let alloc = rt.alloc();
-    let mut journal = listed_journal(alloc, 11, one_good())?;
-    assert_eq!(rt; journal.append(alloc, &PAYLOAD), Ok(1));
-    assert!(rt; journal.payload(alloc, 1).is_err());
-    assert_eq!(rt; journal.count(), 1);
-    assert_eq!(rt; journal.payload(alloc, 1)?.as_slice(), PAYLOAD.as_slice());
-    Ok(())
+fn a_payload_hands_on_a_fault(rt: HostRuntime) {
+    assert_eq!(rt; first_other_failing(rt.alloc(), 11, READ_AGAIN), Some(4));
 }
 
 /// The longest payload, of a byte that says which it is.
-fn longest(alloc: Global, number: u8) -> Result<Vec<u8>, Fail>
-    ensures { IfOk result (λ payload. length payload.items ≡ GREATEST_PAYLOAD) }
-{
-    Ok(vec![in alloc; number; GREATEST_PAYLOAD as usize]?)
+fn longest(alloc: Global, number: u32) -> Option<Vec<u8>> {
+    vec![in alloc; (number % 256) as u8; GREATEST_PAYLOAD as usize].ok()
+}
+
+/// Whether the longest payload is appended as the record of this number.
+fn append_longest<D: Disk>(alloc: Global, journal: &mut Journal<D>, number: u32) -> bool {
+    match longest(alloc, number) {
+        Some(payload) => append(alloc, journal, &payload) == Some(Ok(number)),
+        None => false,
+    }
+}
+
+fn append_three<D: Disk>(alloc: Global, journal: &mut Journal<D>) -> bool {
+    append_longest(alloc, journal, 1)
+        && append_longest(alloc, journal, 2)
+        && append_longest(alloc, journal, 3)
 }
 
 /// A journal of three of the longest payloads, which is formed on a real file, and its disk.
-fn with_three(alloc: Global, disk: FileDisk<File>) -> Result<FileDisk<File>, Fail> {
-    let Ok(mut journal) = formed(Journal::form(alloc, disk, &header(one_good()))) else {
-        return Err("not formed".into());
-    };
-    for number in 1..4 {
-        journal.append(alloc, &longest(alloc, number)?)?;
+fn with_three(alloc: Global, disk: FileDisk<File>) -> Option<FileDisk<File>> {
+    let mut journal = Journal::form(alloc, disk, &header(one_good())).ok()?;
+    if append_three(alloc, &mut journal) {
+        Some(journal.into_disk())
+    } else {
+        None
     }
-    Ok(journal.into_disk())
 }
 
-/// Whether a journal on a real file has just these three, and nothing is in doubt.
-fn has_three(alloc: Global, journal: &mut Journal<FileDisk<File>>) -> Result<bool, Fail> {
-    for number in 1..4 {
-        if journal.count() != 3 {
-            return Ok(false);
-        }
-        let payload = journal.payload(alloc, number as u32)?;
-        if payload.as_slice() != longest(alloc, number)?.as_slice() {
-            return Ok(false);
-        }
+fn holds_longest<D: Disk>(alloc: Global, journal: &mut Journal<D>, number: u32) -> bool {
+    match longest(alloc, number) {
+        Some(payload) => count(journal) == 3 && holds(alloc, journal, number, &payload),
+        None => false,
     }
-    Ok(journal.mend()? == Mended::Nothing)
+}
+
+/// Whether a journal has just these three, and nothing is in doubt.
+fn has_three<D: Disk>(alloc: Global, journal: &mut Journal<D>) -> bool {
+    holds_longest(alloc, journal, 1)
+        && holds_longest(alloc, journal, 2)
+        && holds_longest(alloc, journal, 3)
+        && mend(journal) == Ok(Mended::Nothing)
+}
+
+/// Whether a journal of these three is formed on a real file, and is found on it again.
+fn forms_and_finds_three(alloc: Global, disk: FileDisk<File>) -> Option<bool> {
+    let disk = with_three(alloc, disk)?;
+    let mut journal = attached(alloc, disk)?;
+    Some(has_three(alloc, &mut journal))
+}
+
+/// The disk on a file in the folder that the program runs in.
+fn real_disk(rt: &HostRuntime, name: &str) -> Option<FileDisk<File>> {
+    let mut shelf = FolderShelf::new(rt.alloc(), rt);
+    shelf.disk(rt.alloc(), name).ok()
 }
 
 /// A file of 98,364 bytes, which no page and no chunk of a scan holds.
 #[test]
 fn a_real_file_is_formed_appended_to_scanned_and_mended(rt: HostRuntime) -> Result<(), Fail> {
-    let alloc = rt.alloc();
     let name = "a_real_file_of_report_journal";
-    let mut shelf = FolderShelf::new(alloc, &rt);
-    let disk = with_three(alloc, shelf.disk(alloc, name)?)?;
-    let mut journal = attached(alloc, disk)?;
-    let holds = has_three(alloc, &mut journal)?;
+    let disk = real_disk(&rt, name).ok_or("no disk")?;
+    let holds = forms_and_finds_three(rt.alloc(), disk);
     let size = fs::metadata(&rt, name)?.len();
     fs::remove_file(&rt, name)?;
-    assert!(rt; holds);
+    assert_eq!(rt; holds, Some(true));
     assert_eq!(rt; size, 47 + 3 * (5 + 32_768) + 1);
     Ok(())
 }
