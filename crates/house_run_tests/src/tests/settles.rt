@@ -1,9 +1,14 @@
 //! The commands `standing` and `settle`.
-use super::journals::*;
-use super::*;
+use super::auctions::{TO_HUNDRED, TWO_GOODS, TWO_UNITS, auction_of, digest_of};
+use super::fixtures::Outside;
+use super::journals::{Report, journal_of, journal_with};
+use super::runs::{FailingRow, fails_so, runs_over};
+use std::alloc::Global;
+use std::sync::Wait;
+use std::thread::Threads;
 
 /// The reports of each clock where no, one and two units are worth 0, 10 and 14, then 0, 8 and 11, then 0, 6 and 7.
-const ALL: &[Row] = &[
+const ALL: &[Report] = &[
     [1, 1, 2, 2],
     [2, 1, 2, 2],
     [3, 1, 2, 2],
@@ -27,7 +32,7 @@ const ALL: &[Row] = &[
     [3, 7, 0, 1],
 ];
 
-const WITHOUT_FIRST: &[Row] = &[
+const WITHOUT_FIRST: &[Report] = &[
     [2, 1, 2, 2],
     [3, 1, 2, 2],
     [2, 2, 2, 2],
@@ -38,7 +43,7 @@ const WITHOUT_FIRST: &[Row] = &[
     [3, 4, 1, 1],
 ];
 
-const WITHOUT_SECOND: &[Row] = &[
+const WITHOUT_SECOND: &[Report] = &[
     [1, 1, 2, 2],
     [3, 1, 2, 2],
     [1, 2, 2, 2],
@@ -51,7 +56,7 @@ const WITHOUT_SECOND: &[Row] = &[
     [3, 5, 1, 1],
 ];
 
-const WITHOUT_THIRD: &[Row] = &[
+const WITHOUT_THIRD: &[Report] = &[
     [1, 1, 2, 2],
     [2, 1, 2, 2],
     [1, 2, 2, 2],
@@ -84,24 +89,50 @@ choice 3 1 1
 choice 3 2 1
 ";
 
-/// The journals of the clocks of an auction, each with the reports of its rows.
-fn journals_of(alloc: Global, auction: &[u8], rows: &[&[Row]]) -> Option<Vec<Vec<u8>>> {
-    let digest = digest_of(alloc, auction)?;
-    let mut journals = Vec::new(alloc);
+/// The files of a house: the auction, and the journals of its first clocks.
+const NAMES: &[&str] = &[
+    "a",
+    "j/clock-00.ahj",
+    "j/clock-01.ahj",
+    "j/clock-02.ahj",
+    "j/clock-03.ahj",
+];
+
+/// Adds the journals of the first clocks, each with these reports.
+fn push_journals(
+    alloc: Global,
+    contents: &mut Vec<Vec<u8>>,
+    digest: [u8; 32],
+    reports: &[&[Report]],
+) -> Option<()> {
     let mut clock = 0u32;
-    for reports in rows {
-        journals
-            .push(journal_with(alloc, clock, digest, reports)?)
+    for rows in reports {
+        contents
+            .push(journal_with(alloc, clock, digest, rows)?)
             .ok()?;
         clock = clock.saturating_add(1);
     }
-    Some(journals)
+    Some(())
 }
 
-/// The file of a clock's journal with the reports of these rows.
-fn journal_with(alloc: Global, clock: u32, digest: [u8; 32], rows: &[Row]) -> Option<Vec<u8>> {
-    let entries = entries_of(alloc, rows)?;
-    journal_of(alloc, clock, digest, &entries)
+/// The contents of a house of two units for so many bidders, whose clocks have these reports.
+fn house_of(alloc: Global, bidders: usize, reports: &[&[Report]]) -> Option<Vec<Vec<u8>>> {
+    let mut contents = only(alloc, auction_of(alloc, TO_HUNDRED, TWO_UNITS, bidders)?)?;
+    let digest = digest_in(alloc, &contents)?;
+    push_journals(alloc, &mut contents, digest, reports)?;
+    Some(contents)
+}
+
+/// The contents of a house without journals.
+fn only(alloc: Global, auction: Vec<u8>) -> Option<Vec<Vec<u8>>> {
+    let mut contents = Vec::new(alloc);
+    contents.push(auction).ok()?;
+    Some(contents)
+}
+
+/// The digest of the first of these contents.
+fn digest_in(alloc: Global, contents: &[Vec<u8>]) -> Option<[u8; 32]> {
+    digest_of(alloc, contents.first()?)
 }
 
 const SETTLE: &[&str] = &["settle", "a", "j"];
@@ -114,16 +145,15 @@ fn units_end_so(
     alloc: Global,
     words: &[&str],
     bidders: usize,
-    rows: &[&[Row]],
+    reports: &[&[Report]],
     status: u8,
     text: &str,
 ) -> Option<bool> {
-    let auction = auction_of(alloc, TWO_UNITS, bidders)?;
-    let journals = journals_of(alloc, &auction, rows)?;
-    house_ends_so(rt, alloc, words, &auction, &journals, status, text)
+    let contents = house_of(alloc, bidders, reports)?;
+    runs_over(rt, alloc, words, NAMES, &contents, status, text)
 }
 
-const THREE_BIDDERS: &[&[Row]] = &[ALL, WITHOUT_FIRST, WITHOUT_SECOND, WITHOUT_THIRD];
+const THREE_BIDDERS: &[&[Report]] = &[ALL, WITHOUT_FIRST, WITHOUT_SECOND, WITHOUT_THIRD];
 
 #[test]
 fn settles_two_units_among_three_bidders(rt: HostRuntime) {
@@ -144,7 +174,7 @@ clock 3 round 1 running prices 0 missing 1
 ";
 
 /// The first four reports of the clock of all bidders.
-const FIRST_FOUR: &[Row] = &[[1, 1, 2, 2], [2, 1, 2, 2], [3, 1, 2, 2], [1, 2, 2, 2]];
+const FIRST_FOUR: &[Report] = &[[1, 1, 2, 2], [2, 1, 2, 2], [3, 1, 2, 2], [1, 2, 2, 2]];
 
 #[test]
 fn tells_how_each_clock_stands(rt: HostRuntime) {
@@ -155,34 +185,7 @@ fn tells_how_each_clock_stands(rt: HostRuntime) {
 }
 
 /// The reports of one bidder's auction, who demands both units.
-const ONE_BIDDER: &[&[Row]] = &[&[[1, 1, 2, 2]]];
-
-/// Whether these words over one bidder's auction end so.
-fn one_bidder_ends_so(
-    rt: &(impl Threads + Wait + Sync),
-    alloc: Global,
-    words: &[&str],
-    status: u8,
-    text: &str,
-) -> Option<bool> {
-    units_end_so(rt, alloc, words, 1, ONE_BIDDER, status, text)
-}
-
-/// The place, from 0, of the first words of a table that end otherwise over it.
-fn first_other(
-    rt: &(impl Threads + Wait + Sync),
-    alloc: Global,
-    table: &[&[&str]],
-    status: u8,
-    text: &str,
-) -> Option<usize> {
-    for (place, words) in table.iter().enumerate() {
-        if one_bidder_ends_so(rt, alloc, words, status, text) != Some(true) {
-            return Some(place);
-        }
-    }
-    None
-}
+const ONE_BIDDER: &[&[Report]] = &[&[[1, 1, 2, 2]]];
 
 const JSON: &str =
     r#"{"bidders":[{"award":[2],"bidder":1,"credit":0,"debit":0,"pays":0}],"clocks":[{"choices":[{"bidder":1,"bundle":[2]}],"clock":0,"prices":[0],"steps":0},{"choices":[],"clock":1,"prices":[0],"steps":0}],"goods":1,"prices":[0]}
@@ -211,58 +214,59 @@ const NO_SETTLE: &[&[&str]] = &[
     &["check", "a", "--json"],
 ];
 
+/// The place, from 0, of the first words of a table that end otherwise over one bidder's auction.
+fn first_other(
+    rt: &(impl Threads + Wait + Sync),
+    alloc: Global,
+    table: &[&[&str]],
+    status: u8,
+    text: &str,
+) -> Option<usize> {
+    for (place, words) in table.iter().enumerate() {
+        if units_end_so(rt, alloc, words, 1, ONE_BIDDER, status, text) != Some(true) {
+            return Some(place);
+        }
+    }
+    None
+}
+
 #[test]
 fn takes_json_anywhere_and_once(rt: HostRuntime) {
-    assert_eq!(rt; first_other(&rt, rt.alloc(), WITH_JSON, 0, JSON), None);
-    assert_eq!(rt; first_other(&rt, rt.alloc(), NO_SETTLE, 2, "usage\n"), None);
+    let others = first_other(&rt, rt.alloc(), WITH_JSON, 0, JSON);
+    let commands = first_other(&rt, rt.alloc(), NO_SETTLE, 2, "usage\n");
+    assert_eq!(rt; (others, commands), (None, None));
 }
 
-const FIRST: &[u8] = &[1, 0, 0, 0, 1, 2, 0, 2, 0, 1, 0, 0];
+const FIRST: &[u8] = &[1, 0, 0, 0, 1, 2, 0, 2, 0, 1, 0, 0, 0, 1, 0, 1];
 
-const SECOND: &[u8] = &[2, 0, 0, 0, 1, 2, 0, 2, 0, 1, 0, 0];
+const SECOND: &[u8] = &[2, 0, 0, 0, 1, 2, 0, 2, 0, 1, 0, 0, 0, 1, 0, 1];
 
-const DEARER: &[u8] = &[1, 0, 0, 0, 2, 2, 0, 3, 0, 0, 0, 1, 0, 1, 0, 0];
+const DEARER: &[u8] = &[1, 0, 0, 0, 2, 2, 0, 3, 0, 0, 0, 1, 0, 1, 0, 0, 0, 1, 0, 1];
 
-const AGAIN: &[u8] = &[2, 0, 0, 0, 2, 2, 0, 2, 0, 1, 0, 0];
+const AGAIN: &[u8] = &[2, 0, 0, 0, 2, 2, 0, 2, 0, 1, 0, 0, 0, 1, 0, 1];
 
 /// The entries of each clock of two goods in one unit each, of which the first bidder wants one, and the second one the first alone.
-/// The bundle of both goods stands behind each.
+/// The bundle of both goods is the last of each.
 const TWO_GOODS_ENTRIES: &[&[&[u8]]] = &[&[FIRST, SECOND, DEARER, AGAIN], &[SECOND], &[FIRST]];
 
-fn with_both(alloc: Global, entry: &[u8]) -> Option<Vec<u8>> {
-    joined(alloc, &[entry, &[0, 1, 0, 1]])
-}
-
-/// The entries, each with the bundle of both goods behind the others.
-fn owned(alloc: Global, entries: &[&[u8]]) -> Option<Vec<Vec<u8>>> {
-    let mut all = Vec::new(alloc);
-    for entry in entries {
-        all.push(with_both(alloc, entry)?).ok()?;
-    }
-    Some(all)
-}
-
-/// The file of a clock's journal of these entries.
-fn two_goods_journal(
-    alloc: Global,
-    clock: u32,
-    digest: [u8; 32],
-    entries: &[&[u8]],
-) -> Option<Vec<u8>> {
-    let whole = owned(alloc, entries)?;
-    journal_of(alloc, clock, digest, &whole)
-}
-
-fn two_goods_journals(alloc: Global, digest: [u8; 32]) -> Option<Vec<Vec<u8>>> {
-    let mut journals = Vec::new(alloc);
+/// Adds the journals of these clocks.
+fn push_two_goods(alloc: Global, contents: &mut Vec<Vec<u8>>, digest: [u8; 32]) -> Option<()> {
     let mut clock = 0u32;
     for entries in TWO_GOODS_ENTRIES {
-        journals
-            .push(two_goods_journal(alloc, clock, digest, entries)?)
+        contents
+            .push(journal_of(alloc, clock, digest, None, entries)?)
             .ok()?;
         clock = clock.saturating_add(1);
     }
-    Some(journals)
+    Some(())
+}
+
+/// The contents of their house.
+fn house_of_two_goods(alloc: Global) -> Option<Vec<Vec<u8>>> {
+    let mut contents = only(alloc, auction_of(alloc, TO_HUNDRED, TWO_GOODS, 2)?)?;
+    let digest = digest_in(alloc, &contents)?;
+    push_two_goods(alloc, &mut contents, digest)?;
+    Some(contents)
 }
 
 const TWO_GOODS_SETTLED: &str = "settled goods 2 bidders 2
@@ -280,10 +284,8 @@ choice 2 1 1 0
 
 /// Whether the auction of two goods settles so.
 fn two_goods_settle(rt: &(impl Threads + Wait + Sync), alloc: Global) -> Option<bool> {
-    let auction = auction_of(alloc, TWO_GOODS, 2)?;
-    let digest = digest_of(alloc, &auction)?;
-    let journals = two_goods_journals(alloc, digest)?;
-    house_ends_so(rt, alloc, SETTLE, &auction, &journals, 0, TWO_GOODS_SETTLED)
+    let contents = house_of_two_goods(alloc)?;
+    runs_over(rt, alloc, SETTLE, NAMES, &contents, 0, TWO_GOODS_SETTLED)
 }
 
 #[test]
@@ -292,7 +294,7 @@ fn settles_one_of_two_goods_each(rt: HostRuntime) {
 }
 
 /// The reports of two bidders' auction, and the line of the first clock that is open.
-const OPEN: &[(&[&[Row]], &str)] = &[
+const OPEN: &[(&[&[Report]], &str)] = &[
     (&[], "open clock 0 round 1 missing 1\n"),
     (&[&[[1, 1, 2, 2]]], "open clock 0 round 1 missing 2\n"),
     (
@@ -332,6 +334,7 @@ fn two_reports(alloc: Global, clock: u32, digest: [u8; 32], second: u8) -> Optio
     journal_with(alloc, clock, digest, &[[1, 1, 2, 2], [second, 1, 2, 2]])
 }
 
+/// A journal that is wrong so.
 fn wrong_journal(alloc: Global, wrong: Wrong, digest: [u8; 32]) -> Option<Vec<u8>> {
     let good = two_reports(alloc, 0, digest, 2)?;
     match wrong {
@@ -353,12 +356,12 @@ const WRONG: &[(Wrong, &str)] = &[
     (Wrong::Twice, "bad journal clock 0 record 2 fault 6\n"),
 ];
 
-/// The journals of two bidders' auction, of which the only one is wrong so.
-fn wrong_journals(alloc: Global, auction: &[u8], wrong: Wrong) -> Option<Vec<Vec<u8>>> {
-    let digest = digest_of(alloc, auction)?;
-    let mut journals = Vec::new(alloc);
-    journals.push(wrong_journal(alloc, wrong, digest)?).ok()?;
-    Some(journals)
+/// The contents of two bidders' house, of which the only journal is wrong so.
+fn wrong_house(alloc: Global, wrong: Wrong) -> Option<Vec<Vec<u8>>> {
+    let mut contents = only(alloc, auction_of(alloc, TO_HUNDRED, TWO_UNITS, 2)?)?;
+    let digest = digest_in(alloc, &contents)?;
+    contents.push(wrong_journal(alloc, wrong, digest)?).ok()?;
+    Some(contents)
 }
 
 /// Whether these words refuse such a journal with this line.
@@ -369,9 +372,8 @@ fn is_refused(
     wrong: Wrong,
     line: &str,
 ) -> Option<bool> {
-    let auction = auction_of(alloc, TWO_UNITS, 2)?;
-    let journals = wrong_journals(alloc, &auction, wrong)?;
-    house_ends_so(rt, alloc, words, &auction, &journals, 8, line)
+    let contents = wrong_house(alloc, wrong)?;
+    runs_over(rt, alloc, words, NAMES, &contents, 8, line)
 }
 
 #[test]
@@ -384,49 +386,30 @@ fn tells_the_record_at_which_a_journal_is_refused(rt: HostRuntime) {
     }
 }
 
-/// The words, an opening that fails or a call on clock 1's journal that does, the status and the text.
-type DiskRow = (
-    &'static [&'static str],
-    Option<u64>,
-    Option<u64>,
-    u8,
-    &'static str,
-);
-
-const DISKS: &[DiskRow] = &[
-    (SETTLE, None, Some(0), 6, "disk fault clock 1\n"),
-    (STANDING, None, Some(0), 6, "disk fault clock 1\n"),
-    (SETTLE, Some(1), None, 6, "disk fault clock 0\n"),
-    (SETTLE, Some(2), None, 6, "disk fault clock 1\n"),
-    (SETTLE, Some(0), None, 4, "read fault\n"),
+/// The second file is the journal of clock 1.
+const FAILING: &[FailingRow] = &[
+    (Outside::File(1), 0, SETTLE, 6, "disk fault clock 1\n"),
+    (Outside::File(1), 0, STANDING, 6, "disk fault clock 1\n"),
+    (Outside::Opening, 1, SETTLE, 6, "disk fault clock 0\n"),
+    (Outside::Opening, 2, SETTLE, 6, "disk fault clock 1\n"),
+    (Outside::Opening, 0, SETTLE, 4, "read fault\n"),
 ];
 
-fn one_bidder_files(alloc: Global, call: Option<u64>) -> Option<Vec<ListFile>> {
-    let auction = auction_of(alloc, TWO_UNITS, 1)?;
-    let mut files = Vec::new(alloc);
-    files.push(list_file(alloc, "a", &auction, None)?).ok()?;
-    files
-        .push(list_file(alloc, "j/clock-01.ahj", b"", call)?)
-        .ok()?;
-    Some(files)
-}
-
-fn one_bidder_shelf(alloc: Global, opening: Option<u64>, call: Option<u64>) -> Option<ListShelf> {
-    let openings = plan_of(alloc, opening)?;
-    let files = one_bidder_files(alloc, call)?;
-    ListShelf::new(alloc, files, 9, openings).ok()
-}
-
-/// Whether the words of a row end as it says.
-fn ends_as_row(rt: &(impl Threads + Wait + Sync), alloc: Global, row: &DiskRow) -> Option<bool> {
-    let (words, opening, call, status, text) = row;
-    let mut shelf = one_bidder_shelf(alloc, *opening, *call)?;
-    ends_so(rt, alloc, words, &mut shelf, *status, text)
+/// Whether the words of a row over one bidder's auction end as it says.
+fn fails_over_house(
+    rt: &(impl Threads + Wait + Sync),
+    alloc: Global,
+    row: &FailingRow,
+) -> Option<bool> {
+    let auction = auction_of(alloc, TO_HUNDRED, TWO_UNITS, 1)?;
+    let files = [("a", auction.as_slice()), ("j/clock-01.ahj", b"")];
+    fails_so(rt, alloc, &files, row)
 }
 
 #[test]
 fn tells_the_clock_whose_journal_fails(rt: HostRuntime) {
-    for row in DISKS {
-        assert_eq!(rt; ends_as_row(&rt, rt.alloc(), row), Some(true), "{row:?}");
+    for row in FAILING {
+        let told = fails_over_house(&rt, rt.alloc(), row);
+        assert_eq!(rt; told, Some(true), "{row:?}");
     }
 }

@@ -1,27 +1,16 @@
 //! Bytes that nobody honest sends: each reader answers the fault that stands there first, and takes no more memory than its limit.
+use super::auctions::{FIRST_VERSION, ONE_UNIT, auction_of, digest_of};
+use super::fixtures::{Named, joined, sure_shelf};
+use super::nets::{net_with_doors, written_at};
+use super::runs::{Answer, answer_of, answer_over};
 use auction_file::{MOST_BYTES, read as read_auction};
-use house_io::{SureDoor, SureFile, SureLink, SureNet, SureShelf, SureSink};
-use house_run::run;
+use house_io::{SureNet, SureShelf};
 use lot_base::{Goods, Terms};
 use report_wire::{Reader, ToHouse};
 use std::alloc::Global;
 use std::sync::Wait;
 use std::thread::Threads;
 use valuation::read as read_values;
-
-/// One unit of one good for one bidder, whose token is `abc`.
-const AUCTION: &str = r#"
-version = 1
-ceiling = 10
-
-[[goods]]
-name = "oil"
-supply = 1
-
-[[bidders]]
-name = "ada"
-token = "ba7816bf8f01cfea414140de5dae2223b00361a396177a9cb410ff61f20015ad"
-"#;
 
 /// The frame by which ada begins a session.
 const HELLO: &[u8] = b"\x00\x00\x00\x04\x01\x01abc";
@@ -160,17 +149,19 @@ fn repeated(alloc: Global, front: &[u8], bytes: &[u8], times: usize) -> Option<V
     Some(all)
 }
 
+/// A copy of a text.
 fn text_of(alloc: Global, text: &str) -> Option<String> {
     String::from_str(alloc, text).ok()
 }
 
 /// How many frames are read, and the fault behind them.
-fn frames_of(alloc: Global, bytes: &[u8]) -> Option<String> {
+fn frames_answer(alloc: Global, bytes: &[u8]) -> Option<String> {
     let feed = Reader::<ToHouse>::new(alloc).feed(bytes).ok()?;
     format!(in alloc; "frames {} {:?}", feed.frames.len(), feed.fault).ok()
 }
 
-fn auction_of(alloc: Global, bytes: &[u8]) -> Option<String> {
+/// What the reader of auction files answers.
+fn auction_answer(alloc: Global, bytes: &[u8]) -> Option<String> {
     if bytes.len() > MOST_BYTES {
         return None;
     }
@@ -188,7 +179,8 @@ fn one_unit() -> Option<Terms> {
     }
 }
 
-fn values_of(alloc: Global, bytes: &[u8]) -> Option<String> {
+/// What the reader of valuations answers.
+fn values_answer(alloc: Global, bytes: &[u8]) -> Option<String> {
     let terms = one_unit()?;
     match read_values(alloc, &terms, bytes) {
         Ok(_) => text_of(alloc, "read"),
@@ -196,106 +188,56 @@ fn values_of(alloc: Global, bytes: &[u8]) -> Option<String> {
     }
 }
 
-fn file(alloc: Global, name: &str, bytes: Vec<u8>) -> Option<SureFile> {
-    let name = text_of(alloc, name)?;
-    Some(SureFile { name, bytes })
+/// The auction file of one unit of one good for one bidder, whose token is `abc`.
+fn ada_alone(alloc: Global) -> Option<Vec<u8>> {
+    auction_of(alloc, FIRST_VERSION, ONE_UNIT, 1)
 }
 
-/// The auction's file.
-fn auction_file(alloc: Global) -> Option<SureFile> {
-    file(alloc, "a", AUCTION.as_bytes().to_vec(alloc).ok()?)
-}
-
-/// A shelf with a file, and with another where one is given.
-fn shelf_of(alloc: Global, first: SureFile, second: Option<SureFile>) -> Option<SureShelf> {
-    let mut files = Vec::new(alloc);
-    files.push(first).ok()?;
-    if let Some(more) = second {
-        files.push(more).ok()?;
-    }
-    SureShelf::new(alloc, files, 1_000).ok()
-}
-
-fn link_of(alloc: Global, bytes: Vec<u8>) -> Option<SureLink> {
-    SureLink::new(alloc, bytes, 1_000).ok()
-}
-
-/// A door at which a link comes in that has these bytes.
-fn door_of(alloc: Global, bytes: Vec<u8>) -> Option<SureDoor> {
-    let mut links = Vec::new(alloc);
-    links.push(link_of(alloc, bytes)?).ok()?;
-    SureDoor::new(alloc, links).ok()
-}
-
-/// A net with one such door.
-fn net_of(alloc: Global, bytes: Vec<u8>) -> Option<SureNet> {
-    let mut doors = Vec::new(alloc);
-    doors.push(door_of(alloc, bytes)?).ok()?;
-    SureNet::new(alloc, doors, Vec::new(alloc)).ok()
-}
-
-/// A net without doors or links.
-fn no_net(alloc: Global) -> Option<SureNet> {
-    SureNet::new(alloc, Vec::new(alloc), Vec::new(alloc)).ok()
-}
-
-fn words_of(alloc: Global, words: &[&str]) -> Option<Vec<String>> {
-    let mut copies = Vec::new(alloc);
-    for word in words {
-        copies.push(text_of(alloc, word)?).ok()?;
-    }
-    Some(copies)
-}
-
-/// How a run of these words ends.
-fn ended(
-    rt: &(impl Threads + Wait + Sync),
-    alloc: Global,
-    words: &[String],
-    shelf: &mut SureShelf,
-    out: &mut SureSink,
-    net: &mut SureNet,
-) -> u8 {
-    run(rt, alloc, words, shelf, out, net).status()
-}
-
-fn sure_sink(alloc: Global) -> Option<SureSink> {
-    SureSink::new(alloc, 1_000).ok()
-}
-
-/// The first line of what was written.
-fn first_line(alloc: Global, out: &SureSink) -> Option<String> {
-    let text = String::from_utf8_lossy(alloc, out.written()).ok()?;
+/// The first line of a text.
+fn first_line(alloc: Global, text: &[u8]) -> Option<String> {
+    let text = String::from_utf8_lossy(alloc, text).ok()?;
     match text.as_str().split_once('\n') {
         Some((line, _)) => text_of(alloc, line),
         None => Some(String::new(alloc)),
     }
 }
 
-/// The status and the first line of a run over a shelf and a net.
-fn run_of(
-    rt: &(impl Threads + Wait + Sync),
-    alloc: Global,
-    words: &[&str],
-    mut shelf: SureShelf,
-    net: &mut SureNet,
-) -> Option<(u8, String)> {
-    let words = words_of(alloc, words)?;
-    let mut out = sure_sink(alloc)?;
-    let status = ended(rt, alloc, &words, &mut shelf, &mut out, net);
-    Some((status, first_line(alloc, &out)?))
+/// The status of an answer, and the first line of its text.
+fn status_and_line(alloc: Global, answer: &Answer) -> Option<String> {
+    let (status, text) = answer;
+    let line = first_line(alloc, text)?;
+    format!(in alloc; "{status} {line}").ok()
 }
 
-/// The status and the line of a command over a shelf and no net.
-fn command_of(
+/// How these words end over these files.
+fn command_answer(
     rt: &(impl Threads + Wait + Sync),
     alloc: Global,
     words: &[&str],
-    shelf: SureShelf,
+    files: &[Named],
 ) -> Option<String> {
-    let mut net = no_net(alloc)?;
-    let (status, line) = run_of(rt, alloc, words, shelf, &mut net)?;
-    format!(in alloc; "{status} {line}").ok()
+    let mut shelf = sure_shelf(alloc, files)?;
+    let answer = answer_over(rt, alloc, words, &mut shelf)?;
+    status_and_line(alloc, &answer)
+}
+
+const SERVE: &[&str] = &["serve", "a", "j", "house:1", "--doors=1"];
+
+/// A shelf with the auction.
+fn ada_shelf(alloc: Global) -> Option<SureShelf> {
+    let auction = ada_alone(alloc)?;
+    sure_shelf(alloc, &[("a", auction.as_slice())])
+}
+
+/// The first line of what a house on a net tells.
+fn served_line(
+    rt: &(impl Threads + Wait + Sync),
+    alloc: Global,
+    net: &mut SureNet,
+) -> Option<String> {
+    let mut shelf = ada_shelf(alloc)?;
+    let (_, text) = answer_of(rt, alloc, SERVE, &mut shelf, net)?;
+    first_line(alloc, &text)
 }
 
 /// What was written over the one link of the one door that was closed.
@@ -306,94 +248,71 @@ fn written_over(net: &SureNet) -> Option<&[u8]> {
     }
 }
 
-fn written_at(door: &SureDoor) -> Option<&[u8]> {
-    match door.hung_up() {
-        [link] => Some(link.written()),
-        _ => None,
-    }
-}
-
-const SERVE: &[&str] = &["serve", "a", "j", "house:1", "--doors=1"];
-
-/// How the session of these bytes ended, and what was written.
-fn session_of(rt: &(impl Threads + Wait + Sync), alloc: Global, bytes: Vec<u8>) -> Option<String> {
-    let shelf = shelf_of(alloc, auction_file(alloc)?, None)?;
-    let mut net = net_of(alloc, bytes)?;
-    let (_, line) = run_of(rt, alloc, SERVE, shelf, &mut net)?;
-    let written = written_over(&net)?;
+/// The line of a session, and what was written over its link.
+fn with_replies(alloc: Global, line: &str, net: &SureNet) -> Option<String> {
+    let written = written_over(net)?;
     format!(in alloc; "{line} {written:?}").ok()
 }
 
-/// How these words end over a file of this name and these bytes.
-fn read_as(
-    rt: &(impl Threads + Wait + Sync),
-    alloc: Global,
-    words: &[&str],
-    name: &str,
-    bytes: Vec<u8>,
-) -> Option<String> {
-    let shelf = shelf_of(alloc, file(alloc, name, bytes)?, None)?;
-    command_of(rt, alloc, words, shelf)
-}
-
-/// The digest of the auction's file.
-fn digest(alloc: Global) -> Option<[u8; 32]> {
-    match read_auction(alloc, AUCTION.as_bytes()) {
-        Ok(auction) => Some(auction.digest),
-        Err(_) => None,
-    }
-}
-
-/// The journal of the clock of all bidders with these bytes behind its header.
-fn journal_of(alloc: Global, bytes: &[u8], times: usize) -> Option<SureFile> {
-    let digest = digest(alloc)?;
-    let front = repeated(alloc, GATE_AND_FORMAT, &digest, 1)?;
-    file(
-        alloc,
-        "j/clock-00.ahj",
-        repeated(alloc, &front, bytes, times)?,
-    )
-}
-
-/// How a settlement of such a journal ends.
-fn settled(
+/// How the session of these bytes ended, and what was written.
+fn session_answer(
     rt: &(impl Threads + Wait + Sync),
     alloc: Global,
     bytes: &[u8],
-    times: usize,
 ) -> Option<String> {
-    let journal = journal_of(alloc, bytes, times)?;
-    let shelf = shelf_of(alloc, auction_file(alloc)?, Some(journal))?;
-    command_of(rt, alloc, &["settle", "a", "j"], shelf)
+    let mut net = net_with_doors(alloc, &[&[bytes]])?;
+    let line = served_line(rt, alloc, &mut net)?;
+    with_replies(alloc, line.as_str(), &net)
 }
 
-fn answer_of(
+/// The journal of the clock of all bidders with these bytes behind its header.
+fn journal_with<'a>(alloc: Global, digest: &'a [u8], bytes: &'a [u8]) -> Option<Vec<u8>> {
+    joined(alloc, &[GATE_AND_FORMAT, digest, bytes])
+}
+
+/// How a settlement of such a journal ends.
+fn settle_answer(rt: &(impl Threads + Wait + Sync), alloc: Global, bytes: &[u8]) -> Option<String> {
+    let auction = ada_alone(alloc)?;
+    let digest = digest_of(alloc, &auction)?;
+    let journal = journal_with(alloc, &digest, bytes)?;
+    let files = [
+        ("a", auction.as_slice()),
+        ("j/clock-00.ahj", journal.as_slice()),
+    ];
+    command_answer(rt, alloc, &["settle", "a", "j"], &files)
+}
+
+/// What the reader of a case answers to these bytes.
+fn answer_by(
     rt: &(impl Threads + Wait + Sync),
     alloc: Global,
     by: By,
     bytes: &[u8],
-    times: usize,
 ) -> Option<String> {
-    let front = match by {
+    match by {
+        By::Frames => frames_answer(alloc, bytes),
+        By::Session => session_answer(rt, alloc, bytes),
+        By::Auction => auction_answer(alloc, bytes),
+        By::Values => values_answer(alloc, bytes),
+        By::Check => command_answer(rt, alloc, &["check", "a"], &[("a", bytes)]),
+        By::Fold => command_answer(rt, alloc, &["fold", "1", "1", "10", "l"], &[("l", bytes)]),
+        By::Settle => settle_answer(rt, alloc, bytes),
+    }
+}
+
+/// What stands before the bytes of a case.
+fn front_of(by: By) -> &'static [u8] {
+    match by {
         By::Session => HELLO,
         _ => b"",
-    };
-    let whole = repeated(alloc, front, bytes, times)?;
-    match by {
-        By::Frames => frames_of(alloc, &whole),
-        By::Session => session_of(rt, alloc, whole),
-        By::Auction => auction_of(alloc, &whole),
-        By::Values => values_of(alloc, &whole),
-        By::Check => read_as(rt, alloc, &["check", "a"], "a", whole),
-        By::Fold => read_as(rt, alloc, &["fold", "1", "1", "10", "l"], "l", whole),
-        By::Settle => settled(rt, alloc, bytes, times),
     }
 }
 
 /// Whether a reader answers as the case says.
 fn answers(rt: &(impl Threads + Wait + Sync), alloc: Global, case: &Case) -> Option<bool> {
     let (by, bytes, times, wanted) = case;
-    let found = answer_of(rt, alloc, *by, bytes, *times)?;
+    let whole = repeated(alloc, front_of(*by), bytes, *times)?;
+    let found = answer_by(rt, alloc, *by, &whole)?;
     Some(found.as_str() == *wanted)
 }
 

@@ -1,29 +1,12 @@
-//! What no clause says: talks that were worked by hand, as a bid tells them.
-use house_io::{
-    ListLink, ListNet, Net, Shelf, Sink, SureFile, SureLink, SureNet, SureShelf, SureSink,
-};
-use house_run::run;
+//! The command `bid`: talks that were worked by hand.
+use super::auctions::bidder_shelf;
+use super::fixtures::{calls_from, joined};
+use super::nets::{LINK_ROOM, net_to_dial};
+use super::runs::ends_so;
+use house_io::{ListLink, ListNet, Net, SureNet};
 use std::alloc::Global;
 use std::sync::Wait;
 use std::thread::Threads;
-
-/// One unit of one good for two bidders.
-const AUCTION: &str = r#"
-version = 1
-ceiling = 10
-
-[[goods]]
-name = "oil"
-supply = 1
-
-[[bidders]]
-name = "ada"
-token = "ba7816bf8f01cfea414140de5dae2223b00361a396177a9cb410ff61f20015ad"
-
-[[bidders]]
-name = "bob"
-token = "2cf24dba5fb0a30e26e83b2ac5b9e29e1b161e5c1fa7425e73043362938b9824"
-"#;
 
 /// The unit is worth 4 to each.
 const VALUES: &str = r#"
@@ -93,77 +76,6 @@ const SPENT: &str = "looks spent clock 0\n";
 /// The words, what comes over the one link, in pieces, what goes over the one that was hung up, in pieces, the status and the text.
 type Case<'a> = (&'a [&'a str], &'a [&'a [u8]], &'a [&'a [u8]], u8, &'a str);
 
-fn words_of(alloc: Global, words: &[&str]) -> Option<Vec<String>> {
-    let mut copies = Vec::new(alloc);
-    for word in words {
-        copies.push(String::from_str(alloc, word).ok()?).ok()?;
-    }
-    Some(copies)
-}
-
-fn joined(alloc: Global, pieces: &[&[u8]]) -> Option<Vec<u8>> {
-    let mut bytes = Vec::new(alloc);
-    for piece in pieces {
-        bytes.extend_from_slice(piece).ok()?;
-    }
-    Some(bytes)
-}
-
-fn file_of(alloc: Global, name: &str, text: &str) -> Option<SureFile> {
-    let name = String::from_str(alloc, name).ok()?;
-    let bytes = text.as_bytes().to_vec(alloc).ok()?;
-    Some(SureFile { name, bytes })
-}
-
-/// The auction and the valuations.
-fn files(alloc: Global) -> Option<SureShelf> {
-    let mut files = Vec::new(alloc);
-    files.push(file_of(alloc, "a", AUCTION)?).ok()?;
-    files.push(file_of(alloc, "v", VALUES)?).ok()?;
-    SureShelf::new(alloc, files, 0).ok()
-}
-
-fn sure_link(alloc: Global, comes: &[&[u8]]) -> Option<SureLink> {
-    let bytes = joined(alloc, comes)?;
-    SureLink::new(alloc, bytes, 1_000).ok()
-}
-
-/// A net on which one link is dialled, with these bytes.
-fn sure_net(alloc: Global, comes: &[&[u8]]) -> Option<SureNet> {
-    let mut links = Vec::new(alloc);
-    links.push(sure_link(alloc, comes)?).ok()?;
-    SureNet::new(alloc, Vec::new(alloc), links).ok()
-}
-
-/// How a run of these words ends.
-fn ended<H: Shelf, S: Sink, N: Net>(
-    rt: &(impl Threads + Wait + Sync),
-    alloc: Global,
-    words: &[String],
-    shelf: &mut H,
-    out: &mut S,
-    net: &mut N,
-) -> u8 {
-    run(rt, alloc, words, shelf, out, net).status()
-}
-
-/// The status that these words end with. Nothing, here and below, where there is no memory.
-fn status_of<S: Sink, N: Net>(
-    rt: &(impl Threads + Wait + Sync),
-    alloc: Global,
-    words: &[&str],
-    out: &mut S,
-    net: &mut N,
-) -> Option<u8> {
-    let words = words_of(alloc, words)?;
-    let mut shelf = files(alloc)?;
-    Some(ended(rt, alloc, &words, &mut shelf, out, net))
-}
-
-fn sure_sink(alloc: Global) -> Option<SureSink> {
-    SureSink::new(alloc, 200).ok()
-}
-
 /// Whether these words over a net end with this status and text.
 fn ends_with<N: Net>(
     rt: &(impl Threads + Wait + Sync),
@@ -173,30 +85,29 @@ fn ends_with<N: Net>(
     status: u8,
     text: &str,
 ) -> Option<bool> {
-    let mut out = sure_sink(alloc)?;
-    let found = status_of(rt, alloc, words, &mut out, net)?;
-    Some(found == status && out.written() == text.as_bytes())
+    let mut shelf = bidder_shelf(alloc, VALUES)?;
+    ends_so(rt, alloc, words, &mut shelf, net, status, text)
 }
 
-/// What went over the one link that was hung up, if there is one, and whether there is no other.
-fn gone(net: &SureNet) -> (&[u8], bool) {
+/// Whether these bytes went over the one link that was hung up. Where there is none, none should have gone.
+fn has_written(net: &SureNet, bytes: &[u8]) -> bool {
     match net.hung_up() {
-        [link] => (link.written(), true),
-        [] => (b"", true),
-        _ => (b"", false),
+        [link] => link.written() == bytes,
+        [] => bytes.is_empty(),
+        _ => false,
     }
 }
 
-/// Whether these bytes went over the one link that was hung up, or there is none.
-fn has_gone(alloc: Global, net: &SureNet, goes: &[&[u8]]) -> Option<bool> {
-    let wanted = joined(alloc, goes)?;
-    let (bytes, alone) = gone(net);
-    Some(alone && bytes == wanted.as_slice())
+/// Whether these frames went over it.
+fn has_gone(alloc: Global, net: &SureNet, frames: &[&[u8]]) -> Option<bool> {
+    let bytes = joined(alloc, frames)?;
+    Some(has_written(net, &bytes))
 }
 
+/// Whether a bid ends as the case says.
 fn bids(rt: &(impl Threads + Wait + Sync), alloc: Global, case: &Case) -> Option<bool> {
     let (words, comes, goes, status, text) = case;
-    let mut net = sure_net(alloc, comes)?;
+    let mut net = net_to_dial(alloc, comes)?;
     let told = ends_with(rt, alloc, words, &mut net, *status, text)?;
     Some(told && has_gone(alloc, &net, goes)?)
 }
@@ -222,18 +133,19 @@ fn bids_end_as_their_talks(rt: HostRuntime) {
     }
 }
 
+/// The call of this number, if there is one.
 fn plan_of(alloc: Global, call: Option<u64>) -> Option<Vec<u64>> {
-    let mut plan = Vec::new(alloc);
-    if let Some(call) = call {
-        plan.push(call).ok()?;
+    match call {
+        Some(number) => calls_from(alloc, number, 1),
+        None => Some(Vec::new(alloc)),
     }
-    Some(plan)
 }
 
+/// A link over which the replies come, and of which a call may fail.
 fn list_link(alloc: Global, failing: Option<u64>) -> Option<ListLink> {
     let bytes = joined(alloc, REPLIES)?;
     let calls = plan_of(alloc, failing)?;
-    ListLink::new(alloc, bytes, 1_000, calls).ok()
+    ListLink::new(alloc, bytes, LINK_ROOM, calls).ok()
 }
 
 /// A net on which one link is dialled whose call of this number fails, or whose dialling does.

@@ -1,5 +1,7 @@
 //! Both ends of `run` over TCP: an auction that was worked by hand, and a door at which a connection is cut.
-use crate::tests::{AUCTION, SETTLE, file_of, journal_length, run_words, shelf_of};
+use super::auctions::{bidder_shelf, house_shelf};
+use super::runs::{Answer, answer_of, is_answer};
+use super::serves::{SETTLE, journal_length};
 use house_io::{Link, Net, SureShelf, TcpNet, send_whole};
 use std::alloc::Global;
 use std::net::{OpenListener, TcpListener};
@@ -59,22 +61,14 @@ const PAUSE: u64 = 10;
 /// However long the other bidder takes.
 const MOST_LOOKS: &str = "--looks=1000000000";
 
-/// The status and the text of an end.
-type Ran = Option<(u8, Vec<u8>)>;
+/// What a run answered, if there was memory.
+type Ran = Option<Answer>;
 
 /// An address of this machine at which nobody listens.
 fn free_address<R: std::net::Net>(rt: &R, alloc: Global) -> Result<String, Fail> {
     let listener = TcpListener::bind(rt, "127.0.0.1:0")?;
     let address = listener.local_addr()?;
     Ok(format!(in alloc; "{address}")?)
-}
-
-/// A shelf with the auction and the valuations.
-fn bidders_shelf(alloc: Global) -> Option<SureShelf> {
-    let mut files = Vec::new(alloc);
-    files.push(file_of(alloc, "a", AUCTION)?).ok()?;
-    files.push(file_of(alloc, "v", VALUES)?).ok()?;
-    SureShelf::new(alloc, files, 0).ok()
 }
 
 /// How these words end over TCP. There is nothing where there is no memory.
@@ -85,9 +79,10 @@ where
     T::Listener: Send,
 {
     let mut net = TcpNet::new(rt);
-    run_words(rt, alloc, words, shelf, &mut net)
+    answer_of(rt, alloc, words, shelf, &mut net)
 }
 
+/// Whether a run ended with a fault of the net.
 fn is_net_fault(ran: &Ran) -> bool {
     matches!(ran, Some((7, _)))
 }
@@ -99,7 +94,7 @@ where
     T::Stream: Send,
     T::Listener: Send,
 {
-    let mut shelf = bidders_shelf(alloc)?;
+    let mut shelf = bidder_shelf(alloc, VALUES)?;
     let words = ["bid", "a", "v", bidder, token, address, MOST_LOOKS];
     for _ in 0..TRIES {
         let ran = run_over_tcp(rt, alloc, &words, &mut shelf);
@@ -113,7 +108,7 @@ where
 
 /// Whether an end has this status and text.
 fn has_ended(ran: &Ran, status: u8, text: &str) -> bool {
-    matches!(ran, Some((found, bytes)) if *found == status && bytes.as_slice() == text.as_bytes())
+    matches!(ran, Some(answer) if is_answer(answer, status, text))
 }
 
 /// A house and both bidders.
@@ -163,7 +158,7 @@ where
     T::Stream: Send,
     T::Listener: Send,
 {
-    let mut shelf = shelf_of(alloc)?;
+    let mut shelf = house_shelf(alloc)?;
     let told = is_told(&serve_and_bid(rt, alloc, address, &mut shelf));
     let length = journal_length(&shelf)?;
     let settled = run_over_tcp(rt, alloc, SETTLE, &mut shelf);
@@ -262,8 +257,30 @@ where
     T::Stream: Send,
     T::Listener: Send,
 {
-    let mut shelf = shelf_of(alloc)?;
+    let mut shelf = house_shelf(alloc)?;
     run_over_tcp(rt, alloc, &["serve", "a", "j", address], &mut shelf)
+}
+
+/// Whether the front of a hello is sent over TCP.
+fn is_cut_over_tcp<T>(rt: &T, alloc: Global, address: &str) -> bool
+where
+    T: Threads + Wait + Sync + Clock + std::net::Net,
+    T::Stream: Send,
+    T::Listener: Send,
+{
+    let mut net = TcpNet::new(rt);
+    is_cut(rt, alloc, &mut net, address)
+}
+
+/// Whether a session over TCP goes well.
+fn is_served_over_tcp<T>(rt: &T, alloc: Global, address: &str) -> bool
+where
+    T: Threads + Wait + Sync + Clock + std::net::Net,
+    T::Stream: Send,
+    T::Listener: Send,
+{
+    let mut net = TcpNet::new(rt);
+    is_served(rt, alloc, &mut net, address)
 }
 
 /// Those who come to an address.
@@ -273,10 +290,9 @@ where
     T::Stream: Send,
     T::Listener: Send,
 {
-    let mut net = TcpNet::new(rt);
-    let cut = is_cut(rt, alloc, &mut net, address);
+    let cut = is_cut_over_tcp(rt, alloc, address);
     let other = serve_at(rt, alloc, address);
-    let served = is_served(rt, alloc, &mut net, address);
+    let served = is_served_over_tcp(rt, alloc, address);
     (cut, other, served)
 }
 
@@ -308,7 +324,7 @@ where
     T::Stream: Send,
     T::Listener: Send,
 {
-    let mut shelf = shelf_of(alloc)?;
+    let mut shelf = house_shelf(alloc)?;
     let visits = serve_visits(rt, alloc, address, &mut shelf);
     Some([
         visits.cut,
