@@ -7,8 +7,8 @@ use std::sync::atomic::{AtomicU32, AtomicU64};
 /// The most tickets that are out at once: a desk has at most so many seats, and a seat holds one ticket at most.
 const BELLS: usize = 64;
 
-/// A bell for each ticket that is out, at its number modulo 64, so that the end of a turn wakes the thread whose turn is next and no other.
-/// No clause speaks of it.
+/// A bell for each ticket that is out, at its number modulo 64, so that the end of a turn wakes the two threads whose turns are next and no
+/// other. No clause speaks of it.
 ///
 /// No ring is lost. A thread asks what it has `heard` before it looks at the number that is served. Who ends a turn changes that number and
 /// rings then. So where a thread saw the number of before, what it heard is of before too, and it does not fall asleep once the bell has rung.
