@@ -5,7 +5,7 @@ ghost use Rattle.demand_set.specs.Reading.{bundles_of, fault_from, unless, deman
 ghost use Rattle.demand_set.specs.Places.{place_in};
 
 use crate::reading::DemandFault;
-use lot_base::{Bundle, Goods};
+use lot_base::Goods;
 
 /// Why quantities of bundles of so many goods are no demand of these goods, if they are none.
 pub(crate) fn fault_of(goods: &Goods, count: u8, quantities: &[u16]) -> Option<DemandFault>
@@ -19,18 +19,7 @@ pub(crate) fn fault_of(goods: &Goods, count: u8, quantities: &[u16]) -> Option<D
     if quantities.is_empty() {
         return Some(DemandFault::Empty);
     }
-    first_fault(supply_of(goods).as_slice(), quantities)
-}
-
-/// The bundle of all units.
-fn supply_of(goods: &Goods) -> Bundle
-    ensures { result ≡ goods.now }
-{
-    let mut units = [0u16; 6];
-    for good in 0..goods.count() {
-        units[good as usize] = goods.supply(good);
-    }
-    Bundle::read(&units[..goods.count() as usize]).unwrap()
+    first_fault(goods.as_slice(), quantities)
 }
 
 /// The first fault of the bundles with these quantities, in one pass.

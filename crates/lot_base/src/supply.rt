@@ -75,6 +75,13 @@ impl Goods {
         self.supply.count()
     }
 
+    /// The supply of each good, good 0 first.
+    pub fn as_slice(&self) -> &[u16]
+        ensures { result.now ≡ self.now }
+    {
+        self.supply.as_slice()
+    }
+
     /// The supply of a good.
     pub fn supply(&self, good: u8) -> u16
         requires { good < length self.now }
