@@ -14,18 +14,18 @@ use Rattle.clock.specs.Kept.{HasStanding, KeepsTables, reports_before}
 use Rattle.clock.proofs.Judges.{same-means}
 use Rattle.clock.proofs.Pushed.{is-new}
 
-same-found : (o : Option (List (List ℕ))) (d : List (List ℕ)) → option_map (λ before. same_demand before d) o ≡ Some true → o ≡ Some d
+pub same-found : (o : Option (List (List ℕ))) (d : List (List ℕ)) → option_map (λ before. same_demand before d) o ≡ Some true → o ≡ Some d
 same-found None d e = absurd (let f : None ≡ Some true = e in cc)
 same-found (Some before) d e = let f : same_demand before d ≡ true = cc in ap Some ((same-means before d).0 f)
 
 -- what is kept for the bidder, if anything is, is the table of the report's demand
 pub table-again : (c : ClockHistory) (r : Report) (steps : ℕ) (phase : Phase) (prices : List ℕ) (account : Sums) (tables : List (Option LeastTable)) → HasStanding c (reports_before c steps) steps phase prices account → KeepsTables c (steps + 1) tables
-    → judgement_of c r ≡ Take → 1 ≤ steps → option_map (λ before. same_demand before r.demand) (demand_in c.reports steps r.bidder) ≡ Some true
+    → judgement_of c r ≡ Take → 1 ≤ steps → demand_in c.reports steps r.bidder ≡ Some r.demand
     → IfSome (slice_index_or tables r.bidder None) (λ table. IsTable (length c.terms.goods) (least r.demand) table.0)
 table-again c r steps phase prices account tables k kept take some same = by (slice_index_or tables r.bidder None) refl
   where
     found : demands_in c.reports steps r.bidder ≡ r.demand
-    found = ap (λ o. unwrap_or o []) (same-found (demand_in c.reports steps r.bidder) r.demand same)
+    found = ap (λ o. unwrap_or o []) same
 
     by : (o : Option LeastTable) → slice_index_or tables r.bidder None ≡ o → IfSome o (λ table. IsTable (length c.terms.goods) (least r.demand) table.0)
     by None e = tt

@@ -5,9 +5,9 @@ use Rattle.lot_base.specs.declared.phases.Phase.{Phase}
 use Rattle.lot_base.specs.declared.tables.LeastTable.{LeastTable}
 use Rattle.demand_set.specs.declared.reports.Report.{Report}
 use Rattle.lot_base.specs.Economy.{total_units, without}
-use Rattle.lot_base.specs.Demands.{least}
+use Rattle.lot_base.specs.Demands.{IsTable, least}
 use Rattle.lot_base.specs.Steps.{excess}
-use Rattle.lyapunov.specs.Excesses.{entry}
+use Rattle.lyapunov.specs.Excesses.{entry, IsAdded}
 use Rattle.credit_book.specs.Account.{Sums, sum_without, least_in}
 use Rattle.clock.specs.Reports.{ClockHistory, set_numbers, members_of, demand_in, demands_in}
 use Rattle.clock.specs.Accounts.{account_after}
@@ -59,6 +59,13 @@ pub record KeepsTables (c : ClockHistory) (round : ℕ) (tables : List (Option L
 pub record KeepsExcess (c : ClockHistory) (round : ℕ) (table : List ℤ) : Type 0 where
   pub entries : (set : ℕ) → set < 2 ^ length c.terms.goods → entry table set ≡ excess c.terms.goods (demands_in c.reports round) (members_of c) set
   pub others : (set : ℕ) → 2 ^ length c.terms.goods ≤ set → entry table set ≡ pos 0
+
+-- The least quantities of a demand are kept, and added to the excess.
+pub record CountsIn (goods : List ℕ) (demand : List (List ℕ)) (kept : Option LeastTable) (before after : List ℤ) : Type 0 where
+  pub table : LeastTable
+  pub is_kept : kept ≡ Some table
+  pub is_table : IsTable (length goods) (least demand) table.0
+  pub is_added : IsAdded goods table.0 before after
 
 -- What is kept of the round after so many steps.
 pub record KeepsRound (c : ClockHistory) (present : List Report) (left steps : ℕ) (held : List (Option LeastTable)) (sums : List ℤ) : Type 0 where

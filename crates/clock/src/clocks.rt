@@ -1,6 +1,9 @@
 //! A clock.
 ghost use Rattle.std.specs.Prelude.{◌≡◌, ◌+◌, ◌-◌, ◌<◌, ◌≤◌, ◌++◌, [], ◌∷◌, ℕ, List, length, max, slice_get, Some, OnOk, OnErr, IfOk, IfErr, IfSome, IsTrue, option_copied};
-ghost use Rattle.lyapunov.specs.Excesses.{IsExcessOf};
+ghost use Rattle.lyapunov.specs.Excesses.{IsExcessOf, HasRoom};
+ghost use Rattle.lot_base.specs.Goods.{IsSupply};
+ghost use Rattle.lot_base.specs.Demands.{IsDemand, IsTable, least};
+ghost use Rattle.clock.specs.Kept.{CountsIn};
 
 use crate::packing::Past;
 use crate::rounds::{find_demand, member_count, missing_in, prices_along};
@@ -84,7 +87,7 @@ impl Clock {
     ghost use Rattle.clock.specs.Reports.{demand_in, with_report, applied, members_of, most_reports};
     ghost use Rattle.clock.specs.Explained.{Explains, ShowsLeast};
     ghost use Rattle.clock.specs.Standing.{HasSteps, steps_of, last_round, phase_of, prices_after, prices_of, missing_of};
-    ghost use Rattle.clock.specs.Judging.{judgement_of, IsJudgement, IsLegal};
+    ghost use Rattle.clock.specs.Judging.{judgement_of, IsJudgement, IsLegal, IsAgain};
     ghost use Rattle.clock.specs.Accounts.{account_without};
     ghost use Rattle.credit_book.specs.Account.{sum_without};
     ghost use Rattle.clock.specs.declared.judging.Judgement.TheVariants.{Take};
@@ -185,9 +188,14 @@ impl Clock {
         ensures { self.new ≡ applied self.old report }
     {
         let goods = self.terms.goods;
-        let table = self.table_of(&report);
-        lyapunov::add_table(&goods, &mut self.excess, &table);
-        self.tables[report.bidder as usize] = Some(table);
+        let again = self.is_again(&report);
+        count_in(
+            &goods,
+            &mut self.excess,
+            &mut self.tables[report.bidder as usize],
+            again,
+            &report.demand,
+        );
         self.past.push(&report, 2 * MOST_BIDDERS as usize);
         let _in_room = self.present.push(report);
         self.left -= 1;
@@ -216,29 +224,16 @@ impl Clock {
         reopen(&goods, &mut self.excess);
     }
 
-    /// The least quantities of a report's demand. Where it is its bidder's demand in the round before, they are kept already.
-    fn table_of(&self, report: &Report) -> LeastTable
-        requires take { judgement_of self.now.history report.now ≡ Take }
-        requires fits { IsDemand self.now.history.terms.goods report.now.demand }
-        ensures { IsTable (length self.now.history.terms.goods) (least report.now.demand) result.0 }
-    {
-        match self.kept_table(report) {
-            Some(table) => *table,
-            None => report.demand.least_table(&self.terms.goods),
-        }
-    }
-
-    /// The table of a bidder's demand in the round before, where a report says the same again.
-    fn kept_table(&self, report: &Report) -> Option<&LeastTable>
-        requires { judgement_of self.now.history report.now ≡ Take }
-        ensures { IfSome (option_copied result) (λ table. IsTable (length self.now.history.terms.goods) (least report.now.demand) table.0) }
+    /// Whether a report demands what its bidder did in the round before.
+    fn is_again(&self, report: &Report) -> bool
+        ensures { IsTrue result → IsAgain self.now.history report.now }
     {
         if self.steps == 0 {
-            return None;
+            return false;
         }
         match self.repeats(report.bidder, self.steps, &report.demand) {
-            Some(true) => self.tables[report.bidder as usize].as_ref(),
-            Some(false) | None => None,
+            Some(again) => again,
+            None => false,
         }
     }
 
@@ -347,6 +342,31 @@ impl Clock {
     {
         find_demand(&self.present, self.steps + 1, bidder)
     }
+}
+
+/// Adds the least quantities of a demand to the excess, and keeps them. Those of a demand that is made again are kept already.
+fn count_in(
+    goods: &Goods,
+    excess: &mut Excess,
+    kept: &mut Option<LeastTable>,
+    again: bool,
+    demand: &Demand,
+)
+    requires supply { IsSupply goods.now }
+    requires fits { IsDemand goods.now demand.now }
+    requires room { HasRoom excess.old.0 }
+    requires again { IsTrue again → IfSome kept.old (λ table. IsTable (length goods.now) (least demand.now) table.0) }
+    ensures { CountsIn goods.now demand.now kept.new excess.old.0 excess.new.0 }
+{
+    if again {
+        if let Some(table) = kept {
+            lyapunov::add_table(goods, excess, table);
+            return;
+        }
+    }
+    let table = demand.least_table(goods);
+    lyapunov::add_table(goods, excess, &table);
+    *kept = Some(table);
 }
 
 /// Makes the excess that of a round without reports.

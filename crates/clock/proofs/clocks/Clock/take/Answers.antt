@@ -4,7 +4,7 @@ use Rattle.std.specs.List.{AllByRecursion}
 use Rattle.std.specs.Vec.{vec_len, vec_capacity}
 use Rattle.std.proofs.lemmas.List.{map-append, length-map}
 use Rattle.std.proofs.Math.Nat.{mul-le-mul_left}
-use Rattle.lot_base.specs.Demands.{IsDemand, IsTable, least}
+use Rattle.lot_base.specs.Demands.{IsDemand}
 use Rattle.lot_base.specs.declared.phases.Phase.TheVariants.{Running}
 use Rattle.lot_base.specs.declared.supply.GoodSet.{GoodSet}
 use Rattle.demand_set.proofs.PackedForm.{lengths-demand}
@@ -12,12 +12,13 @@ use Rattle.demand_set.specs.declared.reports.Report.{Report}
 use Rattle.clock.specs.declared.standing.Standing.{Standing}
 use Rattle.clock.specs.declared.judging.Judgement.TheVariants.{Take}
 use Rattle.clock.specs.Past.{PastOf, pushed, raised_on}
-use Rattle.clock.specs.Reports.{ClockOf, ClockHistory, members_of, with_report}
-use Rattle.clock.specs.Judging.{judgement_of}
+use Rattle.clock.specs.Reports.{ClockOf, ClockHistory, members_of, with_report, demand_in}
+use Rattle.clock.specs.Judging.{judgement_of, IsAgain}
+use Rattle.clock.specs.Standing.{steps_of}
 use Rattle.clock.specs.Kept.{IsKept, reports_before}
 use Rattle.clock.proofs.Stored.{in-room, pushed-items}
 use Rattle.clock.proofs.After.{kept-path}
-use Rattle.clock.proofs.Excesses.{small-table}
+use Rattle.clock.proofs.SameTables.{table-again}
 use Rattle.clock.proofs.Pushed.{is-new, room-left}
 use Rattle.clock.proofs.Taking.{moment, some-left, on-any, can-raise-on, few-on, count-reports}
 use Rattle.clock.proofs.Going.{sets-stay, kept-here, kept-next}
@@ -25,19 +26,8 @@ use Rattle.clock.proofs.Totals.{members-few}
 use Rattle.clock.proofs.Truthful.{length-sets_of}
 use Rattle.clock.proofs.clocks.Clock.take.Goals as goal
 
-pub add_table-requires-clause-small : goal.add_table-requires-clause-small
-add_table-requires-clause-small c =
-    let i = c.self.inside in
-    let r = c.args.report in
-    let h : ClockHistory = record { terms = i.terms; number = i.number; reports = i.past.reports } in
-    let taken : judgement_of h r ≡ Take = ap (λ (k : ClockOf). judgement_of k.history r) c.self.view_is ∙ c.requires.take in
-    let fit : IsDemand h.terms.goods r.demand = subst (λ (k : ClockOf). IsDemand k.history.terms.goods r.demand) (sym c.self.view_is) c.requires.fits in
-    let left = some-left h r i.present.items i.left i.steps i.phase i.prices i.account i.tables i.excess.0 c.self.invariant.standing c.self.invariant.round taken in
-    let table : IsTable (length h.terms.goods) (least r.demand) c.table_of-table.result.0 = subst (λ (k : ClockOf). IsTable (length k.history.terms.goods) (least r.demand) c.table_of-table.result.0) (sym c.self.view_is) c.table_of-table.ensures in
-    small-table h.terms.goods r.demand c.table_of-table.result.0 h.terms.supply fit table
-
-pub add_table-requires-clause-room : goal.add_table-requires-clause-room
-add_table-requires-clause-room c =
+pub count_in-requires-clause-room : goal.count_in-requires-clause-room
+count_in-requires-clause-room c =
     let i = c.self.inside in
     let r = c.args.report in
     let h : ClockHistory = record { terms = i.terms; number = i.number; reports = i.past.reports } in
@@ -46,6 +36,19 @@ add_table-requires-clause-room c =
     let left = some-left h r i.present.items i.left i.steps i.phase i.prices i.account i.tables i.excess.0 c.self.invariant.standing c.self.invariant.round taken in
     let new = is-new h r (reports_before h i.steps) i.steps i.phase i.prices i.account c.self.invariant.standing taken in
     room-left h i.present.items i.left i.steps i.tables i.excess.0 r.bidder c.self.invariant.standing.legal c.self.invariant.round new.member new.absent left
+
+-- what is kept of a demand that is made again is its table
+pub count_in-requires-clause-again : goal.count_in-requires-clause-again
+count_in-requires-clause-again c = λ yes.
+    let i = c.self.inside in
+    let r = c.args.report in
+    let h : ClockHistory = record { terms = i.terms; number = i.number; reports = i.past.reports } in
+    let taken : judgement_of h r ≡ Take = ap (λ (k : ClockOf). judgement_of k.history r) c.self.view_is ∙ c.requires.take in
+    let again : IsAgain h r = subst (λ (k : ClockOf). IsAgain k.history r) (sym c.self.view_is) (c.is_again-again.ensures yes) in
+    let are : i.steps ≡ steps_of h = c.self.invariant.standing.steps_are in
+    let S : ℕ → Type 0 = λ n. 1 ≤ n in
+    let D : ℕ → Type 0 = λ n. demand_in h.reports n r.bidder ≡ Some r.demand in
+    table-again h r i.steps i.phase i.prices i.account i.tables c.self.invariant.standing c.self.invariant.round.tables taken (subst S (sym are) again.some) (subst D (sym are) again.same)
 
 pub push-requires-clause-goods : goal.push-requires-clause-goods
 push-requires-clause-goods c =
@@ -76,14 +79,15 @@ next-standing-requires-clause-below c =
     let taken : judgement_of h r ≡ Take = ap (λ (k : ClockOf). judgement_of k.history r) c.self.view_is ∙ c.requires.take in
     let fit : IsDemand h.terms.goods r.demand = subst (λ (k : ClockOf). IsDemand k.history.terms.goods r.demand) (sym c.self.view_is) c.requires.fits in
     let left = some-left h r i.present.items i.left i.steps i.phase i.prices i.account i.tables i.excess.0 c.self.invariant.standing c.self.invariant.round taken in
-    let table : IsTable (length h.terms.goods) (least r.demand) c.table_of-table.result.0 = subst (λ (k : ClockOf). IsTable (length k.history.terms.goods) (least r.demand) c.table_of-table.result.0) (sym c.self.view_is) c.table_of-table.ensures in
+    let counted = c.count_in.ensures in
+    let t = counted.table in
     let size : vec_len i.present ≡ length i.present.items = omega (arith, i.present.ok) in
     let below : vec_len i.present < vec_capacity i.present = omega (arith, size, left, c.self.invariant.round.counted, c.self.invariant.room) in
     let ok = in-room c.push-in_room.result (vec_capacity i.present) (vec_len i.present) c.push-in_room.ensures.full below in
     let now = pushed-items c.push-in_room.result i.present.items c.push-in_room.new.self.items r ok c.push-in_room.ensures.items in
-    let m = moment h r i.present.items c.push-in_room.new.self.items i.left i.steps i.phase i.prices i.account i.tables (set i.tables r.bidder (Some c.table_of-table.result)) c.table_of-table.result i.excess.0 c.add_table.new.excess.0
-    c.self.invariant.standing c.self.invariant.round taken fit table c.add_table.ensures refl now in
-    can-raise-on h r c.push-in_room.new.self.items i.left i.steps i.phase i.prices (set i.tables r.bidder (Some c.table_of-table.result)) c.add_table.new.excess.0 i.account m
+    let m = moment h r i.present.items c.push-in_room.new.self.items i.left i.steps i.phase i.prices i.account i.tables (set i.tables r.bidder c.count_in.new.kept) t i.excess.0 c.count_in.new.excess.0
+    c.self.invariant.standing c.self.invariant.round taken fit counted.is_table counted.is_added (ap (λ s. set i.tables r.bidder s) counted.is_kept) now in
+    can-raise-on h r c.push-in_room.new.self.items i.left i.steps i.phase i.prices (set i.tables r.bidder c.count_in.new.kept) c.count_in.new.excess.0 i.account m
 
 pub next-standing-requires-clause-few : goal.next-standing-requires-clause-few
 next-standing-requires-clause-few c =
@@ -93,14 +97,15 @@ next-standing-requires-clause-few c =
     let taken : judgement_of h r ≡ Take = ap (λ (k : ClockOf). judgement_of k.history r) c.self.view_is ∙ c.requires.take in
     let fit : IsDemand h.terms.goods r.demand = subst (λ (k : ClockOf). IsDemand k.history.terms.goods r.demand) (sym c.self.view_is) c.requires.fits in
     let left = some-left h r i.present.items i.left i.steps i.phase i.prices i.account i.tables i.excess.0 c.self.invariant.standing c.self.invariant.round taken in
-    let table : IsTable (length h.terms.goods) (least r.demand) c.table_of-table.result.0 = subst (λ (k : ClockOf). IsTable (length k.history.terms.goods) (least r.demand) c.table_of-table.result.0) (sym c.self.view_is) c.table_of-table.ensures in
+    let counted = c.count_in.ensures in
+    let t = counted.table in
     let size : vec_len i.present ≡ length i.present.items = omega (arith, i.present.ok) in
     let below : vec_len i.present < vec_capacity i.present = omega (arith, size, left, c.self.invariant.round.counted, c.self.invariant.room) in
     let ok = in-room c.push-in_room.result (vec_capacity i.present) (vec_len i.present) c.push-in_room.ensures.full below in
     let now = pushed-items c.push-in_room.result i.present.items c.push-in_room.new.self.items r ok c.push-in_room.ensures.items in
-    let m = moment h r i.present.items c.push-in_room.new.self.items i.left i.steps i.phase i.prices i.account i.tables (set i.tables r.bidder (Some c.table_of-table.result)) c.table_of-table.result i.excess.0 c.add_table.new.excess.0
-    c.self.invariant.standing c.self.invariant.round taken fit table c.add_table.ensures refl now in
-    few-on h r c.push-in_room.new.self.items i.left i.steps i.phase i.prices (set i.tables r.bidder (Some c.table_of-table.result)) c.add_table.new.excess.0 i.account m
+    let m = moment h r i.present.items c.push-in_room.new.self.items i.left i.steps i.phase i.prices i.account i.tables (set i.tables r.bidder c.count_in.new.kept) t i.excess.0 c.count_in.new.excess.0
+    c.self.invariant.standing c.self.invariant.round taken fit counted.is_table counted.is_added (ap (λ s. set i.tables r.bidder s) counted.is_kept) now in
+    few-on h r c.push-in_room.new.self.items i.left i.steps i.phase i.prices (set i.tables r.bidder c.count_in.new.kept) c.count_in.new.excess.0 i.account m
 
 pub invariant_of-self : goal.invariant_of-self
 invariant_of-self c =
@@ -110,20 +115,21 @@ invariant_of-self c =
     let taken : judgement_of h r ≡ Take = ap (λ (k : ClockOf). judgement_of k.history r) c.self.view_is ∙ c.requires.take in
     let fit : IsDemand h.terms.goods r.demand = subst (λ (k : ClockOf). IsDemand k.history.terms.goods r.demand) (sym c.self.view_is) c.requires.fits in
     let left = some-left h r i.present.items i.left i.steps i.phase i.prices i.account i.tables i.excess.0 c.self.invariant.standing c.self.invariant.round taken in
-    let table : IsTable (length h.terms.goods) (least r.demand) c.table_of-table.result.0 = subst (λ (k : ClockOf). IsTable (length k.history.terms.goods) (least r.demand) c.table_of-table.result.0) (sym c.self.view_is) c.table_of-table.ensures in
+    let counted = c.count_in.ensures in
+    let t = counted.table in
     let size : vec_len i.present ≡ length i.present.items = omega (arith, i.present.ok) in
     let below : vec_len i.present < vec_capacity i.present = omega (arith, size, left, c.self.invariant.round.counted, c.self.invariant.room) in
     let ok = in-room c.push-in_room.result (vec_capacity i.present) (vec_len i.present) c.push-in_room.ensures.full below in
     let now = pushed-items c.push-in_room.result i.present.items c.push-in_room.new.self.items r ok c.push-in_room.ensures.items in
-    let m = moment h r i.present.items c.push-in_room.new.self.items i.left i.steps i.phase i.prices i.account i.tables (set i.tables r.bidder (Some c.table_of-table.result)) c.table_of-table.result i.excess.0 c.add_table.new.excess.0
-    c.self.invariant.standing c.self.invariant.round taken fit table c.add_table.ensures refl now in
+    let m = moment h r i.present.items c.push-in_room.new.self.items i.left i.steps i.phase i.prices i.account i.tables (set i.tables r.bidder c.count_in.new.kept) t i.excess.0 c.count_in.new.excess.0
+    c.self.invariant.standing c.self.invariant.round taken fit counted.is_table counted.is_added (ap (λ s. set i.tables r.bidder s) counted.is_kept) now in
     let s : Standing = record { steps = i.steps; phase = Running; prices = i.prices; raised = None } in
-    let on = on-any h r c.push-in_room.new.self.items i.left i.steps i.phase i.prices (set i.tables r.bidder (Some c.table_of-table.result)) c.add_table.new.excess.0 i.account i.account s m (λ _. record { standing = refl; account = refl }) (λ none. absurd (omega (arith, none, c.if-self-gt0.true))) in
+    let on = on-any h r c.push-in_room.new.self.items i.left i.steps i.phase i.prices (set i.tables r.bidder c.count_in.new.kept) c.count_in.new.excess.0 i.account i.account s m (λ _. record { standing = refl; account = refl }) (λ none. absurd (omega (arith, none, c.if-self-gt0.true))) in
     let stay = sets-stay h r i.steps (kept-path h (reports_before h i.steps) i.steps i.phase i.prices i.account c.self.invariant.standing) in
     let K : PastOf → Type 0 = λ p. IsKept (record { terms = i.terms; number = i.number; reports = p.reports }) p c.push-in_room.new.self.items (i.left - 1) i.steps Running i.prices
-    (set i.tables r.bidder (Some c.table_of-table.result)) c.add_table.new.excess.0 i.account (vec_capacity c.push-in_room.new.self) in
+    (set i.tables r.bidder c.count_in.new.kept) c.count_in.new.excess.0 i.account (vec_capacity c.push-in_room.new.self) in
     let room = c.push-in_room.ensures.capacity in
-    subst K (sym c.push.ensures) (kept-here (with_report h r) (pushed i.past r) c.push-in_room.new.self.items (i.left - 1) i.steps (set i.tables r.bidder (Some c.table_of-table.result)) c.add_table.new.excess.0 i.account s (vec_capacity c.push-in_room.new.self)
+    subst K (sym c.push.ensures) (kept-here (with_report h r) (pushed i.past r) c.push-in_room.new.self.items (i.left - 1) i.steps (set i.tables r.bidder c.count_in.new.kept) c.count_in.new.excess.0 i.account s (vec_capacity c.push-in_room.new.self)
     on refl c.self.invariant.goods (c.self.invariant.sets ∙ sym stay) (omega (arith, c.self.invariant.room, room)))
 
 pub invariant_of-self-in_default : goal.invariant_of-self-in_default
@@ -134,19 +140,20 @@ invariant_of-self-in_default c =
     let taken : judgement_of h r ≡ Take = ap (λ (k : ClockOf). judgement_of k.history r) c.self.view_is ∙ c.requires.take in
     let fit : IsDemand h.terms.goods r.demand = subst (λ (k : ClockOf). IsDemand k.history.terms.goods r.demand) (sym c.self.view_is) c.requires.fits in
     let left = some-left h r i.present.items i.left i.steps i.phase i.prices i.account i.tables i.excess.0 c.self.invariant.standing c.self.invariant.round taken in
-    let table : IsTable (length h.terms.goods) (least r.demand) c.table_of-table.result.0 = subst (λ (k : ClockOf). IsTable (length k.history.terms.goods) (least r.demand) c.table_of-table.result.0) (sym c.self.view_is) c.table_of-table.ensures in
+    let counted = c.count_in.ensures in
+    let t = counted.table in
     let size : vec_len i.present ≡ length i.present.items = omega (arith, i.present.ok) in
     let below : vec_len i.present < vec_capacity i.present = omega (arith, size, left, c.self.invariant.round.counted, c.self.invariant.room) in
     let ok = in-room c.push-in_room.result (vec_capacity i.present) (vec_len i.present) c.push-in_room.ensures.full below in
     let now = pushed-items c.push-in_room.result i.present.items c.push-in_room.new.self.items r ok c.push-in_room.ensures.items in
-    let m = moment h r i.present.items c.push-in_room.new.self.items i.left i.steps i.phase i.prices i.account i.tables (set i.tables r.bidder (Some c.table_of-table.result)) c.table_of-table.result i.excess.0 c.add_table.new.excess.0
-    c.self.invariant.standing c.self.invariant.round taken fit table c.add_table.ensures refl now in
-    let on = on-any h r c.push-in_room.new.self.items i.left i.steps i.phase i.prices (set i.tables r.bidder (Some c.table_of-table.result)) c.add_table.new.excess.0 i.account c.next-standing.new.account c.next-standing.result m c.next-standing.ensures.waits c.next-standing.ensures.turns in
+    let m = moment h r i.present.items c.push-in_room.new.self.items i.left i.steps i.phase i.prices i.account i.tables (set i.tables r.bidder c.count_in.new.kept) t i.excess.0 c.count_in.new.excess.0
+    c.self.invariant.standing c.self.invariant.round taken fit counted.is_table counted.is_added (ap (λ s. set i.tables r.bidder s) counted.is_kept) now in
+    let on = on-any h r c.push-in_room.new.self.items i.left i.steps i.phase i.prices (set i.tables r.bidder c.count_in.new.kept) c.count_in.new.excess.0 i.account c.next-standing.new.account c.next-standing.result m c.next-standing.ensures.waits c.next-standing.ensures.turns in
     let stay = sets-stay h r i.steps (kept-path h (reports_before h i.steps) i.steps i.phase i.prices i.account c.self.invariant.standing) in
     let K : PastOf → Type 0 = λ p. IsKept (record { terms = i.terms; number = i.number; reports = p.reports }) p c.push-in_room.new.self.items (i.left - 1) c.next-standing.result.steps c.next-standing.result.phase c.next-standing.result.prices
-    (set i.tables r.bidder (Some c.table_of-table.result)) c.add_table.new.excess.0 c.next-standing.new.account (vec_capacity c.push-in_room.new.self) in
+    (set i.tables r.bidder c.count_in.new.kept) c.count_in.new.excess.0 c.next-standing.new.account (vec_capacity c.push-in_room.new.self) in
     let room = c.push-in_room.ensures.capacity in
-    subst K (sym c.push.ensures) (kept-here (with_report h r) (pushed i.past r) c.push-in_room.new.self.items (i.left - 1) i.steps (set i.tables r.bidder (Some c.table_of-table.result)) c.add_table.new.excess.0 c.next-standing.new.account c.next-standing.result (vec_capacity c.push-in_room.new.self)
+    subst K (sym c.push.ensures) (kept-here (with_report h r) (pushed i.past r) c.push-in_room.new.self.items (i.left - 1) i.steps (set i.tables r.bidder c.count_in.new.kept) c.count_in.new.excess.0 c.next-standing.new.account c.next-standing.result (vec_capacity c.push-in_room.new.self)
     on c.in_default.is c.self.invariant.goods (c.self.invariant.sets ∙ sym stay) (omega (arith, c.self.invariant.room, room)))
 
 pub raise-requires : goal.raise-requires
@@ -174,13 +181,14 @@ overflow_cast-self c =
     let taken : judgement_of h r ≡ Take = ap (λ (k : ClockOf). judgement_of k.history r) c.self.view_is ∙ c.requires.take in
     let fit : IsDemand h.terms.goods r.demand = subst (λ (k : ClockOf). IsDemand k.history.terms.goods r.demand) (sym c.self.view_is) c.requires.fits in
     let left = some-left h r i.present.items i.left i.steps i.phase i.prices i.account i.tables i.excess.0 c.self.invariant.standing c.self.invariant.round taken in
-    let table : IsTable (length h.terms.goods) (least r.demand) c.table_of-table.result.0 = subst (λ (k : ClockOf). IsTable (length k.history.terms.goods) (least r.demand) c.table_of-table.result.0) (sym c.self.view_is) c.table_of-table.ensures in
+    let counted = c.count_in.ensures in
+    let t = counted.table in
     let size : vec_len i.present ≡ length i.present.items = omega (arith, i.present.ok) in
     let below : vec_len i.present < vec_capacity i.present = omega (arith, size, left, c.self.invariant.round.counted, c.self.invariant.room) in
     let ok = in-room c.push-in_room.result (vec_capacity i.present) (vec_len i.present) c.push-in_room.ensures.full below in
     let now = pushed-items c.push-in_room.result i.present.items c.push-in_room.new.self.items r ok c.push-in_room.ensures.items in
-    let m = moment h r i.present.items c.push-in_room.new.self.items i.left i.steps i.phase i.prices i.account i.tables (set i.tables r.bidder (Some c.table_of-table.result)) c.table_of-table.result i.excess.0 c.add_table.new.excess.0
-    c.self.invariant.standing c.self.invariant.round taken fit table c.add_table.ensures refl now in
+    let m = moment h r i.present.items c.push-in_room.new.self.items i.left i.steps i.phase i.prices i.account i.tables (set i.tables r.bidder c.count_in.new.kept) t i.excess.0 c.count_in.new.excess.0
+    c.self.invariant.standing c.self.invariant.round taken fit counted.is_table counted.is_added (ap (λ s. set i.tables r.bidder s) counted.is_kept) now in
     let f = members-few i.terms.bidders i.number in
     let b = i.terms.bidders_in_range.at_most in
     let k = m.round.counted in
@@ -194,25 +202,26 @@ invariant_of-self-2 c =
     let taken : judgement_of h r ≡ Take = ap (λ (k : ClockOf). judgement_of k.history r) c.self.view_is ∙ c.requires.take in
     let fit : IsDemand h.terms.goods r.demand = subst (λ (k : ClockOf). IsDemand k.history.terms.goods r.demand) (sym c.self.view_is) c.requires.fits in
     let left = some-left h r i.present.items i.left i.steps i.phase i.prices i.account i.tables i.excess.0 c.self.invariant.standing c.self.invariant.round taken in
-    let table : IsTable (length h.terms.goods) (least r.demand) c.table_of-table.result.0 = subst (λ (k : ClockOf). IsTable (length k.history.terms.goods) (least r.demand) c.table_of-table.result.0) (sym c.self.view_is) c.table_of-table.ensures in
+    let counted = c.count_in.ensures in
+    let t = counted.table in
     let size : vec_len i.present ≡ length i.present.items = omega (arith, i.present.ok) in
     let below : vec_len i.present < vec_capacity i.present = omega (arith, size, left, c.self.invariant.round.counted, c.self.invariant.room) in
     let ok = in-room c.push-in_room.result (vec_capacity i.present) (vec_len i.present) c.push-in_room.ensures.full below in
     let now = pushed-items c.push-in_room.result i.present.items c.push-in_room.new.self.items r ok c.push-in_room.ensures.items in
-    let m = moment h r i.present.items c.push-in_room.new.self.items i.left i.steps i.phase i.prices i.account i.tables (set i.tables r.bidder (Some c.table_of-table.result)) c.table_of-table.result i.excess.0 c.add_table.new.excess.0
-    c.self.invariant.standing c.self.invariant.round taken fit table c.add_table.ensures refl now in
-    let on = on-any h r c.push-in_room.new.self.items i.left i.steps i.phase i.prices (set i.tables r.bidder (Some c.table_of-table.result)) c.add_table.new.excess.0 i.account c.next-standing.new.account c.next-standing.result m c.next-standing.ensures.waits c.next-standing.ensures.turns in
+    let m = moment h r i.present.items c.push-in_room.new.self.items i.left i.steps i.phase i.prices i.account i.tables (set i.tables r.bidder c.count_in.new.kept) t i.excess.0 c.count_in.new.excess.0
+    c.self.invariant.standing c.self.invariant.round taken fit counted.is_table counted.is_added (ap (λ s. set i.tables r.bidder s) counted.is_kept) now in
+    let on = on-any h r c.push-in_room.new.self.items i.left i.steps i.phase i.prices (set i.tables r.bidder c.count_in.new.kept) c.count_in.new.excess.0 i.account c.next-standing.new.account c.next-standing.result m c.next-standing.ensures.waits c.next-standing.ensures.turns in
     let stay = sets-stay h r i.steps (kept-path h (reports_before h i.steps) i.steps i.phase i.prices i.account c.self.invariant.standing) in
     let past = c.raise.ensures ∙ ap (λ (p : PastOf). raised_on p c.in-Some.set) c.push.ensures in
     let K : PastOf → Type 0 = λ p. IsKept (record { terms = i.terms; number = i.number; reports = p.reports }) p c.clear.new.self.items c.len.result c.next-standing.result.steps c.next-standing.result.phase c.next-standing.result.prices
-    (set i.tables r.bidder (Some c.table_of-table.result)) c.reopen.new.excess.0 c.next-standing.new.account (vec_capacity c.clear.new.self) in
+    (set i.tables r.bidder c.count_in.new.kept) c.reopen.new.excess.0 c.next-standing.new.account (vec_capacity c.clear.new.self) in
     let room = c.push-in_room.ensures.capacity in
     let size : length c.push-in_room.new.self.items ≡ c.len.result = omega (arith, c.len.ensures, c.push-in_room.new.self.ok) in
     let sets = map-append (λ (z : GoodSet). z.0) i.past.sets (c.in-Some.set ∷ []) ∙ ap (λ ns. ns ++ c.in-Some.set.0 ∷ []) (c.self.invariant.sets ∙ sym stay) in
-    let kept = kept-next (with_report h r) (raised_on (pushed i.past r) c.in-Some.set) c.push-in_room.new.self.items (i.left - 1) i.steps (set i.tables r.bidder (Some c.table_of-table.result)) c.add_table.new.excess.0 c.reopen.new.excess.0 c.next-standing.new.account c.next-standing.result c.in-Some.set (vec_capacity c.clear.new.self)
+    let kept = kept-next (with_report h r) (raised_on (pushed i.past r) c.in-Some.set) c.push-in_room.new.self.items (i.left - 1) i.steps (set i.tables r.bidder c.count_in.new.kept) c.count_in.new.excess.0 c.reopen.new.excess.0 c.next-standing.new.account c.next-standing.result c.in-Some.set (vec_capacity c.clear.new.self)
     on c.in-Some.is m.round c.self.invariant.goods sets (let k = c.clear.ensures.capacity in omega (arith, c.self.invariant.room, room, k)) c.reopen.ensures in
     let N : List Report → Type 0 = λ ns. IsKept (with_report h r) (raised_on (pushed i.past r) c.in-Some.set) ns c.len.result c.next-standing.result.steps c.next-standing.result.phase c.next-standing.result.prices
-    (set i.tables r.bidder (Some c.table_of-table.result)) c.reopen.new.excess.0 c.next-standing.new.account (vec_capacity c.clear.new.self) in
+    (set i.tables r.bidder c.count_in.new.kept) c.reopen.new.excess.0 c.next-standing.new.account (vec_capacity c.clear.new.self) in
     let L : ℕ → Type 0 = λ n. IsKept (with_report h r) (raised_on (pushed i.past r) c.in-Some.set) [] n c.next-standing.result.steps c.next-standing.result.phase c.next-standing.result.prices
-    (set i.tables r.bidder (Some c.table_of-table.result)) c.reopen.new.excess.0 c.next-standing.new.account (vec_capacity c.clear.new.self) in
+    (set i.tables r.bidder c.count_in.new.kept) c.reopen.new.excess.0 c.next-standing.new.account (vec_capacity c.clear.new.self) in
     subst K (sym past) (subst N (sym c.clear.ensures.items) (subst L size kept))
