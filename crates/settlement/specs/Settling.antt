@@ -49,6 +49,10 @@ abbrev pub IsSettled : List ClockHistory → Outcome → Type 0
 IsSettled [] outcome = ⊥
 IsSettled (all ∷ others) outcome = AreSettled all others outcome
 
+-- no clock is running, and none has halted
+abbrev pub HaveEnded : List ClockHistory → Type 0
+HaveEnded clocks = NoneIs is_running clocks × NoneIs is_halted clocks
+
 -- The clocks have this outcome: the first one that is running, else the first that has halted, else the first of which no
 -- choice clears, else the rows.
 abbrev pub IsOutcomeOf : List ClockHistory → Settlement → Type 0

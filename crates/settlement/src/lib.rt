@@ -5,8 +5,8 @@ ghost use Rattle.std.specs.Prelude.{◌≡◌, ℕ, ℤ, List, IfOk};
 ghost use Rattle.std.specs.List.{AllZip};
 ghost use Rattle.clock.specs.Reports.{histories};
 ghost use Rattle.settlement.specs.Clocks.{AreClocksOf, opening_of};
-ghost use Rattle.settlement.specs.Found.{IsFoundOf};
-ghost use Rattle.settlement.specs.Settling.{IsClockRow, IsSettled, IsOutcomeOf};
+ghost use Rattle.settlement.specs.Found.{IsFoundOf, AreChoicesOf};
+ghost use Rattle.settlement.specs.Settling.{IsClockRow, IsSettled, HaveEnded, IsOutcomeOf};
 ghost use Rattle.settlement.specs.Efficient.{ExplainsAll, IsEfficientSettlement};
 ghost use Rattle.settlement.specs.Shapes.{IsWholeSettlement};
 
@@ -45,18 +45,11 @@ fn settle_exactly(alloc: Global, terms: &Terms, clocks: &[Clock]) -> Result<Sett
     ensures outcome { IfOk result (IsOutcomeOf (histories clocks.now)) }
     ensures whole { IfOk result IsWholeSettlement }
 {
-    if let Some(settlement) = standing::open(clocks) {
-        return Ok(settlement);
-    }
-    if let Some(settlement) = standing::halted(clocks) {
+    if let Some(settlement) = standing::before_the_end(clocks) {
         return Ok(settlement);
     }
     match choosing::clock_rows(alloc, terms, clocks) {
-        Ok(Choices::NoneOf(clock)) => Ok(Settlement::NoAward { clock }),
-        Ok(Choices::All(rows)) => match outcome_of(alloc, terms, clocks, rows) {
-            Ok(outcome) => Ok(Settlement::Settled(outcome)),
-            Err(NoMemory) => Err(NoMemory),
-        },
+        Ok(choices) => settle_choices(alloc, terms, clocks, choices),
         Err(NoMemory) => Err(NoMemory),
     }
 }
@@ -73,19 +66,34 @@ pub fn settle_found(
     ensures outcome { IfOk result (IsOutcomeOf (histories clocks.now)) }
     ensures whole { IfOk result IsWholeSettlement }
 {
-    if let Some(settlement) = standing::open(clocks) {
-        return Ok(settlement);
-    }
-    if let Some(settlement) = standing::halted(clocks) {
+    if let Some(settlement) = standing::before_the_end(clocks) {
         return Ok(settlement);
     }
     match choosing::found_rows(alloc, clocks, found) {
-        Ok(Choices::NoneOf(clock)) => Ok(Settlement::NoAward { clock }),
-        Ok(Choices::All(rows)) => match outcome_of(alloc, terms, clocks, rows) {
+        Ok(choices) => settle_choices(alloc, terms, clocks, choices),
+        Err(NoMemory) => Err(NoMemory),
+    }
+}
+
+/// What clocks settle that have all ended, by what was chosen for each.
+fn settle_choices(
+    alloc: Global,
+    terms: &Terms,
+    clocks: &[Clock],
+    choices: Choices,
+) -> Result<Settlement, NoMemory>
+    requires clocks { AreClocksOf terms.now (histories clocks.now) }
+    requires ended { HaveEnded (histories clocks.now) }
+    requires choices { AreChoicesOf (histories clocks.now) choices }
+    ensures outcome { IfOk result (IsOutcomeOf (histories clocks.now)) }
+    ensures whole { IfOk result IsWholeSettlement }
+{
+    match choices {
+        Choices::NoneOf(clock) => Ok(Settlement::NoAward { clock }),
+        Choices::All(rows) => match outcome_of(alloc, terms, clocks, rows) {
             Ok(outcome) => Ok(Settlement::Settled(outcome)),
             Err(NoMemory) => Err(NoMemory),
         },
-        Err(NoMemory) => Err(NoMemory),
     }
 }
 

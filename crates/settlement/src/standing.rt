@@ -2,15 +2,29 @@
 ghost use Rattle.std.specs.Prelude.{◌≡◌, find, option_copied, MatchOption, IfSome};
 ghost use Rattle.clock.specs.Reports.{ClockOf, histories};
 ghost use Rattle.settlement.specs.Clocks.{is_running, is_halted};
-ghost use Rattle.settlement.specs.Settling.{NoneIs, IsOutcomeOf};
+ghost use Rattle.settlement.specs.Settling.{NoneIs, HaveEnded, IsOutcomeOf};
 ghost use Rattle.settlement.specs.Shapes.{IsWholeSettlement};
 
 use crate::outcome::Settlement;
 use clock::Clock;
 use lot_base::Phase;
 
+/// What the clocks settle where one is running or has halted.
+pub(crate) fn before_the_end(clocks: &[Clock]) -> Option<Settlement>
+    ensures outcome { MatchOption result (HaveEnded (histories clocks.now)) (IsOutcomeOf (histories clocks.now)) }
+    ensures whole { IfSome result IsWholeSettlement }
+{
+    match open(clocks) {
+        Some(settlement) => Some(settlement),
+        None => match halted(clocks) {
+            Some(settlement) => Some(settlement),
+            None => None,
+        },
+    }
+}
+
 /// What the clocks settle where one is running.
-pub(crate) fn open(clocks: &[Clock]) -> Option<Settlement>
+fn open(clocks: &[Clock]) -> Option<Settlement>
     ensures outcome { MatchOption result (NoneIs is_running (histories clocks.now)) (IsOutcomeOf (histories clocks.now)) }
     ensures whole { IfSome result IsWholeSettlement }
 {
@@ -23,7 +37,7 @@ pub(crate) fn open(clocks: &[Clock]) -> Option<Settlement>
 }
 
 /// What the clocks settle where none is running and one has halted.
-pub(crate) fn halted(clocks: &[Clock]) -> Option<Settlement>
+fn halted(clocks: &[Clock]) -> Option<Settlement>
     requires { NoneIs is_running (histories clocks.now) }
     ensures outcome { MatchOption result (NoneIs is_halted (histories clocks.now)) (IsOutcomeOf (histories clocks.now)) }
     ensures whole { IfSome result IsWholeSettlement }
