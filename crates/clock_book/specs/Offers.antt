@@ -1,5 +1,5 @@
 -- What an offer does to a book.
-use Rattle.std.specs.Prelude.{◌≡◌, ◌≢◌, ◌⊎◌, ℕ, ◌+◌, ◌<◌, ◌≤◌, List, [], ◌∷◌, ◌++◌, length, Option, Some, None, IsSome}
+use Rattle.std.specs.Prelude.{◌≡◌, ◌≢◌, ◌⊎◌, ℕ, ◌+◌, ◌<◌, ◌≤◌, List, [], ◌∷◌, ◌++◌, length, slice_index, Option, Some, None, IsSome}
 use Rattle.lot_base.specs.declared.limits.TheConstants.{GREATEST_FILE}
 use Rattle.demand_set.specs.declared.reports.Report.{Report}
 use Rattle.clock.specs.Reports.{with_report}
@@ -9,6 +9,7 @@ use Rattle.clock.specs.declared.judging.Offered.{Offered}
 use Rattle.clock.specs.declared.judging.Offered.TheVariants as answers
 use Rattle.house_io.specs.Moments.{Moments, AtEach}
 use Rattle.report_journal.specs.Format.{front}
+use Rattle.report_journal.specs.declared.spellings.TheConstants.{OPEN}
 use Rattle.recovery.specs.Entries.{payload_of}
 use Rattle.recovery.specs.Journaled.{Owner, contents_of}
 use Rattle.clock_book.specs.declared.entries.Entry.TheVariants as entry
@@ -34,6 +35,17 @@ with_pending pending s = record { clock = s.clock; history = s.history; pending 
 -- what a mend leaves: the pending report, if there was one, is counted or dropped
 abbrev pub IsMended : BookState → BookState → Type 0
 IsMended old new = (new ≡ with_pending None old) ⊎ ((q : Report) × (old.pending ≡ Some q) × (new ≡ counted old q))
+
+-- the byte of a file where the gate of the next record lies, behind these reports in the owner's journal
+abbrev pub gate_behind : Owner → List Report → List ℕ → ℕ
+gate_behind owner reports file = slice_index file (length (front (contents_of owner reports)))
+
+-- What decides a mend is the gate in this file: a report that is pending is counted where it is open, and dropped where it is not.
+abbrev pub IsByGate : Owner → List ℕ → BookState → BookState → Type 0
+IsByGate owner file old new =
+    (old.pending ≡ None)
+    ⊎ ((gate_behind owner old.clock.reports file ≢ OPEN) × (new ≡ with_pending None old))
+    ⊎ ((q : Report) × (gate_behind owner old.clock.reports file ≡ OPEN) × (old.pending ≡ Some q) × (new ≡ counted old q))
 
 -- where the record of this report would end in the owner's journal of these reports
 abbrev pub record_end : Owner → List Report → Report → ℕ
@@ -63,12 +75,13 @@ IsOffer owner old r answer new =
     ⊎ ((mid : BookState) × IsMended old mid × Answers owner answer mid r new)
 
 -- What a crash at any moment of an offer leaves: the reports at its start or these and the pending one, and then the reports
--- after the mend or these and the offered one.
+-- after the mend or these and the offered one. The file as it was when the call began decides the mend.
 abbrev pub OfferLeaves : Owner → BookState → Report → Offered → BookState → Moments → Moments → Type 0
 OfferLeaves owner old r answer new before after =
     ((answer ≡ answers.DiskFault) × (new ≡ marked old) × AtEach (IsEither owner old.clock.reports old.pending) before after)
     ⊎ ((mid : BookState) × IsMended old mid × Answers owner answer mid r new
-    × ((between : Moments) × AtEach (IsEither owner old.clock.reports old.pending) before between × AtEach (IsEither owner mid.clock.reports (Some r)) between after))
+    × ((between : Moments) × AtEach (IsEither owner old.clock.reports old.pending) before between × AtEach (IsEither owner mid.clock.reports (Some r)) between after)
+    × IsByGate owner before.now.read old mid)
 
 -- The count of a disk's faults over an offer: it never falls, and with any answer but DiskFault it is as before.
 abbrev pub CountsOffer : ℕ → ℕ → Offered → Type 0

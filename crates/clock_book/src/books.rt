@@ -51,11 +51,13 @@ impl<D: Disk> Model for ClockBook<D> {
 }
 
 impl<D: Disk> ClockBook<D> {
-    ghost use Rattle.clock_book.specs.Offers.{marked, IsMended};
+    ghost use Rattle.clock_book.specs.Offers.{marked, IsMended, IsByGate};
 
     /// Counts or drops the pending report, if there is one. Where the disk fails it is still pending, and a mark is made.
     fn settle_pending(&mut self, alloc: Global) -> Result<(), Failed>
         ensures mended { OnOk result (IsMended self.old.state self.new.state) }
+        ensures gate { OnOk result (IsTrue (D.tells self.new.disk)
+            → IsByGate (owner_in self.old.origin) (D.moments self.old.disk).now.read self.old.state self.new.state) }
         ensures failed { OnErr result (IsSome self.old.state.pending × (self.new.state ≡ marked self.old.state)) }
         ensures cause { HasCause (D.faults self.old.disk) (D.faults self.new.disk) result }
         ensures origin { self.new.origin ≡ self.old.origin }

@@ -1,4 +1,4 @@
-use Rattle.std.proofs.Common.{arith, ◌≤◌, ◌+◌}
+use Rattle.std.proofs.Common.{arith}
 use Rattle.clock_book.specs.Past.{owner_in}
 use Rattle.clock_book.proofs.Mending.{stands-either, next-of, reports-of}
 use Rattle.clock_book.proofs.books.ClockBook.clock.Goals as goal

@@ -21,6 +21,7 @@ returns-in-Ok-clause-moments g c t =
       c.in-Ok.ensures.mended,
       subst A c.settle_pending.ensures.origin c.judge_and_append.ensures.answer,
       (g.D.Disk.moments mid.disk, c.settle_pending.ensures.moments (c.judge_and_append.ensures.tells t), subst P c.settle_pending.ensures.origin (c.judge_and_append.ensures.moments t)),
+      c.in-Ok.ensures.gate (c.judge_and_append.ensures.tells t),
     )
 
 pub returns-in-Ok-clause-faults : goal.returns-in-Ok-clause-faults

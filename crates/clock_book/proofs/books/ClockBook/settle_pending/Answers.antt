@@ -1,5 +1,6 @@
 -- The mend fails, finds nothing in doubt, drops the pending report or counts it.
-use Rattle.std.proofs.Common.{◌≡◌, ◌∙◌, IsTrue, length, Some, None, Option, Ok, refl, sym, ap, subst, arith}
+use Rattle.std.proofs.Common.{◌≡◌, ◌≢◌, ◌∙◌, ℕ, IsTrue, length, slice_index, inl, inr, Some, None, Option, Ok, refl, sym, ap, subst, arith}
+use Rattle.report_journal.specs.declared.spellings.TheConstants.{OPEN}
 use Rattle.std.specs.Option.{option_map}
 use Rattle.demand_set.specs.declared.reports.Report.{Report}
 use Rattle.house_io.specs.Moments.{Moments, AtEach}
@@ -124,3 +125,38 @@ returns-in-Ok-Nothing-clause-moments g c =
     let Q : Moments → Type 0 = λ ms. AtEach (StandsForReports owner b.noted.clock.reports) (g.D.Disk.moments j.disk) ms in
     rw (← c.self.view_is) (λ t. subst P (sym none) (subst Q (ap (λ x. g.D.Disk.moments x.disk) (sym answer.1)) (at-rest owner b.noted.clock.reports j.contents j.pending (g.D.Disk.moments j.disk) c.self.invariant.are
     (c.self.invariant.contents (c.mend.ensures.tells t)) answer.0 (c.count-kept.ensures.kept (c.mend.ensures.tells t)).stands)))
+
+-- the journal answers by the gate that it reads
+pub returns-in-Ok-Nothing-clause-gate : goal.returns-in-Ok-Nothing-clause-gate
+returns-in-Ok-Nothing-clause-gate g c =
+    let b = c.self.inside in
+    let payload = payload_of (length b.start.terms.goods) in
+    let was : c.mend.result ≡ Ok Nothing = c.in-Ok-Nothing.is ∙ ap (λ x. Ok x) c.in-Ok-Nothing.field-0-is in
+    let answer = rw was at c.mend.ensures.answer in
+    let none : b.pending ≡ None = none-pending payload b.pending (sym c.self.invariant.in_doubt ∙ answer.0) in
+    rw (← c.self.view_is) (λ t. inl none)
+
+pub returns-in-Ok-Dropped-clause-gate : goal.returns-in-Ok-Dropped-clause-gate
+returns-in-Ok-Dropped-clause-gate g c =
+    let b = c.self.inside in
+    let j = b.journal in
+    let was : c.mend.result ≡ Ok Dropped = c.in-Ok-Dropped.is ∙ ap (λ x. Ok x) c.in-Ok-Dropped.field-0-is in
+    let G : ℕ → Type 0 = λ end. slice_index (g.D.Disk.moments j.disk).now.read end ≢ OPEN in
+    rw (← c.self.view_is) (λ t. inr (inl (subst G c.self.invariant.end (rw was at (c.mend.ensures.end t)).2, refl)))
+
+pub returns-in-Ok-Counted-clause-gate : goal.returns-in-Ok-Counted-clause-gate
+returns-in-Ok-Counted-clause-gate g c =
+    let b = c.self.inside in
+    let j = b.journal in
+    let payload = payload_of (length b.start.terms.goods) in
+    let was : c.mend.result ≡ Ok Counted = c.in-Ok-Counted.is ∙ ap (λ x. Ok x) c.in-Ok-Counted.field-0-is in
+    let q = c.unwrap.result in
+    let is : b.pending ≡ Some q = sym c.take-pending.ensures.value ∙ c.unwrap.ensures in
+    let doubt : j.pending ≡ Some (payload q) = c.self.invariant.in_doubt ∙ ap (option_map payload) is in
+    let G : ℕ → Type 0 = λ end. slice_index (g.D.Disk.moments j.disk).now.read end ≡ OPEN in
+    rw (← c.self.view_is) (λ t. inr (inr (
+      q,
+      subst G c.self.invariant.end (rw (was, doubt) at (c.mend.ensures.end t)).1,
+      is,
+      (λ i. record { clock = c.take.ensures.clock i; history = c.take.ensures.history i; pending = c.take-pending.ensures.after i }),
+    )))
