@@ -7,8 +7,9 @@ PROGRAM is the built house_main. For 1, 4 and 13 active clocks and 4, 13 and 64 
 clocks but its own and looks between, in each turn of the clocks once, with a pause of PAUSE microseconds (none where it is left out)
 between two turns; on 4 doors it comes for one report a session. The journals lie in a folder beside this file, so that they are on the
 disk of the repository; beside them bare pairs are measured, the two writes of a report, each with its fdatasync, by as many threads as
-there are active clocks; and what SQLite commits, one report a transaction into one table, with a write-ahead log and full
-synchronisation, without any network: no server that keeps its reports so is faster.
+there are active clocks; what SQLite commits, one report a transaction into one table, with a write-ahead log and full
+synchronisation, without any network; and a plain server that keeps its reports so (plain.rs), before the same bidders, where its
+library is there to build it.
 """
 import os
 import shutil
@@ -27,19 +28,26 @@ PORT = 47_322
 HERE = Path(__file__).resolve().parent
 
 
-def build(folder):
-    """The bidder's program."""
-    folder.mkdir(parents=True, exist_ok=True)
-    bidder = folder / "load"
-    subprocess.run(["rustc", "-O", "--edition", "2021", "-o", str(bidder), str(HERE / "load.rs")], check=True)
-    return bidder
+def build(folder, name):
+    """A program of this folder, by rustc; none where it cannot be built."""
+    program = folder / name
+    built = subprocess.run(["rustc", "-O", "--edition", "2021", "-o", str(program), str(HERE / f"{name}.rs")], stderr=subprocess.DEVNULL)
+    return program if built.returncode == 0 else None
 
 
-def serve(program, bidder, folder, active, doors, seconds, pause):
+def house_words(program, doors):
+    return [program, "serve", "auction.toml", "journals", f"127.0.0.1:{PORT}", "--doors", str(doors), "--sessions", "10000"]
+
+
+def plain_words(plain, doors):
+    return [str(plain), str(PORT), str(doors), str(BIDDERS + 1), "reports.sqlite"]
+
+
+def serve(words, bidder, folder, active, doors, seconds, pause):
+    """What twelve bidders are served by the server of these words: reports a second, times of looks, and its peak memory."""
     shutil.rmtree(folder, ignore_errors=True)
     (folder / "journals").mkdir(parents=True)
     write_auction(folder / "auction.toml")
-    words = [program, "serve", "auction.toml", "journals", f"127.0.0.1:{PORT}", "--doors", str(doors), "--sessions", "10000"]
     house = subprocess.Popen(words, cwd=folder, stdout=subprocess.DEVNULL)
     words = [str(bidder), str(PORT)]
     stay = str(int(doors > BIDDERS))
@@ -99,14 +107,15 @@ def main():
     seconds = int(sys.argv[2]) if len(sys.argv) > 2 else 5
     pause = int(sys.argv[3]) if len(sys.argv) > 3 else 0
     folder = HERE / "scratch"
-    print("clocks doors reports/s pairs/s commits/s look median us look 99% us peak MB")
+    print("clocks doors reports/s pairs/s commits/s plain/s look median us look 99% us peak MB")
     with tempfile.TemporaryDirectory() as name:
-        bidder = build(Path(name))
+        bidder, plain = build(Path(name), "load"), build(Path(name), "plain")
         for active in (1, 4, 13):
             for doors in (4, 13, 64):
-                reports, median, most, memory = serve(program, bidder, folder, active, doors, seconds, pause)
-                bare = pairs(folder, active, seconds)
-                print(f"{active:6} {doors:5} {reports:9.0f} {bare:7.0f} {commits(folder, seconds):9.0f} {median:14.0f} {most:11.0f} {memory:7}")
+                reports, median, most, memory = serve(house_words(program, doors), bidder, folder, active, doors, seconds, pause)
+                bare, kept = pairs(folder, active, seconds), commits(folder, seconds)
+                beside = serve(plain_words(plain, doors), bidder, folder, active, doors, seconds, pause)[0] if plain else 0
+                print(f"{active:6} {doors:5} {reports:9.0f} {bare:7.0f} {kept:9.0f} {beside:7.0f} {median:14.0f} {most:11.0f} {memory:7}", flush=True)
     shutil.rmtree(folder, ignore_errors=True)
 
 

@@ -10,7 +10,8 @@ another one, and --programs to run the integer programs too, which take long. Wi
 again in one process, is proved and run beside the reference that does so too; --makes FILE takes it as it was built before.
 
 With --workers only the times by the clock are taken, with one worker and with four in turns, the least of fifteen runs each, beside the load
-average and the commit that the program is built from. The program is then to be 2.5 times as fast on each auction, on four idle processors.
+average, the commit that the program is built from, and what four threads of arithmetic alone gain on the machine (processors.rs). The program is
+then to be 2.5 times as fast on each auction, on four idle processors.
 """
 import hashlib
 import os
@@ -131,6 +132,10 @@ def commit():
 def only_workers(program, folder):
     """Prints the seconds by the clock of each auction with one worker and with four."""
     print(f"program {program} of commit {commit()}; {os.cpu_count()} processors, load average {os.getloadavg()[0]:.2f}")
+    spin = folder / "processors"
+    subprocess.run(["rustc", "-O", "--edition", "2021", "-o", str(spin), str(HERE / "processors.rs")], check=True)
+    ceiling = subprocess.run([spin], capture_output=True, text=True, check=True).stdout.strip()
+    print(f"four threads of arithmetic alone: {ceiling} times what one does")
     print(f"{'auction':34} {'1 worker ms':>11} {'4 workers ms':>12} {'faster':>6} {'load':>6}")
     for title, supply, tables in rows():
         (folder / "auction.toml").write_text(auction_file(supply))

@@ -1,6 +1,7 @@
-//! What it costs to wake whose turn is next: twelve threads take turns by ticket, each turn two writes with an fdatasync each, as an append to
-//! a journal is. Where all that wait sleep on one word, the end of a turn wakes all of them; where each sleeps on the bell of its ticket, it
-//! wakes one. Beside both, one thread alone. Plain Rust, the middle of nine short spells each, in turns of the three:
+//! What it costs to wake whose turn is next: threads take turns by ticket. Where all that wait sleep on one word, the end of a turn wakes all of
+//! them; where each sleeps on the bell of its ticket, it wakes one, or that one and the one behind. Twelve threads make turns of two writes with
+//! an fdatasync each, as an append to a journal is, beside one thread alone; four threads make empty turns. Plain Rust, the middle of nine short
+//! spells each, in turns of all rows:
 //!
 //!     rustc -O --edition 2021 wakes.rs -o FOLDER/wakes && FOLDER/wakes FILE
 //!
@@ -24,7 +25,6 @@ const FUTEX: c_long = 202;
 const WAIT: c_int = 128;
 const WAKE: c_int = 129;
 
-const THREADS: usize = 12;
 const SPELLS: usize = 9;
 const SPELL: Duration = Duration::from_millis(500);
 
@@ -51,14 +51,20 @@ struct Desk {
     ticket: AtomicU32,
     serving: AtomicU32,
     bells: Vec<AtomicU32>,
+    /// How many threads sleep, or are about to.
+    sleepers: AtomicU32,
+    /// How many of the next turns' threads the end of a turn wakes.
+    woken: u32,
 }
 
 impl Desk {
-    fn new(bells: usize) -> Desk {
+    fn new(bells: usize, woken: u32) -> Desk {
         Desk {
             ticket: AtomicU32::new(0),
             serving: AtomicU32::new(0),
             bells: (0..bells).map(|_| AtomicU32::new(0)).collect(),
+            sleepers: AtomicU32::new(0),
+            woken,
         }
     }
 
@@ -79,16 +85,23 @@ impl Desk {
                 hint::spin_loop();
                 looks += 1;
             } else {
+                self.sleepers.fetch_add(1, SeqCst);
                 sleep_on(self.bell(ticket), heard);
+                self.sleepers.fetch_sub(1, SeqCst);
                 looks = 0;
             }
         }
     }
 
     fn leave(&self) {
-        let next = self.serving.fetch_add(1, SeqCst).wrapping_add(1);
-        self.bell(next).fetch_add(1, SeqCst);
-        wake_on(self.bell(next));
+        let served = self.serving.fetch_add(1, SeqCst);
+        for step in 1..=self.woken {
+            let bell = self.bell(served.wrapping_add(step));
+            bell.fetch_add(1, SeqCst);
+            if self.sleepers.load(SeqCst) > 0 {
+                wake_on(bell);
+            }
+        }
     }
 }
 
@@ -99,19 +112,46 @@ fn append(file: &File, at: u64) {
     file.sync_data().expect("a sync");
 }
 
-/// Appends a second, by so many threads that take turns at a desk with so many bells.
-fn appends(file: &File, threads: usize, bells: usize) -> f64 {
-    let desk = Desk::new(bells);
+/// What is measured: so many threads at a desk with so many bells, of which the end of a turn rings some.
+struct Row {
+    name: &'static str,
+    threads: usize,
+    bells: usize,
+    woken: u32,
+    /// Whether a turn appends, or is empty.
+    appends: bool,
+}
+
+const fn row(name: &'static str, threads: usize, bells: usize, woken: u32, appends: bool) -> Row {
+    Row { name, threads, bells, woken, appends }
+}
+
+const ROWS: [Row; 7] = [
+    row("appends, one thread alone", 1, 1, 1, true),
+    row("appends, twelve threads, one word for all", 12, 1, 1, true),
+    row("appends, twelve threads, a bell for each ticket", 12, 64, 1, true),
+    row("appends, twelve threads, the bell behind it too", 12, 64, 2, true),
+    row("empty turns, four threads, one word for all", 4, 1, 1, false),
+    row("empty turns, four threads, a bell for each ticket", 4, 64, 1, false),
+    row("empty turns, four threads, the bell behind it too", 4, 64, 2, false),
+];
+
+/// Turns a second.
+fn turns(file: &File, row: &Row) -> f64 {
+    let desk = Desk::new(row.bells, row.woken);
     let (count, stop) = (AtomicU64::new(0), AtomicBool::new(false));
     let start = Instant::now();
     thread::scope(|scope| {
-        for _ in 0..threads {
+        for _ in 0..row.threads {
             scope.spawn(|| {
                 while !stop.load(SeqCst) {
                     desk.enter();
-                    append(file, count.fetch_add(1, SeqCst) * 30 % ROOM);
+                    let turn = count.fetch_add(1, SeqCst);
+                    if row.appends {
+                        append(file, turn * 30 % ROOM);
+                    }
                     desk.leave();
-                    if threads > 1 {
+                    if row.appends && row.threads > 1 {
                         thread::sleep(AWAY);
                     }
                 }
@@ -128,16 +168,15 @@ fn main() -> io::Result<()> {
     let file = OpenOptions::new().write(true).create(true).truncate(true).open(name)?;
     file.write_all_at(&vec![0; ROOM as usize + 30], 0)?;
     file.sync_all()?;
-    let rows = [("one thread alone", 1, 1), ("one word for all", THREADS, 1), ("a bell for each ticket", THREADS, 64)];
-    let mut found = [const { Vec::new() }; 3];
+    let mut found = [const { Vec::new() }; ROWS.len()];
     for _ in 0..SPELLS {
-        for (row, (_, threads, bells)) in rows.iter().enumerate() {
-            found[row].push(appends(&file, *threads, *bells));
+        for (place, row) in ROWS.iter().enumerate() {
+            found[place].push(turns(&file, row));
         }
     }
-    for (row, (name, ..)) in rows.iter().enumerate() {
-        found[row].sort_by(f64::total_cmp);
-        println!("{name}: {:.0} appends a second", found[row][SPELLS / 2]);
+    for (row, found) in ROWS.iter().zip(&mut found) {
+        found.sort_by(f64::total_cmp);
+        println!("{}: {:.0} turns a second", row.name, found[SPELLS / 2]);
     }
     Ok(())
 }
