@@ -14,10 +14,11 @@ use Rattle.auction_file.specs.declared.faults.AuctionFault.TheVariants.{Bidders}
 use Rattle.auction_file.specs.declared.goods_list.Good.{Good}
 use Rattle.auction_file.specs.declared.bidders_list.Bidder.{Bidder}
 use Rattle.auction_file.specs.Names.{is_name, name_of, AreDistinct}
-use Rattle.auction_file.specs.Tree.{◌>>=◌, all_of, check, value_at, string_at, array_at, table_of, known_keys}
+use Rattle.auction_file.specs.Tree.{all_of, value_at, string_at, array_at, table_of, known_keys}
 use Rattle.auction_file.specs.AuctionFile.{has_name, name_after, each, good_number, good_keys, supply_at, opening_at, digest_at, good_at, bidder_at, goods_of, bidders_of, sold, document_of, version_of, ceiling_of, auction_of, Listing}
 use Rattle.lot_base.specs.Limits.{supply_of}
-use Rattle.auction_file.proofs.Passed.{bind_ok, some_from_ok_or, same_Ok}
+use Rattle.toml_tree.specs.Steps.{◌>>=◌, check}
+use Rattle.toml_tree.proofs.Passed.{bind_ok, some_from_ok_or, same_Ok}
 use Rattle.auction_file.proofs.Turns.{Reader}
 
 -- ---- the parts of an element

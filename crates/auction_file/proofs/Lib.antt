@@ -1,9 +1,6 @@
 pub mod Cells
-pub mod Trees
 pub mod NamesRead
 pub mod Turns
-pub mod Documents
-pub mod Passed
 pub mod Distinct
 pub mod Openings
 pub mod TermsRead

@@ -8,9 +8,10 @@ use Rattle.toml.specs.declared.value.Value.{Value}
 use Rattle.auction_file.specs.declared.faults.Key.{Key}
 use Rattle.auction_file.specs.declared.faults.AuctionFault.TheVariants.{BadName, Repeated}
 use Rattle.auction_file.specs.Names.{name_of}
-use Rattle.auction_file.specs.Tree.{◌>>=◌, check, string_at}
+use Rattle.auction_file.specs.Tree.{string_at}
 use Rattle.auction_file.specs.AuctionFile.{has_name, name_after}
-use Rattle.auction_file.proofs.Trees.{list_any-map}
+use Rattle.toml_tree.specs.Steps.{◌>>=◌, check}
+use Rattle.toml_tree.proofs.Trees.{list_any-map}
 
 pub name_after-read : (key : Key) (earlier : List Value) (table : Members) (text name : List ℕ) (found : Option (List ℕ)) (taken answer : Bool) → string_at key (codes "name") table ≡ Ok text
     → found ≡ name_of text → Ok name ≡ ok_or found (BadName key) → taken ≡ list_any (λ v. has_name text (view v)) earlier → taken ≡ answer

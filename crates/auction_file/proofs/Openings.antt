@@ -11,13 +11,15 @@ use Rattle.std.proofs.lemmas.Slice.Eq.{bytes_eq-Decides}
 use Rattle.std.proofs.lemmas.Map.Text.{is_eq-slice_cmp}
 use Rattle.toml.specs.Data.{Data, Members, no_members, member, get_member, as_integer}
 use Rattle.auction_file.specs.declared.faults.Key.TheVariants as key
+use Rattle.auction_file.specs.declared.faults.AuctionFault.{AuctionFault}
 use Rattle.auction_file.specs.declared.faults.AuctionFault.TheVariants as fault
 use Rattle.auction_file.specs.declared.goods_list.Good.{Good}
-use Rattle.auction_file.specs.Tree.{all_of, array_at, table_of, least_unknown, refused_key, known_keys, within, ranged}
+use Rattle.auction_file.specs.Tree.{all_of, array_at, table_of, refused_key, known_keys, within, ranged}
 use Rattle.auction_file.specs.AuctionFile.{name_after, each, good_number, good_keys, supply_at, opening_in, opening_at, good_at, goods_of}
 use Rattle.auction_file.specs.Listing.{IsOpened}
 use Rattle.lot_base.specs.Goods.{zeros}
-use Rattle.auction_file.proofs.Passed.{bind_ok, some_from_ok_or, same_Ok}
+use Rattle.toml_tree.specs.Tree.{least_unknown}
+use Rattle.toml_tree.proofs.Passed.{bind_ok, some_from_ok_or, same_Ok}
 use Rattle.auction_file.proofs.Turns.{Reader}
 
 -- ---- the opening of one good
@@ -73,7 +75,7 @@ get_member-unknown known name (member key value rest) unknown none =
 opening_at-first : (ceiling place n : ℕ) (table : Members) (u : Unit {0}) → known_keys (good_keys 1) table ≡ Ok u → opening_in ceiling place (get_member (codes "opening") table) ≡ Ok n → n ≡ 0
 opening_at-first ceiling place n table u known h =
     let absent : get_member (codes "opening") table ≡ None = get_member-unknown (good_keys 1) (codes "opening") table refl (no_unknown (least_unknown (good_keys 1) table) u known) in
-    sym (same_Ok 0 n (rw absent at h))
+    sym (same_Ok {F = AuctionFault} 0 n (rw absent at h))
 
 good_at-opened : (version ceiling : ℕ) → 1 ≤ ceiling → (earlier : List Data) (place : ℕ) (element : Data) (good : Good) → good_at version ceiling earlier place element ≡ Ok good → IsOpened version ceiling good
 unfolding good_at opening_at

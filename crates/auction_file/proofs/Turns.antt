@@ -8,7 +8,8 @@ use Rattle.toml.specs.Data.{Data}
 use Rattle.toml.specs.View.{view}
 use Rattle.toml.specs.declared.value.Value.{Value}
 use Rattle.auction_file.specs.declared.faults.AuctionFault.{AuctionFault}
-use Rattle.auction_file.specs.Tree.{◌>>=◌, all_of}
+use Rattle.toml_tree.specs.Steps.{◌>>=◌}
+use Rattle.auction_file.specs.Tree.{all_of}
 use Rattle.auction_file.specs.AuctionFile.{each}
 
 -- what reads an element: those before it, its place, and itself

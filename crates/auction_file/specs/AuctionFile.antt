@@ -17,11 +17,12 @@ use Rattle.std.specs.Prelude.{ℕ, ◌+◌, ◌-◌, ◌^◌, nat_le, min, codes
 use Rattle.std.specs.List.{list_any, enumerate_from}
 use Rattle.std.specs.Option.{ok_or, option_map_or}
 use Rattle.std.specs.Result.{result_ok}
-use Rattle.std.specs.Str.{bytes_eq, is_utf8}
+use Rattle.std.specs.Str.{bytes_eq}
 use Rattle.lot_base.specs.Limits.{supply_of}
 use Rattle.lot_base.specs.declared.supply.GoodsFault.{GoodsFault}
 use Rattle.toml.specs.Data.{Data, Members, get, get_member, as_integer, as_str}
-use Rattle.toml.specs.Parse.{parse_document}
+use Rattle.toml_tree.specs.Steps.{◌>>=◌, check}
+use Rattle.toml_tree.specs.Tree.{tree_of}
 use Rattle.sha2.specs.Sha256.{sha256}
 use Rattle.hex.specs.Hex.{decode_sized}
 use Rattle.auction_file.specs.declared.faults.Key.{Key}
@@ -31,7 +32,7 @@ use Rattle.auction_file.specs.declared.faults.AuctionFault.TheVariants as fault
 use Rattle.auction_file.specs.declared.goods_list.Good.{Good}
 use Rattle.auction_file.specs.declared.bidders_list.Bidder.{Bidder}
 use Rattle.auction_file.specs.Names.{name_of}
-use Rattle.auction_file.specs.Tree.{◌>>=◌, all_of, check, integer_at, string_at, array_at, table_of, known_keys, ranged}
+use Rattle.auction_file.specs.Tree.{all_of, integer_at, string_at, array_at, table_of, known_keys, ranged}
 
 -- what a seller offers, to whom, and from which price up to which
 pub record Listing : Type 0 where
@@ -46,9 +47,7 @@ pub record Listing : Type 0 where
 
 -- the tree of the document
 unfoldable pub document_of : List ℕ → Result Members AuctionFault
-document_of bytes = do
-  _ ← check (is_utf8 bytes) fault.NotToml
-  ok_or (parse_document bytes) fault.NotToml
+document_of bytes = ok_or (tree_of bytes) fault.NotToml
 
 unfoldable pub version_of : Members → Result ℕ AuctionFault
 version_of file = integer_at key.Version (codes "version") file >>= ranged 1 2 fault.Version

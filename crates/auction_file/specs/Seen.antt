@@ -1,14 +1,9 @@
 -- What a call answers beside what a definition gives, where the call's value is seen through a view.
-use Rattle.std.specs.Prelude.{◌≡◌, ◌≢◌, Result, Ok, Err}
+use Rattle.std.specs.Prelude.{Result}
+use Rattle.toml_tree.specs.Seen.{GivesUnless}
 use Rattle.auction_file.specs.declared.faults.AuctionFault.{AuctionFault}
 use Rattle.auction_file.specs.declared.faults.AuctionFault.TheVariants.{NoMemory}
 
--- the call gives what is read
-abbrev pub Gives : {X Y : Type 0} → (X → Y) → Result X AuctionFault → Result Y AuctionFault → Type 0
-Gives view (Ok x) read = read ≡ Ok (view x)
-Gives view (Err refusal) read = read ≡ Err refusal
-
 -- the call gives what is read, unless memory runs out
 abbrev pub GivesIfRoom : {X Y : Type 0} → (X → Y) → Result X AuctionFault → Result Y AuctionFault → Type 0
-GivesIfRoom view (Ok x) read = read ≡ Ok (view x)
-GivesIfRoom view (Err refusal) read = refusal ≢ NoMemory → read ≡ Err refusal
+GivesIfRoom view result read = GivesUnless NoMemory view result read

@@ -1,21 +1,13 @@
 -- Reading a table of a TOML document key by key, where the first fault counts. Keys are told apart by their bytes.
 -- TOML 1.1, https://toml.io/en/v1.1.0: the tree of a text is the one that the reader `toml` gives.
-use Rattle.std.specs.Prelude.{ℕ, ℤ, pos, negsuc, nat_le, Bool, true, false, ◌&&◌, if◌then◌else◌, List, [], ◌∷◌, Option, Some, None, Result, Ok, Err}
-use Rattle.std.specs.List.{list_any}
+use Rattle.std.specs.Prelude.{ℕ, ℤ, pos, negsuc, nat_le, ◌&&◌, if◌then◌else◌, List, [], ◌∷◌, Option, Some, None, Result, Ok, Err}
 use Rattle.std.specs.Option.{ok_or}
-use Rattle.std.specs.Str.{bytes_eq}
-use Rattle.std.specs.Ordering.{nat_cmp, is_gt}
-use Rattle.std.specs.Cmp.Lexicographic.{slice_cmp}
-use Rattle.toml.specs.Data.{Data, Items, no_items, item, Members, no_members, member, get_member, as_integer, as_str, as_array, as_table}
+use Rattle.toml.specs.Data.{Data, Members, get_member, as_integer, as_str, as_table}
+use Rattle.toml_tree.specs.Steps.{◌>>=◌}
+use Rattle.toml_tree.specs.Tree.{elements_of, least_unknown}
 use Rattle.auction_file.specs.declared.faults.Key.{Key}
 use Rattle.auction_file.specs.declared.faults.AuctionFault.{AuctionFault}
 use Rattle.auction_file.specs.declared.faults.AuctionFault.TheVariants as fault
-
--- what follows, unless there is a fault already
-infixl 10 ◌>>=◌
-abbrev pub ◌>>=◌ : {A B : Type 0} → Result A AuctionFault → (A → Result B AuctionFault) → Result B AuctionFault
-Ok x >>= f = f x
-Err refusal >>= f = Err refusal
 
 -- all of the values, or the first fault
 abbrev pub all_of : {A : Type 0} → List (Result A AuctionFault) → Result (List A) AuctionFault
@@ -24,11 +16,6 @@ all_of (r ∷ rs) = do
   x ← r
   xs ← all_of rs
   Ok (x ∷ xs)
-
--- the fault, unless the test holds
-abbrev pub check : Bool → AuctionFault → Result (Unit {0}) AuctionFault
-check true refusal = Ok tt
-check false refusal = Err refusal
 
 -- the value at a key that has to be there
 abbrev pub value_at : Key → List ℕ → Members → Result Data AuctionFault
@@ -41,30 +28,16 @@ integer_at key name table = value_at key name table >>= (λ value. ok_or (as_int
 abbrev pub string_at : Key → List ℕ → Members → Result (List ℕ) AuctionFault
 string_at key name table = value_at key name table >>= (λ value. ok_or (as_str value) (fault.WrongKind key))
 
-abbrev pub elements : Items → List Data
-elements no_items = []
-elements (item value rest) = value ∷ elements rest
+-- the elements of an array
+abbrev pub array_of : Key → Data → Result (List Data) AuctionFault
+array_of key value = ok_or (elements_of value) (fault.WrongKind key)
 
 abbrev pub array_at : Key → List ℕ → Members → Result (List Data) AuctionFault
-array_at key name table = do
-  value ← value_at key name table
-  items ← ok_or (as_array value) (fault.WrongKind key)
-  Ok (elements items)
+array_at key name table = value_at key name table >>= array_of key
 
 -- the table that an element of an array is
 abbrev pub table_of : Key → Data → Result Members AuctionFault
 table_of key element = ok_or (as_table element) (fault.WrongKind key)
-
--- the lesser of two keys in byte order
-abbrev pub lesser : List ℕ → Option (List ℕ) → List ℕ
-lesser key None = key
-lesser key (Some other) = if is_gt (slice_cmp nat_cmp key other) then other else key
-
--- the least key, in byte order, that is none of the known ones
-abbrev pub least_unknown : List (List ℕ) → Members → Option (List ℕ)
-least_unknown known no_members = None
-least_unknown known (member key value rest) =
-    if list_any (bytes_eq key) known then least_unknown known rest else Some (lesser key (least_unknown known rest))
 
 -- a fault where a key is unknown
 abbrev pub refused_key : Option (List ℕ) → Result (Unit {0}) AuctionFault

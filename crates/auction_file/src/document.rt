@@ -1,22 +1,14 @@
 //! Reading the tables of a TOML document.
-ghost use Rattle.std.specs.Prelude.{◌≡◌, ◌≢◌, map, option_map, string_bytes};
-ghost use Rattle.std.specs.List.{list_any};
-ghost use Rattle.std.specs.Str.{bytes_eq};
-ghost use Rattle.toml.specs.Data.{get_member};
+ghost use Rattle.std.specs.Prelude.{◌≡◌, map};
 ghost use Rattle.toml.specs.View.{view, table_view};
-ghost use Rattle.auction_file.specs.Tree.{value_at, integer_at, string_at, array_at, table_of, least_unknown, known_keys, within};
-ghost use Rattle.auction_file.specs.Seen.{Gives, GivesIfRoom};
+ghost use Rattle.toml_tree.specs.Seen.{Gives};
+ghost use Rattle.auction_file.specs.Tree.{value_at, integer_at, string_at, array_of, array_at, table_of, known_keys, within};
+ghost use Rattle.auction_file.specs.Seen.{GivesIfRoom};
 
-use crate::faults::{AuctionFault, Key, KeyText};
+use crate::faults::{AuctionFault, Key};
 use std::alloc::Global;
 use toml::{Table, Value};
-
-/// The value at a key, if it is there.
-pub(crate) fn member<'a>(table: &'a Table, name: &str) -> Option<&'a Value>
-    ensures { option_map (λ v. view v.now) result ≡ get_member name.now (table_view table.now) }
-{
-    table.get(name)
-}
+use toml_tree::{elements_of, member, unknown_key};
 
 /// The value at a key that has to be there.
 fn value_at<'a>(table: &'a Table, name: &str, key: Key) -> Result<&'a Value, AuctionFault>
@@ -50,10 +42,14 @@ pub(crate) fn array_at<'a>(
     ensures { Gives (λ s. map view s.now) result (array_at key name.now (table_view table.now)) }
 {
     let value = value_at(table, name, key)?;
-    match value {
-        Value::Array(elements) => Ok(elements.as_slice()),
-        _ => Err(AuctionFault::WrongKind(key)),
-    }
+    array_of(value, key)
+}
+
+/// The elements of an array.
+fn array_of(value: &Value, key: Key) -> Result<&[Value], AuctionFault>
+    ensures { Gives (λ s. map view s.now) result (array_of key (view value.now)) }
+{
+    elements_of(value).ok_or(AuctionFault::WrongKind(key))
 }
 
 /// The table that an element of an array is.
@@ -67,33 +63,9 @@ pub(crate) fn table_of(element: &Value, key: Key) -> Result<&Table, AuctionFault
 pub(crate) fn known_keys(alloc: Global, table: &Table, known: &[&str]) -> Result<(), AuctionFault>
     ensures { GivesIfRoom (λ u. u) result (known_keys (map (λ k. k.now) known.now) (table_view table.now)) }
 {
-    match least_unknown(table, known) {
-        Some(key) => Err(unknown_key(alloc, key.as_str())),
+    match unknown_key(alloc, table, known)? {
+        Some(key) => Err(AuctionFault::UnknownKey(key)),
         None => Ok(()),
-    }
-}
-
-/// The least key that is none of the known ones. A table gives its keys in byte order.
-fn least_unknown<'a>(table: &'a Table, known: &[&str]) -> Option<&'a String>
-    ensures { option_map (λ k. string_bytes k.now) result ≡ least_unknown (map (λ k. k.now) known.now) (table_view table.now) }
-{
-    table.keys().find(|key| !is_known(key.as_str(), known))
-}
-
-/// Whether the key is one of the known ones.
-fn is_known(key: &str, known: &[&str]) -> bool
-    ensures { result ≡ list_any (λ k. bytes_eq key.now k.now) known.now }
-{
-    known.iter().any(|other| key == *other)
-}
-
-/// The fault of an unknown key.
-fn unknown_key(alloc: Global, key: &str) -> AuctionFault
-    ensures { result ≢ AuctionFault.NoMemory → result ≡ AuctionFault.UnknownKey key.now }
-{
-    match String::from_str(alloc, key) {
-        Ok(text) => AuctionFault::UnknownKey(KeyText::new(text)),
-        Err(_) => AuctionFault::NoMemory,
     }
 }
 

@@ -5,8 +5,7 @@ ghost use Rattle.auction_file.specs.declared.faults.AuctionFault.TheVariants.{No
 
 use lot_base::GoodsFault;
 use std::alloc::{AllocError, AllocFailed};
-use std::fmt;
-use std::marker::Model;
+use toml_tree::KeyText;
 
 /// A key of an auction file, or a table of one of its arrays. Goods are counted from 0, bidders from 1.
 #[derive(Clone, Copy, Debug, PartialEq, Eq)]
@@ -22,44 +21,6 @@ pub enum Key {
     BidderTable(u32),
     BidderName(u32),
     Token(u32),
-}
-
-/// A key as it stands in the file, seen as the list of its bytes.
-#[derive(Drop)]
-pub struct KeyText {
-    text: String,
-}
-
-impl Model for KeyText {
-    ghost use Rattle.std.specs.Prelude.{ℕ, List, string_bytes};
-
-    ghost Value = { List ℕ };
-
-    ghost view = { λ key. string_bytes key.text };
-}
-
-impl KeyText {
-    ghost use Rattle.std.specs.Prelude.{◌≡◌, string_bytes};
-
-    /// The key of this text.
-    pub fn new(text: String) -> KeyText
-        ensures { result ≡ string_bytes text }
-    {
-        KeyText { text }
-    }
-
-    /// The text of the key.
-    pub fn as_str(&self) -> &str
-        ensures { result.now ≡ self.now }
-    {
-        self.text.as_str()
-    }
-}
-
-impl fmt::Debug for KeyText {
-    fn fmt<W: fmt::Write>(&self, f: &mut fmt::Formatter<W>) -> fmt::Result {
-        fmt::Debug::fmt(self.as_str(), f)
-    }
 }
 
 /// Why an auction file is refused: the first fault in the order of the format.

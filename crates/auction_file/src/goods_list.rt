@@ -5,12 +5,13 @@ ghost use Rattle.auction_file.specs.AuctionFile.{good_number, short_number, supp
 ghost use Rattle.auction_file.specs.Tree.{known_keys};
 ghost use Rattle.auction_file.specs.Seen.{GivesIfRoom};
 
-use crate::document::{array_at, integer_at, known_keys, member, table_of, within};
+use crate::document::{array_at, integer_at, known_keys, table_of, within};
 use crate::elements::name_after;
 use crate::faults::{AuctionFault, Key};
 use crate::naming::Name;
 use std::alloc::{AllocError, Global};
 use toml::{Table, Value};
+use toml_tree::member;
 
 /// A good of the file.
 #[derive(Drop)]

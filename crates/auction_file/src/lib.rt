@@ -11,7 +11,8 @@ pub mod listing;
 pub mod naming;
 pub mod reader;
 
-pub use faults::{AuctionFault, Key, KeyText};
+pub use faults::{AuctionFault, Key};
 pub use listing::Auction;
 pub use naming::Name;
 pub use reader::{MOST_BYTES, read};
+pub use toml_tree::KeyText;

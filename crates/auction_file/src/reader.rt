@@ -18,6 +18,7 @@ use lot_base::{Goods, Prices, Sequence, Terms};
 use sha2::{Digest, Sha256};
 use std::alloc::{AllocError, Global};
 use toml::Table;
+use toml_tree::tree_of;
 
 /// The most bytes of an auction file.
 pub const MOST_BYTES: usize = 65_536;
@@ -27,10 +28,10 @@ pub const MOST_BYTES: usize = 65_536;
 fn document_of(alloc: Global, bytes: &[u8]) -> Result<Table, AuctionFault>
     ensures { GivesIfRoom (λ t. table_view t) result (document_of bytes.now) }
 {
-    match toml::table_from_slice(alloc, bytes) {
-        Ok(table) => Ok(table),
-        Err(error) if error.is_memory() => Err(AuctionFault::NoMemory),
-        Err(_) => Err(AuctionFault::NotToml),
+    match tree_of(alloc, bytes) {
+        Ok(Some(table)) => Ok(table),
+        Ok(None) => Err(AuctionFault::NotToml),
+        Err(_) => Err(AuctionFault::NoMemory),
     }
 }
 

@@ -19,12 +19,13 @@ use Rattle.valuation.specs.declared.faults.ValuesFault.{ValuesFault}
 use Rattle.valuation.specs.declared.faults.ValuesFault.TheVariants as fault
 use Rattle.valuation.specs.Forms.{marginal_value, unit_value, capped_value}
 use Rattle.valuation.specs.Seen.{GivesIfRoom}
-use Rattle.valuation.specs.Tree.{each_from, check, value_at, string_at, array_at, integers_of, table_of, known_keys}
+use Rattle.toml_tree.specs.Steps.{check}
+use Rattle.toml_tree.proofs.Passed.{bind_ok, same_Ok}
+use Rattle.valuation.specs.Tree.{each_from, value_at, string_at, array_at, integers_of, table_of, known_keys}
 use Rattle.valuation.specs.Values.{IsTable, AreValues}
 use Rattle.valuation.specs.ValuesFile.{document_of, long, values_at, lists_at, cap_at, table_form, marginal_form, unit_form, capped_form, in_form, below, valuation_at, values_of}
 use Rattle.valuation.proofs.Capped.{capped-all, total-zeros}
 use Rattle.valuation.proofs.Long.{long-count}
-use Rattle.valuation.proofs.Passed.{bind_ok, same_Ok}
 use Rattle.valuation.proofs.Turns.{Reader, each-map}
 
 -- ---- lists that are read

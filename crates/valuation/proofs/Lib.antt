@@ -1,12 +1,10 @@
 pub mod Capped
 pub mod Carrying
 pub mod Collected
-pub mod Documents
 pub mod FileRead
 pub mod Long
 pub mod Mapped
 pub mod Marginal
-pub mod Passed
 pub mod Spread
 pub mod Steady
 pub mod Tables

@@ -7,9 +7,9 @@ use Rattle.lot_base.specs.Goods.{box_size}
 use Rattle.lot_base.proofs.Index.{box_size-above_0}
 use Rattle.valuation.specs.declared.faults.ValuesFault.TheVariants.{Length}
 use Rattle.valuation.specs.Forms.{total}
-use Rattle.valuation.specs.Tree.{check}
+use Rattle.toml_tree.specs.Steps.{check}
 use Rattle.valuation.specs.ValuesFile.{long, all_long, joined}
-use Rattle.valuation.proofs.Passed.{bind_ok}
+use Rattle.toml_tree.proofs.Passed.{bind_ok}
 
 pub long-count : (bidder needed found : ℕ) (u : Unit {0}) → long bidder needed found ≡ Ok u → found ≡ needed
 long-count bidder needed found u h = by (nat_eq found needed) refl h

@@ -2,7 +2,8 @@
 use Rattle.std.proofs.Common.{◌≡◌, ℕ, ◌+◌, ◌<◌, zero, suc, List, [], ◌∷◌, ◌++◌, length, get_or, drop, map, Ok, Err, Result, refl, ap, ◌∙◌, sym, arith, append_assoc, append-nil, drop-cons}
 use Rattle.std.proofs.Math.Seq.{drop-length}
 use Rattle.valuation.specs.declared.faults.ValuesFault.{ValuesFault}
-use Rattle.valuation.specs.Tree.{◌>>=◌, each_from}
+use Rattle.toml_tree.specs.Steps.{◌>>=◌}
+use Rattle.valuation.specs.Tree.{each_from}
 
 -- what stands at a place of a list
 pub get_or-any : {A : Type 0} (xs : List A) (i : ℕ) (d e : A) → i < length xs → get_or xs i d ≡ get_or xs i e

@@ -12,22 +12,21 @@
 -- the places of the entries are counted over all lists, and the place of a cap is the number of goods. Bidders are counted from 1.
 use Rattle.std.specs.Prelude.{ℕ, ◌-◌, nat_le, ◌==◌, codes, if◌then◌else◌, List, [], ◌∷◌, ◌++◌, length, map, Option, Some, None, Result, Ok, Err, ℤ, position, slice_index}
 use Rattle.std.specs.Option.{ok_or}
-use Rattle.std.specs.Str.{bytes_eq, is_utf8}
+use Rattle.std.specs.Str.{bytes_eq}
 use Rattle.lot_base.specs.Goods.{box_size}
 use Rattle.lot_base.specs.Box.{box}
 use Rattle.toml.specs.Data.{Data, Members}
-use Rattle.toml.specs.Parse.{parse_document}
+use Rattle.toml_tree.specs.Steps.{◌>>=◌, check}
+use Rattle.toml_tree.specs.Tree.{tree_of}
 use Rattle.valuation.specs.declared.faults.ValueKey.TheVariants as key
 use Rattle.valuation.specs.declared.faults.ValuesFault.{ValuesFault}
 use Rattle.valuation.specs.declared.faults.ValuesFault.TheVariants as fault
 use Rattle.valuation.specs.Forms.{marginal_value, unit_value, capped_value}
-use Rattle.valuation.specs.Tree.{◌>>=◌, each_from, check, value_at, integer_at, string_at, array_at, integers_of, lists_of, table_of, known_keys, ranged}
+use Rattle.valuation.specs.Tree.{each_from, value_at, integer_at, string_at, array_at, integers_of, lists_of, table_of, known_keys, ranged}
 
 -- the tree of the document
 unfoldable pub document_of : List ℕ → Result Members ValuesFault
-document_of bytes = do
-  _ ← check (is_utf8 bytes) fault.NotToml
-  ok_or (parse_document bytes) fault.NotToml
+document_of bytes = ok_or (tree_of bytes) fault.NotToml
 
 -- the list has as many entries as it needs
 abbrev pub long : (bidder needed found : ℕ) → Result (Unit {0}) ValuesFault

@@ -4,8 +4,7 @@ ghost use Rattle.std.specs.Prelude.{◌≡◌};
 ghost use Rattle.valuation.specs.declared.faults.ValuesFault.TheVariants.{NoMemory};
 
 use std::alloc::{AllocError, AllocFailed};
-use std::fmt;
-use std::marker::Model;
+use toml_tree::KeyText;
 
 /// A key of a valuation file, or a table of its array. Bidders are counted from 1.
 #[derive(Clone, Copy, Debug, PartialEq, Eq)]
@@ -16,44 +15,6 @@ pub enum ValueKey {
     Values(u32),
     Lists(u32),
     Cap(u32),
-}
-
-/// A key as it stands in the file, seen as the list of its bytes.
-#[derive(Drop)]
-pub struct KeyText {
-    text: String,
-}
-
-impl Model for KeyText {
-    ghost use Rattle.std.specs.Prelude.{ℕ, List, string_bytes};
-
-    ghost Value = { List ℕ };
-
-    ghost view = { λ key. string_bytes key.text };
-}
-
-impl KeyText {
-    ghost use Rattle.std.specs.Prelude.{◌≡◌, string_bytes};
-
-    /// The key of this text.
-    pub fn new(text: String) -> KeyText
-        ensures { result ≡ string_bytes text }
-    {
-        KeyText { text }
-    }
-
-    /// The text of the key.
-    pub fn as_str(&self) -> &str
-        ensures { result.now ≡ self.now }
-    {
-        self.text.as_str()
-    }
-}
-
-impl fmt::Debug for KeyText {
-    fn fmt<W: fmt::Write>(&self, f: &mut fmt::Formatter<W>) -> fmt::Result {
-        fmt::Debug::fmt(self.as_str(), f)
-    }
 }
 
 /// Why a valuation file is refused: the first fault in the order of the format.

@@ -14,8 +14,9 @@ pub mod surpluses;
 pub mod values;
 
 pub use columns::{Column, column_of};
-pub use faults::{KeyText, ValueKey, ValuesFault};
+pub use faults::{ValueKey, ValuesFault};
 pub use layout::{strides, supply_of};
 pub use reader::{MOST_BYTES, read};
 pub use surpluses::Surplus;
+pub use toml_tree::KeyText;
 pub use values::{Valuation, value_at};

@@ -17,6 +17,7 @@ use crate::values::Valuation;
 use lot_base::{Goods, Terms};
 use std::alloc::{AllocError, Global};
 use toml::{Table, Value};
+use toml_tree::tree_of;
 
 /// The most bytes of a valuation file.
 pub const MOST_BYTES: usize = 1_048_576;
@@ -26,10 +27,10 @@ pub const MOST_BYTES: usize = 1_048_576;
 fn document_of(alloc: Global, bytes: &[u8]) -> Result<Table, ValuesFault>
     ensures { GivesIfRoom (λ t. table_view t) result (document_of bytes.now) }
 {
-    match toml::table_from_slice(alloc, bytes) {
-        Ok(table) => Ok(table),
-        Err(error) if error.is_memory() => Err(ValuesFault::NoMemory),
-        Err(_) => Err(ValuesFault::NotToml),
+    match tree_of(alloc, bytes) {
+        Ok(Some(table)) => Ok(table),
+        Ok(None) => Err(ValuesFault::NotToml),
+        Err(_) => Err(ValuesFault::NoMemory),
     }
 }
 

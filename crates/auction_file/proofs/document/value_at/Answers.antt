@@ -1,6 +1,9 @@
-use Rattle.auction_file.proofs.Trees.{value_at-member}
+use Rattle.toml.specs.Data.{get_member}
+use Rattle.toml.specs.View.{view}
+use Rattle.toml_tree.proofs.Trees.{gives-ok_or}
+use Rattle.auction_file.specs.declared.faults.AuctionFault.TheVariants.{Missing}
 use Rattle.auction_file.proofs.document.value_at.Goals as goal
 
 pub returns : goal.returns
 returns c =
-    rw c.ok_or.ensures.value (value_at-member c.member.result c.args.name.now _ c.args.key c.member.ensures)
+    rw c.ok_or.ensures.value (gives-ok_or (λ v. view v.now) c.member.result (get_member c.args.name.now _) (Missing c.args.key) c.member.ensures)

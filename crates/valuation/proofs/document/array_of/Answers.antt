@@ -1,5 +1,10 @@
-use Rattle.valuation.proofs.Trees.{array_of-Array}
+use Rattle.std.proofs.Common.{map}
+use Rattle.toml.specs.View.{view}
+use Rattle.toml_tree.specs.Tree.{elements_of}
+use Rattle.toml_tree.proofs.Trees.{gives-ok_or}
+use Rattle.valuation.specs.declared.faults.ValuesFault.TheVariants.{WrongKind}
 use Rattle.valuation.proofs.document.array_of.Goals as goal
 
-pub returns-in-Array : goal.returns-in-Array
-returns-in-Array c = array_of-Array c.args.key c.args.value.now c.in-Array.elements c.as_slice.result.now c.in-Array.is c.as_slice.ensures.value
+pub returns : goal.returns
+returns c =
+    rw c.ok_or.ensures.value (gives-ok_or (λ s. map view s.now) c.elements_of.result (elements_of (view c.args.value.now)) (WrongKind c.args.key) c.elements_of.ensures)

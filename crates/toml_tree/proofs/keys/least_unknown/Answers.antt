@@ -3,8 +3,8 @@ use Rattle.std.proofs.Common.{◌≡◌, find, option_map, rules, tests}
 use Rattle.std.specs.BTreeMap.{keys}
 use Rattle.std.proofs.lemmas.Iterator.Consumers.{YieldsList-from_rest}
 use Rattle.std.proofs.lemmas.Iterator.Search.{find_from_yields_List}
-use Rattle.valuation.proofs.Trees.{is_unknown, least_unknown-found}
-use Rattle.valuation.proofs.document.least_unknown.Goals as goal
+use Rattle.toml_tree.proofs.Trees.{is_unknown, least_unknown-found}
+use Rattle.toml_tree.proofs.keys.least_unknown.Goals as goal
 
 pub returns : goal.returns
 returns c =

@@ -1,5 +1,5 @@
 -- The tree of a table beside the map and the vectors that hold it.
-use Rattle.std.proofs.Common.{◌≡◌, ℕ, Bool, not, List, [], ◌∷◌, map, Option, Some, None, option_map, find, Less, String, Global, string_bytes, refl, ap, ◌∙◌, sym, Bor, Vec, Ok, inl, inr}
+use Rattle.std.proofs.Common.{◌≡◌, ℕ, Bool, not, List, [], ◌∷◌, map, Option, Some, None, option_map, find, Less, String, Global, string_bytes, refl, ap, ◌∙◌, sym, Bor, Vec, inl, inr}
 use Rattle.std.specs.List.{list_any, AllByRecursion}
 use Rattle.std.specs.Map.{keys_of}
 use Rattle.std.specs.Option.{ok_or}
@@ -7,18 +7,21 @@ use Rattle.std.specs.Str.{bytes_eq}
 use Rattle.std.specs.String.{string_cmp}
 use Rattle.std.specs.List.Sorted.{IsStrictlySortedBy}
 use Rattle.std.proofs.lemmas.Bool.{cases_Bool}
-use Rattle.toml.specs.Data.{Members, array, get_member}
+use Rattle.toml.specs.Data.{array}
 use Rattle.toml.specs.View.{view, items_view, members_view}
 use Rattle.toml.specs.declared.value.Value.{Value, Array}
-use Rattle.auction_file.specs.Tree.{elements, least_unknown, lesser, value_at, array_at}
-use Rattle.auction_file.specs.Seen.{Gives}
-use Rattle.auction_file.specs.declared.faults.Key.{Key}
-use Rattle.auction_file.specs.declared.faults.AuctionFault.TheVariants.{Missing}
+use Rattle.toml_tree.specs.Tree.{elements, elements_of, least_unknown, lesser}
+use Rattle.toml_tree.specs.Seen.{Gives}
 use Rattle.toml.proofs.Views.{view-Array}
 
-pub elements-items_view : (vs : List Value) → elements (items_view vs) ≡ map view vs
+elements-items_view : (vs : List Value) → elements (items_view vs) ≡ map view vs
 elements-items_view [] = refl
 elements-items_view (v ∷ vs) = ap (λ ds. view v ∷ ds) (elements-items_view vs)
+
+pub elements_of-Array : (v : Value) (vs : Vec Value Global) (items : List Value) → v ≡ Array vs → items ≡ vs.items → elements_of (view v) ≡ Some (map view items)
+elements_of-Array v vs items is same =
+    let seen : view v ≡ array (items_view vs.items) = ap view is ∙ view-Array vs in
+    rw (seen, same, elements-items_view vs.items)
 
 -- a test of what the elements are seen as
 pub list_any-map : {A B : Type 0} (f : B → Bool) (g : A → B) (xs : List A) → list_any (λ x. f (g x)) xs ≡ list_any f (map g xs)
@@ -60,14 +63,7 @@ pub least_unknown-found : (r : Option (Bor (String Global))) (known : List (Bor 
     → option_map (λ k. string_bytes k.now) r ≡ least_unknown (map (λ k. k.now) known) (members_view es)
 least_unknown-found r known es ordered found = text_of_ref r ∙ ap (option_map string_bytes) found ∙ find-least_unknown known es ordered
 
--- a value that has to be there
-pub value_at-member : (r : Option (Bor Value)) (name : List ℕ) (table : Members) (key : Key) → option_map (λ v. view v.now) r ≡ get_member name table
-    → Gives (λ v. view v.now) (ok_or r (Missing key)) (value_at key name table)
-value_at-member None name table key h = rw (← h)
-value_at-member (Some v) name table key h = rw (← h)
-
-pub array_at-Array : (key : Key) (name : List ℕ) (table : Members) (v : Value) (vs : Vec Value Global) (items : List Value) → value_at key name table ≡ Ok (view v) → v ≡ Array vs → items ≡ vs.items
-    → array_at key name table ≡ Ok (map view items)
-array_at-Array key name table v vs items read is same =
-    let seen : view v ≡ array (items_view vs.items) = ap view is ∙ view-Array vs in
-    rw (read, seen, same, elements-items_view vs.items)
+-- what has to be there, as it is seen
+pub gives-ok_or : {X Y F : Type 0} (seen : X → Y) (r : Option X) (found : Option Y) (refusal : F) → option_map seen r ≡ found → Gives seen (ok_or r refusal) (ok_or found refusal)
+gives-ok_or seen None found refusal h = rw (← h)
+gives-ok_or seen (Some x) found refusal h = rw (← h)
