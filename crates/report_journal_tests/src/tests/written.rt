@@ -1,0 +1,322 @@
+//! What a journal writes, and what is found there again, in memory and on a real file.
+use super::fixtures::{
+    FILE, LONGER, PAYLOAD, PRICED, ROOM, Step, append, copy_of, count, disk_of, first_other,
+    header, header_in, holds, mend, one_good, plain, scanned,
+};
+use house_io::{Disk, FileDisk, FolderShelf, Shelf, SureDisk};
+use lot_base::Prices;
+use lot_base::limits::GREATEST_PAYLOAD;
+use report_journal::{Journal, Mended, Place, Scanned, read_payload, scan};
+use std::alloc::Global;
+use std::fs::{self, File};
+use std::test::Fail;
+
+/// The file of an empty journal of version 2, whose six goods open at 1, 256, 65,536, 16,777,216, 4,294,967,295 and 0.
+const SIX_GOODS: [u8; 68] = [
+    0xa5, 0x41, 0x48, 0x4a, 0x32, 0, 0, 0, 3, 7, 7, 7, 7, 7, 7, 7, 7, 7, 7, 7, 7, 7, 7, 7, 7, 7, 7,
+    7, 7, 7, 7, 7, 7, 7, 7, 7, 7, 7, 7, 7, 7, 2, 6, 0, 0, 0, 1, 0, 0, 1, 0, 0, 1, 0, 0, 1, 0, 0, 0,
+    0xff, 0xff, 0xff, 0xff, 0, 0, 0, 0, 0,
+];
+
+fn six_goods() -> Option<Prices> {
+    Prices::read(&[1, 256, 65_536, 16_777_216, u32::MAX, 0])
+}
+
+/// An empty journal, whose goods open at these prices.
+fn empty(alloc: Global, opening: Option<Prices>) -> Option<Journal<SureDisk>> {
+    match SureDisk::new(alloc, Vec::new(alloc), ROOM) {
+        Ok(disk) => Journal::form(alloc, disk, &header(opening)).ok(),
+        Err(_) => None,
+    }
+}
+
+fn bytes_of(alloc: Global, journal: Journal<SureDisk>) -> Option<Vec<u8>> {
+    let disk = journal.into_disk();
+    copy_of(alloc, disk.bytes())
+}
+
+/// The file of a journal after these steps.
+fn file_after(alloc: Global, journal: Journal<SureDisk>, steps: &[Step]) -> Option<Vec<u8>> {
+    let mut journal = journal;
+    if first_other(alloc, &mut journal, steps) == steps.len() {
+        bytes_of(alloc, journal)
+    } else {
+        None
+    }
+}
+
+/// The file of a new journal after these steps.
+fn new_file(alloc: Global, opening: Option<Prices>, steps: &[Step]) -> Option<Vec<u8>> {
+    file_after(alloc, empty(alloc, opening)?, steps)
+}
+
+/// Whether the file of a new journal has these bytes after these steps.
+fn writes(alloc: Global, opening: Option<Prices>, steps: &[Step], file: &[u8]) -> Option<bool> {
+    let found = new_file(alloc, opening, steps)?;
+    Some(found.as_slice() == file)
+}
+
+const FIRST: &[Step] = &[
+    Step::Counts(0),
+    Step::Appends(&PAYLOAD, Ok(1)),
+    Step::Counts(1),
+];
+
+#[test]
+fn a_record_is_written_as_the_format_says(rt: HostRuntime) {
+    assert_eq!(rt; writes(rt.alloc(), plain(), FIRST, &FILE), Some(true));
+}
+
+/// Two records are reserved, and a third takes its own memory.
+const RESERVED: &[Step] = &[
+    Step::Reserves(2),
+    Step::Appends(&PAYLOAD, Ok(1)),
+    Step::Appends(&LONGER, Ok(2)),
+    Step::Appends(&PAYLOAD, Ok(3)),
+];
+
+/// The first step of a new journal that goes otherwise.
+fn first_other_of_new(alloc: Global, steps: &[Step]) -> Option<usize> {
+    let mut journal = empty(alloc, plain())?;
+    Some(first_other(alloc, &mut journal, steps))
+}
+
+#[test]
+fn records_are_appended_into_reserved_room(rt: HostRuntime) {
+    assert_eq!(rt; first_other_of_new(rt.alloc(), RESERVED), Some(4));
+}
+
+const BOTH: &[Step] = &[
+    Step::Appends(&PAYLOAD, Ok(1)),
+    Step::Appends(&LONGER, Ok(2)),
+];
+
+#[test]
+fn a_header_with_opening_prices_is_written_as_the_format_says(rt: HostRuntime) {
+    let alloc = rt.alloc();
+    assert_eq!(rt; writes(alloc, one_good(), BOTH, &PRICED), Some(true));
+    assert_eq!(rt; writes(alloc, six_goods(), &[], &SIX_GOODS), Some(true));
+}
+
+/// The length of a new journal's file after these steps.
+fn length_after(alloc: Global, opening: Option<Prices>, steps: &[Step]) -> Option<usize> {
+    let file = new_file(alloc, opening, steps)?;
+    Some(file.len())
+}
+
+fn end_by(scanned: &Scanned) -> Option<u32> {
+    match scanned {
+        Scanned::Formed { end, .. } => Some(*end),
+        _ => None,
+    }
+}
+
+/// The offset of the gate that ends the list of records of a file.
+fn end_in(alloc: Global, file: &[u8]) -> Option<u32> {
+    let found = scanned(alloc, file)?;
+    end_by(&found)
+}
+
+/// The offset of the gate that ends a new journal's empty list of records.
+fn end_of_new(alloc: Global, opening: Option<Prices>) -> Option<u32> {
+    let file = new_file(alloc, opening, &[])?;
+    end_in(alloc, &file)
+}
+
+#[test]
+fn each_version_has_its_length_and_its_first_gate(rt: HostRuntime) {
+    let alloc = rt.alloc();
+    assert_eq!(rt; end_of_new(alloc, plain()), Some(41));
+    assert_eq!(rt; length_after(alloc, plain(), &[]), Some(42));
+    assert_eq!(rt; length_after(alloc, plain(), BOTH), Some(74));
+    assert_eq!(rt; end_of_new(alloc, one_good()), Some(47));
+    assert_eq!(rt; length_after(alloc, one_good(), &[]), Some(48));
+    assert_eq!(rt; length_after(alloc, one_good(), BOTH), Some(80));
+}
+
+#[test]
+fn a_scan_finds_the_header(rt: HostRuntime) {
+    for (file, header) in [
+        (FILE.as_slice(), (1, 3, true, None)),
+        (PRICED.as_slice(), (2, 3, true, Some(300))),
+        (SIX_GOODS.as_slice(), (2, 3, true, Some(1))),
+    ] {
+        assert_eq!(rt; header_in(rt.alloc(), file), Some(header));
+    }
+}
+
+fn place_by(scanned: &Scanned, number: usize) -> Option<Place> {
+    match scanned {
+        Scanned::Formed { records, .. } => records.as_slice().get(number).copied(),
+        _ => None,
+    }
+}
+
+/// The place of the record of this number, from 0.
+fn place_in(alloc: Global, file: &[u8], number: usize) -> Option<Place> {
+    let found = scanned(alloc, file)?;
+    place_by(&found, number)
+}
+
+#[test]
+fn a_scan_finds_the_places(rt: HostRuntime) {
+    let alloc = rt.alloc();
+    let place = place_in(alloc, &FILE, 0);
+    assert_eq!(rt; place, Some(Place { at: 46, length: 10 }));
+    let place = place_in(alloc, &PRICED, 1);
+    assert_eq!(rt; place, Some(Place { at: 67, length: 12 }));
+    assert_eq!(rt; end_in(alloc, &PRICED), Some(79));
+}
+
+/// The journal of a disk whose file is formed.
+fn attached<D: Disk + Drop>(alloc: Global, disk: D) -> Option<Journal<D>> {
+    let mut disk = disk;
+    match scan(alloc, &mut disk) {
+        Ok(
+            Scanned::Formed {
+                header,
+                records,
+                end,
+            },
+        ) => Some(Journal::attach(
+            disk,
+            Scanned::Formed {
+                header,
+                records,
+                end,
+            },
+        )),
+        _ => None,
+    }
+}
+
+/// The journal of a file that is formed.
+fn reopened(alloc: Global, file: &[u8]) -> Option<Journal<SureDisk>> {
+    attached(alloc, disk_of(alloc, file)?)
+}
+
+/// The first step that goes otherwise in the journal of a file.
+fn first_other_in(alloc: Global, file: &[u8], steps: &[Step]) -> Option<usize> {
+    let mut journal = reopened(alloc, file)?;
+    Some(first_other(alloc, &mut journal, steps))
+}
+
+/// The length of a file after these steps, and whether it has these bytes from this offset on.
+fn taken_up(
+    alloc: Global,
+    file: &[u8],
+    steps: &[Step],
+    at: usize,
+    bytes: &[u8],
+) -> Option<(usize, bool)> {
+    let found = file_after(alloc, reopened(alloc, file)?, steps)?;
+    Some((found.len(), found.get(at..)? == bytes))
+}
+
+const SECOND: &[Step] = &[
+    Step::Appends(&LONGER, Ok(2)),
+    Step::Counts(2),
+    Step::Holds(1, &PAYLOAD),
+    Step::Holds(2, &LONGER),
+];
+
+const THIRD: &[Step] = &[
+    Step::Counts(2),
+    Step::Holds(1, &PAYLOAD),
+    Step::Holds(2, &LONGER),
+    Step::Appends(&[], Ok(3)),
+];
+
+#[test]
+fn a_file_that_stands_is_taken_up_again(rt: HostRuntime) {
+    let alloc = rt.alloc();
+    assert_eq!(rt; first_other_in(alloc, &FILE, SECOND), Some(4));
+    let found = taken_up(alloc, &PRICED, THIRD, 79, &[0xa5, 0, 0, 0, 0, 0]);
+    assert_eq!(rt; found, Some((85, true)));
+}
+
+fn read_at<D: Disk>(alloc: Global, disk: &mut D, place: Place) -> Option<Vec<u8>> {
+    read_payload(alloc, disk, place).ok()
+}
+
+/// Whether the longer payload is read at this offset.
+fn is_longer_at(alloc: Global, at: u32) -> Option<bool> {
+    let mut disk = disk_of(alloc, &PRICED)?;
+    let found = read_at(alloc, &mut disk, Place { at, length: 12 })?;
+    Some(found.as_slice() == LONGER.as_slice())
+}
+
+#[test]
+fn a_payload_is_read_at_its_place(rt: HostRuntime) {
+    assert_eq!(rt; is_longer_at(rt.alloc(), 67), Some(true));
+}
+
+/// The longest payload, of a byte that says which it is.
+fn longest(alloc: Global, number: u32) -> Option<Vec<u8>> {
+    vec![in alloc; (number % 256) as u8; GREATEST_PAYLOAD as usize].ok()
+}
+
+/// Whether the longest payload is appended as the record of this number.
+fn append_longest<D: Disk>(alloc: Global, journal: &mut Journal<D>, number: u32) -> bool {
+    match longest(alloc, number) {
+        Some(payload) => append(alloc, journal, &payload) == Some(Ok(number)),
+        None => false,
+    }
+}
+
+fn append_three<D: Disk>(alloc: Global, journal: &mut Journal<D>) -> bool {
+    append_longest(alloc, journal, 1)
+        && append_longest(alloc, journal, 2)
+        && append_longest(alloc, journal, 3)
+}
+
+/// A journal of three of the longest payloads, which is formed on a real file, and its disk.
+fn with_three(alloc: Global, disk: FileDisk<File>) -> Option<FileDisk<File>> {
+    let mut journal = Journal::form(alloc, disk, &header(one_good())).ok()?;
+    if append_three(alloc, &mut journal) {
+        Some(journal.into_disk())
+    } else {
+        None
+    }
+}
+
+fn holds_longest<D: Disk>(alloc: Global, journal: &mut Journal<D>, number: u32) -> bool {
+    match longest(alloc, number) {
+        Some(payload) => count(journal) == 3 && holds(alloc, journal, number, &payload),
+        None => false,
+    }
+}
+
+/// Whether a journal has just these three, and nothing is in doubt.
+fn has_three<D: Disk>(alloc: Global, journal: &mut Journal<D>) -> bool {
+    holds_longest(alloc, journal, 1)
+        && holds_longest(alloc, journal, 2)
+        && holds_longest(alloc, journal, 3)
+        && mend(journal) == Ok(Mended::Nothing)
+}
+
+/// Whether a journal of these three is formed on a real file, and is found on it again.
+fn forms_and_finds_three(alloc: Global, disk: FileDisk<File>) -> Option<bool> {
+    let disk = with_three(alloc, disk)?;
+    let mut journal = attached(alloc, disk)?;
+    Some(has_three(alloc, &mut journal))
+}
+
+/// The disk on a file in the folder that the program runs in.
+fn real_disk(rt: &HostRuntime, name: &str) -> Option<FileDisk<File>> {
+    let mut shelf = FolderShelf::new(rt.alloc(), rt);
+    shelf.disk(rt.alloc(), name).ok()
+}
+
+/// A file of 98,364 bytes, which no page and no chunk of a scan holds.
+#[test]
+fn a_real_file_is_formed_appended_to_scanned_and_mended(rt: HostRuntime) -> Result<(), Fail> {
+    let name = "a_real_file_of_report_journal";
+    let disk = real_disk(&rt, name).ok_or("no disk")?;
+    let holds = forms_and_finds_three(rt.alloc(), disk);
+    let size = fs::metadata(&rt, name)?.len();
+    fs::remove_file(&rt, name)?;
+    assert_eq!(rt; holds, Some(true));
+    assert_eq!(rt; size, 47 + 3 * (5 + 32_768) + 1);
+    Ok(())
+}
