@@ -54,48 +54,31 @@ fn a_message_is_whole_at_its_last_byte(rt: HostRuntime) -> Result<(), Fail> {
     Ok(())
 }
 
+/// Bytes behind the talk, and how they fail to be a frame.
+const FAULTS: &[(&[u8], WireKind)] = &[
+    (&[0, 0, 0x80, 1], WireKind::TooLong(32_769)),
+    (&[0, 0, 0, 0, 9], WireKind::UnknownKind(9)),
+    (&[0, 0, 0, 0, 18], WireKind::UnknownKind(18)),
+    (
+        &[0, 0, 0, 2, 2, 0],
+        WireKind::BadPayload { kind: 2, length: 2 },
+    ),
+    (
+        &[0, 0, 0, 8, 3, 0, 0, 0, 0, 1, 1, 0xff, 0xff],
+        WireKind::BadPayload { kind: 3, length: 8 },
+    ),
+];
+
 #[test]
 fn a_fault_has_the_place_of_its_frame(rt: HostRuntime) -> Result<(), Fail> {
-    let long = fault_behind(rt.alloc(), &[0, 0, 0x80, 1])?;
-    assert_eq!(rt;
-        long,
-        Some(WireFault {
+    for (bytes, kind) in FAULTS {
+        let fault = fault_behind(rt.alloc(), bytes)?;
+        let wanted = WireFault {
             place: 15,
-            kind: WireKind::TooLong(32_769)
-        })
-    );
-    let unknown = fault_behind(rt.alloc(), &[0, 0, 0, 0, 9])?;
-    assert_eq!(rt;
-        unknown,
-        Some(WireFault {
-            place: 15,
-            kind: WireKind::UnknownKind(9)
-        })
-    );
-    let price = fault_behind(rt.alloc(), &[0, 0, 0, 0, 18])?;
-    assert_eq!(rt;
-        price,
-        Some(WireFault {
-            place: 15,
-            kind: WireKind::UnknownKind(18)
-        })
-    );
-    let bad = fault_behind(rt.alloc(), &[0, 0, 0, 2, 2, 0])?;
-    assert_eq!(rt;
-        bad,
-        Some(WireFault {
-            place: 15,
-            kind: WireKind::BadPayload { kind: 2, length: 2 }
-        })
-    );
-    let counted = fault_behind(rt.alloc(), &[0, 0, 0, 8, 3, 0, 0, 0, 0, 1, 1, 0xff, 0xff])?;
-    assert_eq!(rt;
-        counted,
-        Some(WireFault {
-            place: 15,
-            kind: WireKind::BadPayload { kind: 3, length: 8 }
-        })
-    );
+            kind: *kind,
+        };
+        assert_eq!(rt; fault, Some(wanted), "{bytes:?}");
+    }
     Ok(())
 }
 
