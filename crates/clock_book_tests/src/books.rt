@@ -12,6 +12,9 @@ use std::alloc::Global;
 /// The digest of the auction.
 const DIGEST: [u8; 32] = [7; 32];
 
+/// The byte of an open gate. With any other a gate is closed.
+const OPEN: u8 = 0xa5;
+
 /// The number, from 0, of the last call of a disk in the opening of an empty file.
 const OPENING: u64 = 8;
 
@@ -39,7 +42,9 @@ fn priced_terms() -> Option<Terms> {
 /// The calls of a disk that fail: so many from the one with this number on.
 #[derive(Clone, Copy)]
 struct Failing {
+    /// Counted from 0.
     first: u64,
+    /// No call fails where it is 0.
     count: u64,
 }
 
@@ -127,6 +132,7 @@ fn offer_to(
 /// A book of clock 0 beside its terms.
 #[derive(Drop)]
 struct Stand {
+    /// For the demands that are offered.
     alloc: Global,
     /// Those that the book was opened with.
     terms: Terms,
@@ -309,8 +315,8 @@ fn a_report_in_doubt_is_counted_or_dropped(rt: HostRuntime) {
 
 /// The file of a journal of version 1 of clock 0 with one report.
 const ONE_REPORT: [u8; 57] = [
-    0xa5, 0x41, 0x48, 0x4a, 0x31, 0, 0, 0, 0, 7, 7, 7, 7, 7, 7, 7, 7, 7, 7, 7, 7, 7, 7, 7, 7, 7, 7,
-    7, 7, 7, 7, 7, 7, 7, 7, 7, 7, 7, 7, 7, 7, 0xa5, 0, 0, 0, 10, 1, 0, 0, 0, 1, 1, 0, 1, 0, 2, 0,
+    OPEN, 0x41, 0x48, 0x4a, 0x31, 0, 0, 0, 0, 7, 7, 7, 7, 7, 7, 7, 7, 7, 7, 7, 7, 7, 7, 7, 7, 7, 7,
+    7, 7, 7, 7, 7, 7, 7, 7, 7, 7, 7, 7, 7, 7, OPEN, 0, 0, 0, 10, 1, 0, 0, 0, 1, 1, 0, 1, 0, 2, 0,
 ];
 
 const NO_STEPS: &[Step] = &[];
@@ -349,7 +355,7 @@ fn an_unformed_file_is_formed_in_the_version_of_the_terms(rt: HostRuntime) {
     let priced = file_behind(alloc, priced_terms(), NO_STEPS);
     assert_eq!(rt; length_and_byte(priced, 0).0, 48);
     let one = file_behind(alloc, priced_terms(), ONE_STEP);
-    assert_eq!(rt; length_and_byte(one, 47), (63, Some(0xa5)));
+    assert_eq!(rt; length_and_byte(one, 47), (63, Some(OPEN)));
 }
 
 /// The four reports that are to be taken.
@@ -395,7 +401,7 @@ fn wanted_with(left: u64) -> Offered {
 }
 
 /// What a crash may leave in the ranges that were written since the last good sync.
-const FILLS: [Fill; 4] = [Fill::Old, Fill::New, Fill::Byte(0), Fill::Byte(0xa5)];
+const FILLS: [Fill; 4] = [Fill::Old, Fill::New, Fill::Byte(0), Fill::Byte(OPEN)];
 
 /// How many of the four reports are answered `Taken` by a book of whose disk the calls fail from this one on, and the disk then.
 fn stopped_at(alloc: Global, first: u64) -> Option<(u64, ListDisk)> {
