@@ -8,6 +8,11 @@ use std::alloc::Global;
 use std::process::Abort;
 use std::test::Fail;
 use valuation::Valuation;
+use worked_auctions::talks::{
+    ALL, BYE, ENDED_0, ENDED_2, HELLO, LOOK_0, LOOK_2, LOOKS, ONCE, QUIT, REFUSED, REPLIES,
+    REPORT_0, REPORT_2, RUNNING_0, RUNNING_2, TAKEN_0, TAKEN_2, WELCOME,
+};
+use worked_auctions::valuations::TIE;
 
 /// One unit of one good for two bidders.
 const FILE: &str = r#"
@@ -27,68 +32,12 @@ name = "bob"
 token = "2cf24dba5fb0a30e26e83b2ac5b9e29e1b161e5c1fa7425e73043362938b9824"
 "#;
 
-/// The unit is worth 4 to each.
-const VALUES: &str = r#"
-[[valuations]]
-form = "marginal"
-lists = [[4]]
-
-[[valuations]]
-form = "marginal"
-lists = [[4]]
-"#;
-
-const WELCOME: &[u8] = b"\x00\x00\x00\x02\x11\x01\x03";
-
-const RUNNING_0: &[u8] = b"\x00\x00\x00\x0c\x12\x00\x00\x00\x00\x01\x00\x00\x01\x00\x00\x00\x00";
-
-const RUNNING_2: &[u8] = b"\x00\x00\x00\x0c\x12\x02\x00\x00\x00\x01\x00\x00\x01\x00\x00\x00\x00";
-
-const TAKEN_0: &[u8] = b"\x00\x00\x00\x05\x13\x00\x00\x00\x00\x01";
-
-const TAKEN_2: &[u8] = b"\x00\x00\x00\x05\x13\x02\x00\x00\x00\x01";
-
 const AGAIN_2: &[u8] = b"\x00\x00\x00\x05\x14\x02\x00\x00\x00\x01";
-
-const ENDED_0: &[u8] = b"\x00\x00\x00\x0c\x12\x00\x00\x00\x00\x01\x01\x00\x01\x00\x00\x00\x00";
-
-const ENDED_2: &[u8] = b"\x00\x00\x00\x0c\x12\x02\x00\x00\x00\x01\x01\x00\x01\x00\x00\x00\x00";
-
-const BYE: &[u8] = b"\x00\x00\x00\x00\x16";
-
-const REFUSED: &[u8] = b"\x00\x00\x00\x06\x15\x02\x00\x00\x00\x00\x01";
-
-const HELLO: &[u8] = b"\x00\x00\x00\x04\x01\x01abc";
-
-const LOOK_0: &[u8] = b"\x00\x00\x00\x01\x02\x00";
-
-const LOOK_2: &[u8] = b"\x00\x00\x00\x01\x02\x02";
-
-const REPORT_0: &[u8] = b"\x00\x00\x00\x0a\x03\x00\x00\x00\x00\x01\x01\x00\x01\x00\x01";
-
-const REPORT_2: &[u8] = b"\x00\x00\x00\x0a\x03\x02\x00\x00\x00\x01\x01\x00\x01\x00\x01";
-
-const QUIT: &[u8] = b"\x00\x00\x00\x00\x04";
-
-/// All frames of a talk to the end.
-const ALL: &[&[u8]] = &[
-    HELLO, LOOK_0, REPORT_0, LOOK_2, REPORT_2, LOOK_0, LOOK_2, QUIT,
-];
-
-/// The replies to these.
-const REPLIES: &[&[u8]] = &[
-    WELCOME, RUNNING_0, TAKEN_0, RUNNING_2, TAKEN_2, ENDED_0, ENDED_2, BYE,
-];
 
 /// Replies of which one says that the report is known, and one more that is not read.
 const AGAIN: &[&[u8]] = &[
     WELCOME, RUNNING_0, TAKEN_0, RUNNING_2, AGAIN_2, ENDED_0, ENDED_2, BYE, REFUSED,
 ];
-
-/// One look that is equal to the one before, and the frames.
-const ONCE: &[&[u8]] = &[WELCOME, RUNNING_0, TAKEN_0, RUNNING_2, TAKEN_2, RUNNING_0];
-
-const LOOKS: &[&[u8]] = &[HELLO, LOOK_0, REPORT_0, LOOK_2, REPORT_2, LOOK_0];
 
 /// Two of them at one clock, and the frames.
 const TWICE: &[&[u8]] = &[
@@ -109,7 +58,7 @@ fn auction(rt: &impl Abort, alloc: Global) -> Result<Auction, Fail> {
 }
 
 fn valuation(alloc: Global, auction: &Auction) -> Result<Valuation, Fail> {
-    let mut valuations = valuation::read(alloc, &auction.terms, VALUES.as_bytes())?;
+    let mut valuations = valuation::read(alloc, &auction.terms, TIE.as_bytes())?;
     match valuations.pop() {
         Some(valuation) => Ok(valuation),
         None => Err(Fail::new("no valuation")),

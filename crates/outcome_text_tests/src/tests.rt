@@ -5,93 +5,9 @@ use lot_base::{Bundle, Phase, Prices, Sequence};
 use outcome_text::{read_plain, write_json, write_plain, write_standing};
 use settlement::{AwardRow, ClockRow, Outcome};
 use std::alloc::Global;
-
-/// Two units; the bidders value them at 10 and 4, 8 and 3, 6 and 1.
-const THREE_BIDDERS: &str = "settled goods 1 bidders 3
-prices 6
-bidder 1 award 1 debit -4 credit -4 pays 6
-bidder 2 award 1 debit -5 credit -5 pays 6
-bidder 3 award 0 debit -7 credit -7 pays 0
-clock 0 steps 6 prices 6
-choice 0 1 1
-choice 0 2 1
-choice 0 3 0
-clock 1 steps 3 prices 3
-choice 1 2 1
-choice 1 3 1
-clock 2 steps 4 prices 4
-choice 2 1 1
-choice 2 3 1
-clock 3 steps 4 prices 4
-choice 3 1 1
-choice 3 2 1
-";
-
-/// Two units; the one bidder values them at 5 and 3.
-const ONE_BIDDER: &str = "settled goods 1 bidders 1
-prices 0
-bidder 1 award 2 debit 0 credit 0 pays 0
-clock 0 steps 0 prices 0
-choice 0 1 2
-clock 1 steps 0 prices 0
-";
-
-const TWO_GOODS: &str = "settled goods 2 bidders 2
-prices 1 0
-bidder 1 award 0 1 debit 0 credit 0 pays 0
-bidder 2 award 1 0 debit 0 credit 0 pays 1
-clock 0 steps 1 prices 1 0
-choice 0 1 0 1
-choice 0 2 1 0
-clock 1 steps 0 prices 0 0
-choice 1 2 1 0
-clock 2 steps 0 prices 0 0
-choice 2 1 1 0
-";
-
-/// The three bidders, with a reserve of 5.
-const RESERVED: &str = "settled goods 1 bidders 3
-prices 6
-opening 5
-bidder 1 award 1 debit 0 credit 0 pays 6
-bidder 2 award 1 debit 0 credit 0 pays 6
-bidder 3 award 0 debit 0 credit 0 pays 0
-clock 0 steps 1 prices 6
-choice 0 1 1
-choice 0 2 1
-choice 0 3 0
-clock 1 steps 0 prices 5
-choice 1 2 1
-choice 1 3 1
-clock 2 steps 0 prices 5
-choice 2 1 1
-choice 2 3 1
-clock 3 steps 0 prices 5
-choice 3 1 1
-choice 3 2 1
-";
-
-/// The three bidders, with a reserve of 9: one unit stays unsold.
-const UNSOLD: &str = "settled goods 1 bidders 3
-prices 9
-opening 9
-bidder 1 award 1 debit 0 credit 0 pays 9
-bidder 2 award 0 debit 0 credit 0 pays 0
-bidder 3 award 0 debit 0 credit 0 pays 0
-clock 0 steps 0 prices 9
-choice 0 1 1
-choice 0 2 0
-choice 0 3 0
-clock 1 steps 0 prices 9
-choice 1 2 0
-choice 1 3 0
-clock 2 steps 0 prices 9
-choice 2 1 1
-choice 2 3 0
-clock 3 steps 0 prices 9
-choice 3 1 1
-choice 3 2 0
-";
+use worked_auctions::outcomes::{
+    FROM_FIVE, FROM_NINE, ONE_BIDDER, ONE_BIDDER_JSON, ONE_EACH, THREE_BIDDERS,
+};
 
 /// The one bidder, with the greatest opening price.
 const GREATEST_OPENING: &str = "settled goods 1 bidders 1
@@ -151,10 +67,10 @@ fn is_written_again(alloc: Global, text: &str) -> Option<(bool, bool)> {
 const TEXTS: &[(&str, bool)] = &[
     (THREE_BIDDERS, false),
     (ONE_BIDDER, false),
-    (TWO_GOODS, false),
+    (ONE_EACH, false),
     (EXTREMES, false),
-    (RESERVED, true),
-    (UNSOLD, true),
+    (FROM_FIVE, true),
+    (FROM_NINE, true),
     (GREATEST_OPENING, true),
 ];
 
@@ -173,9 +89,6 @@ fn is_written_as_json(alloc: Global, text: &str, wanted: &str) -> bool {
         Some(outcome) => are_bytes(json_of(alloc, &outcome), wanted),
     }
 }
-
-const ONE_BIDDER_JSON: &str =
-    "{\"bidders\":[{\"award\":[2],\"bidder\":1,\"credit\":0,\"debit\":0,\"pays\":0}],\"clocks\":[{\"choices\":[{\"bidder\":1,\"bundle\":[2]}],\"clock\":0,\"prices\":[0],\"steps\":0},{\"choices\":[],\"clock\":1,\"prices\":[0],\"steps\":0}],\"goods\":1,\"prices\":[0]}\n";
 
 const THREE_BIDDERS_JSON: &str =
     "{\"bidders\":[{\"award\":[1],\"bidder\":1,\"credit\":-4,\"debit\":-4,\"pays\":6},{\"award\":[1],\"bidder\":2,\"credit\":-5,\"debit\":-5,\"pays\":6},{\"award\":[0],\"bidder\":3,\"credit\":-7,\"debit\":-7,\"pays\":0}],\"clocks\":[{\"choices\":[{\"bidder\":1,\"bundle\":[1]},{\"bidder\":2,\"bundle\":[1]},{\"bidder\":3,\"bundle\":[0]}],\"clock\":0,\"prices\":[6],\"steps\":6},{\"choices\":[{\"bidder\":2,\"bundle\":[1]},{\"bidder\":3,\"bundle\":[1]}],\"clock\":1,\"prices\":[3],\"steps\":3},{\"choices\":[{\"bidder\":1,\"bundle\":[1]},{\"bidder\":3,\"bundle\":[1]}],\"clock\":2,\"prices\":[4],\"steps\":4},{\"choices\":[{\"bidder\":1,\"bundle\":[1]},{\"bidder\":2,\"bundle\":[1]}],\"clock\":3,\"prices\":[4],\"steps\":4}],\"goods\":1,\"prices\":[6]}\n";

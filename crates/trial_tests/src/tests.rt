@@ -12,70 +12,21 @@ use std::test::Fail;
 use std::thread::Threads;
 use trial::{TrialFault, Tried, make, trial};
 use valuation::{Valuation, read};
+use worked_auctions::{outcomes, valuations};
 
-const MARGINALS: &str = "[[valuations]]
-form = \"marginal\"
-lists = [[10, 4]]
-[[valuations]]
-form = \"marginal\"
-lists = [[8, 3]]
-[[valuations]]
-form = \"marginal\"
-lists = [[6, 1]]
-";
-
-const MARGINALS_TEXT: &str = "settled goods 1 bidders 3
-prices 6
-bidder 1 award 1 debit -4 credit -4 pays 6
-bidder 2 award 1 debit -5 credit -5 pays 6
-bidder 3 award 0 debit -7 credit -7 pays 0
-clock 0 steps 6 prices 6
-choice 0 1 1
-choice 0 2 1
-choice 0 3 0
-clock 1 steps 3 prices 3
-choice 1 2 1
-choice 1 3 1
-clock 2 steps 4 prices 4
-choice 2 1 1
-choice 2 3 1
-clock 3 steps 4 prices 4
-choice 3 1 1
-choice 3 2 1
-";
-
+/// What two units are worth to the one bidder of `worked_auctions`, as a table.
 const ALONE: &str = "[[valuations]]
 form = \"table\"
 values = [0, 5, 8]
 ";
 
-const ALONE_TEXT: &str = "settled goods 1 bidders 1
-prices 0
-bidder 1 award 2 debit 0 credit 0 pays 0
-clock 0 steps 0 prices 0
-choice 0 1 2
-clock 1 steps 0 prices 0
-";
-
+/// What the unit is worth to each bidder of its tie, as tables.
 const EQUALS: &str = "[[valuations]]
 form = \"table\"
 values = [0, 4]
 [[valuations]]
 form = \"table\"
 values = [0, 4]
-";
-
-const EQUALS_TEXT: &str = "settled goods 1 bidders 2
-prices 4
-bidder 1 award 0 debit 0 credit 0 pays 0
-bidder 2 award 1 debit 0 credit 0 pays 4
-clock 0 steps 4 prices 4
-choice 0 1 0
-choice 0 2 1
-clock 1 steps 0 prices 0
-choice 1 2 1
-clock 2 steps 0 prices 0
-choice 2 1 1
 ";
 
 const COMPLEMENTS: &str = "[[valuations]]
@@ -152,12 +103,13 @@ fn trials_settle(rt: HostRuntime) -> Result<(), Fail> {
     let alloc = rt.alloc();
     for workers in [1, 3] {
         let two = terms_of(&rt, &[2], 3);
-        assert!(&rt; gives(&rt, alloc, &two, MARGINALS, workers, MARGINALS_TEXT)?);
+        let told = valuations::THREE_BIDDERS;
+        assert!(&rt; gives(&rt, alloc, &two, told, workers, outcomes::THREE_BIDDERS)?);
     }
     let alone = terms_of(&rt, &[2], 1);
-    assert!(&rt; gives(&rt, alloc, &alone, ALONE, 3, ALONE_TEXT)?);
+    assert!(&rt; gives(&rt, alloc, &alone, ALONE, 3, outcomes::ONE_BIDDER)?);
     let one = terms_of(&rt, &[1], 2);
-    assert!(&rt; gives(&rt, alloc, &one, EQUALS, 64, EQUALS_TEXT)?);
+    assert!(&rt; gives(&rt, alloc, &one, EQUALS, 64, outcomes::TIE)?);
     Ok(())
 }
 
