@@ -5,7 +5,7 @@ use Rattle.house_io.specs.Moments.{Moments, synced_at}
 use Rattle.demand_set.specs.declared.reports.Report.{Report}
 use Rattle.report_journal.specs.Puts.{IsSynced}
 use Rattle.report_journal.specs.Journals.{payload_at, payloads_at}
-use Rattle.report_journal.specs.Scans.{IsScan, places_in}
+use Rattle.report_journal.specs.Scans.{IsInOrder, IsScan, places_in}
 use Rattle.report_journal.specs.declared.places.Place.{Place}
 use Rattle.report_journal.specs.declared.scanning.Scanned.{Scanned}
 use Rattle.report_journal.specs.declared.scanning.Scanned.TheVariants as scanned
@@ -62,6 +62,16 @@ abbrev pub IsWhole : Owner → Scanned → List Report → Type 0
 IsWhole owner scanned.Unformed reports = reports ≡ []
 IsWhole owner (scanned.Formed header places end) reports = (header ≡ header_of owner) × AreLong (length owner.terms.goods) places reports
 IsWhole owner (scanned.Damaged header places number) reports = ⊥
+
+-- What was read of a journal is sound, whatever its disk tells: the places of a scan, the reports before the first broken record, and
+-- that record, where there is one.
+pub record IsSound (owner : Owner) (scan : Scanned) (reports : List Report) (broken : Option Broken) : Type 0 where
+  pub in_order : IsInOrder scan
+  -- where no record is broken, the reports are all
+  pub whole : broken ≡ None → IsWhole owner scan reports
+  -- each is of a bidder, with a demand of the supply
+  pub are : AreReportsOf owner.terms reports
+  pub long : AreLong (length owner.terms.goods) (take (length reports) (places_in scan)) reports
 
 -- What the reader answers, which has given these reports before: the next report of the file; or the first broken record with its
 -- cause; or the end, where these are all.

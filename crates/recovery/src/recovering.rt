@@ -1,10 +1,9 @@
 //! A journal's file, read as reports.
-ghost use Rattle.std.specs.Prelude.{◌≡◌, length, take, IsTrue, IfOk, None};
-ghost use Rattle.report_journal.specs.Scans.{IsScan, IsInOrder, places_in};
-ghost use Rattle.recovery.specs.Entries.{AreReportsOf};
+ghost use Rattle.std.specs.Prelude.{IsTrue, IfOk};
+ghost use Rattle.report_journal.specs.Scans.{IsScan};
 ghost use Rattle.recovery.specs.Journaled.{owner_of};
 ghost use Rattle.recovery.specs.Causes.{IsRecovered};
-ghost use Rattle.recovery.specs.Streams.{AreLong, IsWhole, CountsFaults, IsSyncedBy};
+ghost use Rattle.recovery.specs.Streams.{CountsFaults, IsSound, IsSyncedBy};
 
 use crate::faults::{Broken, RecoverFault};
 use crate::streaming::{Next, Reports};
@@ -39,12 +38,8 @@ pub fn read_reports<D: Disk>(
     ensures synced { IsTrue (D.tells disk.new) → IsSyncedBy result (D.moments disk.old) (D.moments disk.new) }
     ensures tells { IsTrue (D.tells disk.new) → IsTrue (D.tells disk.old) }
     ensures faults { CountsFaults (D.faults disk.old) (D.faults disk.new) result }
-
-    // Whatever the disk tells.
-    ensures in_order { IfOk result (λ r. IsInOrder r.scan) }
-    ensures whole { IfOk result (λ r. r.broken ≡ None → IsWhole (owner_of terms.now clock digest.now) r.scan r.reports.items) }
-    ensures are { IfOk result (λ r. AreReportsOf terms.now r.reports.items) }
-    ensures long { IfOk result (λ r. AreLong (length terms.now.goods) (take (length r.reports.items) (places_in r.scan)) r.reports.items) }
+    // Whatever the disk tells:
+    ensures sound { IfOk result (λ r. IsSound (owner_of terms.now clock digest.now) r.scan r.reports.items r.broken) }
 {
     let mut reader = Reports::begin(alloc, disk, terms, clock, digest)?;
     let mut reports = Vec::new(alloc);
