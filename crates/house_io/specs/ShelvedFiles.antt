@@ -1,6 +1,6 @@
 -- Files in memory, as a shelf holds them. Of two files of one name the first counts. A disk that was closed is kept on its
 -- file, and is what is opened on it next.
-use Rattle.std.specs.Prelude.{ℕ, Bool, List, [], Option, Some, None, if◌then◌else◌, bytes_eq, find, map, option_map, unwrap_or}
+use Rattle.std.specs.Prelude.{◌≡◌, ◌≢◌, ◌↔◌, ℕ, Bool, List, [], Option, Some, None, IsSome, IsTrue, if◌then◌else◌, bytes_eq, find, map, option_map, unwrap_or}
 use Rattle.house_io.specs.Calls.{Room, whole_room}
 use Rattle.house_io.specs.ListForms.{CallPlan, begun}
 use Rattle.house_io.specs.Moments.{Moments, opened}
@@ -48,9 +48,22 @@ empty_file name = record { name = name; bytes = []; failing = []; closed = None 
 abbrev pub file_opened : List ShelvedFile → List ℕ → ShelvedFile
 file_opened files name = unwrap_or (option_map bare (shelved_file files name)) (empty_file name)
 
+-- The disk of a name is opened, and its file stands without one from then on. Every other file stays.
+pub record TakesDisk (name : List ℕ) (room : ℕ) (disk : ShelvedDisk) (before after : List ShelvedFile) : Type 0 where
+  pub disk_is : disk ≡ disk_at before room name
+  pub taken : shelved_file after name ≡ Some (file_opened before name)
+  pub others : (other : List ℕ) → other ≢ name → shelved_file after other ≡ shelved_file before other
+
 -- a file on which this disk was closed
 abbrev pub with_closed : ShelvedDisk → ShelvedFile → ShelvedFile
 with_closed disk file = record file { closed = Some disk }
+
+-- A disk is closed in a name. The shelf tells from then on exactly where it did, the disk tells, and the name has a file; then the
+-- disk is kept on that file. Every other file stays.
+pub record KeepsDisk (name : List ℕ) (disk_told : Bool) (disk : ShelvedDisk) (told_before told_after : Bool) (before after : List ShelvedFile) : Type 0 where
+  pub told : IsTrue told_after ↔ (IsTrue told_before × IsTrue disk_told × IsSome (shelved_file before name))
+  pub kept : IsTrue told_after → shelved_file after name ≡ option_map (with_closed disk) (shelved_file before name)
+  pub others : (other : List ℕ) → other ≢ name → shelved_file after other ≡ shelved_file before other
 
 -- a file as a shelf tells it
 abbrev pub shown_file : ShelvedFile → NamedFile

@@ -1,5 +1,5 @@
 -- Files by name, and the counts of their faults. Of two files of one name the first counts.
-use Rattle.std.specs.Prelude.{◌≡◌, ◌≢◌, ◌≤◌, ℕ, Bool, if◌then◌else◌, List, [], ◌∷◌, Option, Some, None, Result, Ok, Err, bytes_eq, find, option_map, unwrap_or, Contains, IsTrue}
+use Rattle.std.specs.Prelude.{◌≡◌, ◌≢◌, ◌≤◌, ℕ, Bool, if◌then◌else◌, List, [], ◌∷◌, Option, Some, None, Result, Ok, Err, IfErr, OnOk, bytes_eq, find, option_map, unwrap_or, Contains, IsTrue}
 use Rattle.house_io.specs.Moments.{Moments, opened}
 use Rattle.house_io.specs.declared.shelves.Refusal.{Refusal}
 use Rattle.house_io.specs.declared.shelves.Refusal.TheVariants as why
@@ -93,3 +93,24 @@ abbrev pub names_after : {T : Type 0} → Result T Refusal → List ℕ → List
 names_after (Ok answer) name names = with_name name names
 names_after (Err why.Failed) name names = with_name name names
 names_after (Err why.NoMemory) name names = names
+
+-- A shelf as its callers see it: its files, where it tells them, the counts of faults by name, and the names that it has opened.
+pub record ShelfState : Type 0 where
+  pub files : Option (List NamedFile)
+  pub faults : List ℕ → ℕ
+  pub opened : List (List ℕ)
+
+abbrev pub shelf_state : {H : Type 0} → (H → Option (List NamedFile)) → (H → List ℕ → ℕ) → (H → List (List ℕ)) → H → ShelfState
+shelf_state files faults opened shelf = record { files = files shelf; faults = faults shelf; opened = opened shelf }
+
+-- An opening of the file of a name, whatever it opens: what it leaves of the counts and the names of a shelf, and why it refuses.
+pub record IsOpening {T : Type 0} (result : Result T Refusal) (name : List ℕ) (before after : ShelfState) : Type 0 where
+  pub counts : RisesOnly name before.faults after.faults
+  -- one that goes well adds to no count
+  pub steady : OnOk result ((other : List ℕ) → after.faults other ≡ before.faults other)
+  pub refused : IfErr result (λ refusal. IsRefused refusal (before.faults name) (after.faults name))
+  -- one that finds no memory leaves the files that are told as they are
+  pub memory : result ≡ Err why.NoMemory → after.files ≡ before.files
+  pub names : after.opened ≡ names_after result name before.opened
+  pub opened : OnOk result (Contains after.opened name)
+  pub kept : KeepsNames before.opened after.opened

@@ -1,5 +1,5 @@
 //! Files that are opened by their names.
-ghost use Rattle.std.specs.Prelude.{◌≡◌, ℕ, List, Option, Err, IfOk, IfErr, OnOk, OnErr, IsSome, Contains};
+ghost use Rattle.std.specs.Prelude.{◌≡◌, ℕ, List, Option, IfOk, OnErr, IsSome, Contains};
 
 use crate::{Disk, Source};
 use std::alloc::Global;
@@ -13,7 +13,7 @@ pub enum Refusal {
 
 /// Files that are opened by their names. It counts faults by name, those of closed sources among them.
 pub trait Shelf {
-    ghost use Rattle.house_io.specs.Shelves.{NamedFile, bytes_of, Begins, ChangesNone, ChangesNoFile, ChangesOnly, IfTells, IfWasTold, StandsAs, IsLeftBy, RisesOnly, IsRefused, Adds, KeepsNames, names_after};
+    ghost use Rattle.house_io.specs.Shelves.{NamedFile, bytes_of, Begins, ChangesNone, ChangesNoFile, ChangesOnly, IfTells, IfWasTold, StandsAs, IsLeftBy, IsOpening, Adds, shelf_state};
 
     type Source: Source;
 
@@ -35,14 +35,7 @@ pub trait Shelf {
         ensures bytes { IfOk result (λ source. IfTells (files self.new) (λ shelved.
             Begins (bytes_of shelved name.now) (Self.Source.Source.left source))) }
         ensures files { ChangesNone (files self.old) (files self.new) }
-        ensures counts { RisesOnly name.now (faults self.old) (faults self.new) }
-        ensures steady { OnOk result ((other : List ℕ) → faults self.new other ≡ faults self.old other) }
-        ensures refused { IfErr result (λ refusal.
-            IsRefused refusal (faults self.old name.now) (faults self.new name.now)) }
-        ensures memory { result ≡ Err Refusal.NoMemory → files self.new ≡ files self.old }
-        ensures names { opened self.new ≡ names_after result name.now (opened self.old) }
-        ensures opened { OnOk result (Contains (opened self.new) name.now) }
-        ensures kept { KeepsNames (opened self.old) (opened self.new) };
+        ensures opening { IsOpening result name.now (shelf_state files faults opened self.old) (shelf_state files faults opened self.new) };
 
     /// Takes a source back. It takes no memory.
     fn close_source(&mut self, name: &str, source: Self::Source)
@@ -59,13 +52,7 @@ pub trait Shelf {
             (StandsAs Self.Disk.Disk.tells Self.Disk.Disk.moments name.now disk))) }
         ensures others { ChangesOnly name.now (files self.old) (files self.new) }
         ensures unchanged { OnErr result (ChangesNoFile (files self.old) (files self.new)) }
-        ensures counts { RisesOnly name.now (faults self.old) (faults self.new) }
-        ensures steady { OnOk result ((other : List ℕ) → faults self.new other ≡ faults self.old other) }
-        ensures refused { IfErr result (λ refusal. IsRefused refusal (faults self.old name.now) (faults self.new name.now)) }
-        ensures memory { result ≡ Err Refusal.NoMemory → files self.new ≡ files self.old }
-        ensures names { opened self.new ≡ names_after result name.now (opened self.old) }
-        ensures opened { OnOk result (Contains (opened self.new) name.now) }
-        ensures kept { KeepsNames (opened self.old) (opened self.new) };
+        ensures opening { IsOpening result name.now (shelf_state files faults opened self.old) (shelf_state files faults opened self.new) };
 
     /// Takes a disk back, and leaves its file as it stands. It takes no memory.
     fn close_disk(&mut self, name: &str, disk: Self::Disk)

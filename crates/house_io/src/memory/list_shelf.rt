@@ -1,13 +1,11 @@
 //! Files in memory of which chosen calls fail.
-ghost use Rattle.std.specs.Prelude.{◌≡◌, ◌↔◌, ℕ, List, Some, None, Err, IfOk, IfErr, OnOk, OnErr, IsTrue, IsSome, Contains, MatchOption, option_map};
+ghost use Rattle.std.specs.Prelude.{◌≡◌, ℕ, List, Some, None, IfOk, OnErr, IsTrue, Contains, MatchOption, option_map};
 ghost use Rattle.house_io.specs.Recorded.{moments_of};
-ghost use Rattle.house_io.specs.declared.shelves.Refusal.TheVariants as why;
-ghost use Rattle.house_io.specs.Shelves.{Adds, CountsOpening, KeepsNames, names_after, RisesOnly, IsRefused, bytes_of, file_of, moments_at};
+ghost use Rattle.house_io.specs.Shelves.{Adds, IsOpening, bytes_of, file_of, moments_at};
 ghost use Rattle.house_io.specs.Counts.{count_of, names_of};
-ghost use Rattle.house_io.specs.ListShelves.{Answers, fresh_shelf, source_on, plan_after};
-ghost use Rattle.house_io.specs.ListForms.{IsToFail};
-ghost use Rattle.house_io.specs.ListFiles.{disk_as_listed, files_as_listed};
-ghost use Rattle.house_io.specs.ShelvedFiles.{shelved_file, shown_file, shown_files, disk_at, file_opened, with_closed};
+ghost use Rattle.house_io.specs.ListShelves.{Answers, fresh_shelf, listed_state, source_on};
+ghost use Rattle.house_io.specs.ListFiles.{AnswersDisk, disk_as_listed, files_as_listed};
+ghost use Rattle.house_io.specs.ShelvedFiles.{KeepsDisk, shelved_file, shown_file, shown_files};
 
 use crate::memory::failing::FailingCalls;
 use crate::memory::shelved::{Entry, disk_of, file_named, keep};
@@ -136,9 +134,7 @@ impl Shelf for ListShelf {
     fn source(&mut self, alloc: Global, name: &str) -> Result<ListSource, Refusal>
         ensures answer { Answers self.old name.now result self.new }
         ensures bytes { IfOk result (λ source. bytes_of (shown_files self.old.files) name.now ≡ Some source.left) }
-        ensures opened { OnOk result (Contains (names_of self.new.counts) name.now) }
-        ensures names { names_of self.new.counts ≡ names_after result name.now (names_of self.old.counts) }
-        ensures kept { KeepsNames (names_of self.old.counts) (names_of self.new.counts) }
+        ensures opening { IsOpening result name.now (listed_state self.old) (listed_state self.new) }
     {
         // The memory before the plan: an opening that finds none is no call.
         let source = match source_named(alloc, &self.files, name) {
@@ -171,26 +167,13 @@ impl Shelf for ListShelf {
     }
 
     fn disk(&mut self, alloc: Global, name: &str) -> Result<ListDisk, Refusal>
-        ensures told { IfOk result (λ disk. IsTrue disk.file.told × (disk.faults ≡ 0)) }
-        ensures disk { IfOk result (λ disk. disk_as_listed disk ≡ disk_at self.old.files self.old.room name.now) }
-        ensures taken { OnOk result (shelved_file self.new.files name.now ≡ Some (file_opened self.old.files name.now)) }
-        ensures failed { result ≡ Err why.Failed → IsToFail self.old.plan }
-        ensures planned { OnOk result (IsToFail self.old.plan → ⊥) }
-        ensures plan { self.new.plan ≡ plan_after result self.old.plan }
-        ensures memory { result ≡ Err why.NoMemory → self.new ≡ self.old }
-        ensures unchanged { OnErr result ((other : List ℕ) → shelved_file self.new.files other ≡ shelved_file self.old.files other) }
-        ensures others { (other : List ℕ) → (other ≡ name.now → ⊥) → shelved_file self.new.files other ≡ shelved_file self.old.files other }
-        ensures counting { CountsOpening name.now result (count_of self.old.counts) (count_of self.new.counts) }
+        ensures answer { AnswersDisk self.old name.now result self.new }
+        ensures fresh { IfOk result (λ disk. disk.faults ≡ 0) }
+        ensures opening { IsOpening result name.now (listed_state self.old) (listed_state self.new) }
         // And so, of what the shelf tells:
-        ensures moments { IfOk result (λ disk. moments_of disk.file ≡ moments_at (shown_files self.old.files) name.now) }
+        ensures stands { IfOk result (λ disk. IsTrue disk.file.told × (moments_of disk.file ≡ moments_at (shown_files self.old.files) name.now)) }
         ensures same_shown { OnErr result ((other : List ℕ) → file_of (shown_files self.new.files) other ≡ file_of (shown_files self.old.files) other) }
         ensures others_shown { (other : List ℕ) → (other ≡ name.now → ⊥) → file_of (shown_files self.new.files) other ≡ file_of (shown_files self.old.files) other }
-        ensures counts { RisesOnly name.now (count_of self.old.counts) (count_of self.new.counts) }
-        ensures refused { IfErr result (λ refusal. IsRefused refusal (count_of self.old.counts name.now) (count_of self.new.counts name.now)) }
-        ensures rest { (self.new.room ≡ self.old.room) × (self.new.told ≡ self.old.told) }
-        ensures opened { OnOk result (Contains (names_of self.new.counts) name.now) }
-        ensures names { names_of self.new.counts ≡ names_after result name.now (names_of self.old.counts) }
-        ensures kept { KeepsNames (names_of self.old.counts) (names_of self.new.counts) }
     {
         let names = self.tallies.len();
         if let Err(_) = self.tallies.begin(alloc, name) {
@@ -217,14 +200,12 @@ impl Shelf for ListShelf {
     fn close_disk(&mut self, name: &str, disk: ListDisk)
         requires { Contains (names_of self.old.counts) name.now }
         ensures added { Adds name.now disk.faults (count_of self.old.counts) (count_of self.new.counts) }
-        ensures told { IsTrue self.new.told ↔ (IsTrue self.old.told × IsTrue disk.file.told × IsSome (shelved_file self.old.files name.now)) }
-        ensures closed { IsTrue self.new.told → shelved_file self.new.files name.now ≡ option_map (with_closed (disk_as_listed disk)) (shelved_file self.old.files name.now) }
-        ensures others { (other : List ℕ) → (other ≡ name.now → ⊥) → shelved_file self.new.files other ≡ shelved_file self.old.files other }
+        ensures keeps { KeepsDisk name.now disk.file.told (disk_as_listed disk) self.old.told self.new.told self.old.files self.new.files }
+        ensures rest { (self.new.room ≡ self.old.room) × (self.new.plan ≡ self.old.plan) }
+        ensures names { names_of self.new.counts ≡ names_of self.old.counts }
         // And so, of what the shelf tells:
         ensures left { IsTrue self.new.told → IsTrue disk.file.told × (option_map (λ file. file.moments) (file_of (shown_files self.new.files) name.now) ≡ Some (moments_of disk.file)) }
         ensures others_shown { (other : List ℕ) → (other ≡ name.now → ⊥) → file_of (shown_files self.new.files) other ≡ file_of (shown_files self.old.files) other }
-        ensures rest { (self.new.room ≡ self.old.room) × (self.new.plan ≡ self.old.plan) }
-        ensures names { names_of self.new.counts ≡ names_of self.old.counts }
     {
         self.tallies.raise(name, disk.faults);
         // The shelf has counted them, so the disk counts from 0 when it is opened again.

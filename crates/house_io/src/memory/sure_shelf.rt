@@ -1,8 +1,8 @@
 //! Files in memory that never fail.
-ghost use Rattle.std.specs.Prelude.{◌≡◌, ◌↔◌, [], ℕ, List, Some, None, unwrap_or, option_map, IfOk, IfErr, OnOk, OnErr, IsTrue, IsSome, Contains, MatchOption};
-ghost use Rattle.house_io.specs.Shelves.{file_of, bytes_of, moments_at, KeepsNames, names_after};
-ghost use Rattle.house_io.specs.ShelvedFiles.{shelved_file, shown_files, disk_at, file_opened, with_closed};
-ghost use Rattle.house_io.specs.SureFiles.{fresh_shelf, as_shelved, files_as_shelved};
+ghost use Rattle.std.specs.Prelude.{◌≡◌, [], ℕ, List, Some, None, unwrap_or, option_map, IfOk, IfErr, OnErr, IsTrue, MatchOption};
+ghost use Rattle.house_io.specs.Shelves.{IsOpening, bytes_of, file_of, moments_at};
+ghost use Rattle.house_io.specs.ShelvedFiles.{KeepsDisk, shown_files};
+ghost use Rattle.house_io.specs.SureFiles.{AnswersDisk, fresh_shelf, as_shelved, files_as_shelved, sure_state};
 ghost use Rattle.house_io.specs.Recorded.{moments_of};
 ghost use Rattle.house_io.specs.declared.shelves.Refusal.TheVariants as why;
 
@@ -112,9 +112,7 @@ impl Shelf for SureShelf {
         ensures sure { IfErr result (λ refusal. refusal ≡ why.NoMemory) }
         ensures unchanged { OnErr result (self.new ≡ self.old) }
         ensures rest { self.new ≡ record self.old { opened = self.new.opened } }
-        ensures opened { OnOk result (Contains self.new.opened name.now) }
-        ensures names { self.new.opened ≡ names_after result name.now self.old.opened }
-        ensures kept { KeepsNames self.old.opened self.new.opened }
+        ensures opening { IsOpening result name.now (sure_state self.old) (sure_state self.new) }
     {
         let bytes = match self.copy_of(alloc, name) {
             Ok(bytes) => bytes,
@@ -131,20 +129,12 @@ impl Shelf for SureShelf {
     {}
 
     fn disk(&mut self, alloc: Global, name: &str) -> Result<SureDisk, Refusal>
-        ensures told { IfOk result (λ disk. IsTrue disk.file.told) }
-        ensures disk { IfOk result (λ disk. as_shelved disk ≡ disk_at self.old.files self.old.room name.now) }
-        ensures taken { OnOk result (shelved_file self.new.files name.now ≡ Some (file_opened self.old.files name.now)) }
-        ensures sure { IfErr result (λ refusal. refusal ≡ why.NoMemory) }
-        ensures unchanged { OnErr result (self.new ≡ self.old) }
-        ensures others { (other : List ℕ) → (other ≡ name.now → ⊥) → shelved_file self.new.files other ≡ shelved_file self.old.files other }
+        ensures answer { AnswersDisk self.old name.now result self.new }
+        ensures opening { IsOpening result name.now (sure_state self.old) (sure_state self.new) }
         // And so, of what the shelf tells:
-        ensures moments { IfOk result (λ disk. moments_of disk.file ≡ moments_at (shown_files self.old.files) name.now) }
+        ensures stands { IfOk result (λ disk. IsTrue disk.file.told × (moments_of disk.file ≡ moments_at (shown_files self.old.files) name.now)) }
         ensures same_shown { OnErr result ((other : List ℕ) → file_of (shown_files self.new.files) other ≡ file_of (shown_files self.old.files) other) }
         ensures others_shown { (other : List ℕ) → (other ≡ name.now → ⊥) → file_of (shown_files self.new.files) other ≡ file_of (shown_files self.old.files) other }
-        ensures rest { (self.new.room ≡ self.old.room) × (self.new.told ≡ self.old.told) }
-        ensures opened { OnOk result (Contains self.new.opened name.now) }
-        ensures names { self.new.opened ≡ names_after result name.now self.old.opened }
-        ensures kept { KeepsNames self.old.opened self.new.opened }
     {
         let names = self.tallies.len();
         if let Err(_) = self.tallies.begin(alloc, name) {
@@ -160,13 +150,11 @@ impl Shelf for SureShelf {
     }
 
     fn close_disk(&mut self, name: &str, disk: SureDisk)
-        ensures told { IsTrue self.new.told ↔ (IsTrue self.old.told × IsTrue disk.file.told × IsSome (shelved_file self.old.files name.now)) }
-        ensures closed { IsTrue self.new.told → shelved_file self.new.files name.now ≡ option_map (with_closed (as_shelved disk)) (shelved_file self.old.files name.now) }
-        ensures others { (other : List ℕ) → (other ≡ name.now → ⊥) → shelved_file self.new.files other ≡ shelved_file self.old.files other }
+        ensures keeps { KeepsDisk name.now disk.file.told (as_shelved disk) self.old.told self.new.told self.old.files self.new.files }
+        ensures rest { (self.new.room ≡ self.old.room) × (self.new.opened ≡ self.old.opened) }
         // And so, of what the shelf tells:
         ensures left { IsTrue self.new.told → IsTrue disk.file.told × (option_map (λ file. file.moments) (file_of (shown_files self.new.files) name.now) ≡ Some (moments_of disk.file)) }
         ensures others_shown { (other : List ℕ) → (other ≡ name.now → ⊥) → file_of (shown_files self.new.files) other ≡ file_of (shown_files self.old.files) other }
-        ensures rest { (self.new.room ≡ self.old.room) × (self.new.opened ≡ self.old.opened) }
     {
         self.told = disk.file.told && keep(&mut self.files, name, disk) && self.told;
     }

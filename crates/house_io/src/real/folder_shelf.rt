@@ -1,7 +1,7 @@
 //! The files of the folder in which the program runs.
-ghost use Rattle.std.specs.Prelude.{◌≡◌, ◌<◌, ◌^◌, None, ℕ, List, [], IfOk, IfErr, OnOk, OnErr, Contains};
-ghost use Rattle.house_io.specs.Counts.{NamedCount, count_of, names_of};
-ghost use Rattle.house_io.specs.Shelves.{IfTells, ChangesNoFile, CountsOpening, RisesOnly, IsRefused, KeepsNames, names_after};
+ghost use Rattle.std.specs.Prelude.{◌≡◌, ◌<◌, ◌^◌, None, List, [], Err, IfOk, OnErr};
+ghost use Rattle.house_io.specs.Counts.{NamedCount, count_of, counted_state, names_of};
+ghost use Rattle.house_io.specs.Shelves.{IfTells, ChangesNoFile, CountsOpening, IsOpening};
 ghost use Rattle.house_io.specs.declared.shelves.Refusal.TheVariants as why;
 
 use crate::real::file_disk::FileDisk;
@@ -61,13 +61,8 @@ where
         ensures bytes { IfOk result (λ _. IfTells None (λ _. ⊥)) }
         ensures fresh { IfOk result (λ source. source.faults ≡ 0) }
         ensures counting { CountsOpening name.now result (count_of self.old) (count_of self.new) }
-        ensures steady { OnOk result ((other : List ℕ) → count_of self.new other ≡ count_of self.old other) }
         ensures memory { result ≡ Err why.NoMemory → self.new ≡ self.old }
-        ensures counts { RisesOnly name.now (count_of self.old) (count_of self.new) }
-        ensures refused { IfErr result (λ refusal. IsRefused refusal (count_of self.old name.now) (count_of self.new name.now)) }
-        ensures opened { OnOk result (Contains (names_of self.new) name.now) }
-        ensures names { names_of self.new ≡ names_after result name.now (names_of self.old) }
-        ensures kept { KeepsNames (names_of self.old) (names_of self.new) }
+        ensures opening { IsOpening result name.now (counted_state None self.old) (counted_state None self.new) }
     {
         if let Err(_) = self.tallies.begin(alloc, name) {
             return Err(Refusal::NoMemory);
@@ -91,13 +86,8 @@ where
         ensures unchanged { OnErr result (ChangesNoFile None None) }
         ensures fresh { IfOk result (λ disk. disk.faults ≡ 0) }
         ensures counting { CountsOpening name.now result (count_of self.old) (count_of self.new) }
-        ensures steady { OnOk result ((other : List ℕ) → count_of self.new other ≡ count_of self.old other) }
         ensures memory { result ≡ Err why.NoMemory → self.new ≡ self.old }
-        ensures counts { RisesOnly name.now (count_of self.old) (count_of self.new) }
-        ensures refused { IfErr result (λ refusal. IsRefused refusal (count_of self.old name.now) (count_of self.new name.now)) }
-        ensures opened { OnOk result (Contains (names_of self.new) name.now) }
-        ensures names { names_of self.new ≡ names_after result name.now (names_of self.old) }
-        ensures kept { KeepsNames (names_of self.old) (names_of self.new) }
+        ensures opening { IsOpening result name.now (counted_state None self.old) (counted_state None self.new) }
     {
         if let Err(_) = self.tallies.begin(alloc, name) {
             return Err(Refusal::NoMemory);

@@ -14,7 +14,7 @@ pub close_journals-requires-clause-opened : goal.close_journals-requires-clause-
 close_journals-requires-clause-opened g c κs within =
     let t = c.loop-clock-test.true in
     opened-front c.args.names.now c.loop-clock.clock (g.H.Shelf.opened c.disk.new.self) (omega arith)
-    (λ j name below. c.disk.ensures.kept (string_bytes (get_or c.args.names.now j name)) (c.loop-clock.invariant.opening.opened j name below))
+    (λ j name below. c.disk.ensures.opening.kept (string_bytes (get_or c.args.names.now j name)) (c.loop-clock.invariant.opening.opened j name below))
 
 pub returns-in-Err-clause-refused : goal.returns-in-Err-clause-refused
 returns-in-Err-clause-refused g c = λ journals are.
@@ -27,7 +27,7 @@ returns-in-Err-clause-refused g c = λ journals are.
     let here : AreNotOpen journals (length names) (length c.loop-clock.disks.items) (fault_of c.in-Err.refusal) shelf =
     not-open g.H.Disk.Disk.tells g.H.Disk.Disk.moments g.H.Disk.Disk.faults journals c.in-Err.refusal c.loop-clock.disks.items c.deref.result.now (length names) shelf
     (g.H.Shelf.files c.loop-clock.shelf) (g.H.Shelf.files c.disk.new.self) (g.H.Shelf.faults c.loop-clock.shelf) (g.H.Shelf.faults c.disk.new.self) (g.H.Shelf.opened c.loop-clock.shelf) (g.H.Shelf.opened c.disk.new.self)
-    (let k = i.count in omega arith) (let k = i.count in let f = c.requires.few in omega arith) is (i.are journals are) c.in-Err.ensures.unchanged c.in-Err.ensures.counts c.in-Err.ensures.refused c.in-Err.ensures.names
+    (let k = i.count in omega arith) (let k = i.count in let f = c.requires.few in omega arith) is (i.are journals are) c.in-Err.ensures.unchanged c.in-Err.ensures.opening.counts c.in-Err.ensures.opening.refused c.in-Err.ensures.opening.names
     (c.close_journals.ensures journals (names-front journals names clock (omega arith) are)) in
     subst (λ (k : ℕ). AreNotOpen journals (length names) k c.fault_of.result shelf) i.count
     (subst (λ (fault : OpenFault). AreNotOpen journals (length names) (length c.loop-clock.disks.items) fault shelf) (sym c.fault_of.ensures) here)
@@ -46,18 +46,18 @@ loop-clock-preserved g c =
       opening = record {
         count = ap length c.push_reserved.ensures.items ∙ length_push c.loop-clock.disks.items disk ∙ ap (λ k. k + 1) i.count;
         opened = λ k name less. elim (cases_lt k clock) [
-          | inl before ↦ c.disk.ensures.kept (string_bytes (get_or names k name)) (i.opened k name before)
+          | inl before ↦ c.disk.ensures.opening.kept (string_bytes (get_or names k name)) (i.opened k name before)
           | inr beyond ↦
               let same : clock ≡ k = omega arith in
               subst (λ (m : ℕ). Holds (string_bytes (get_or names m name))) same
-              (subst Holds (c.deref.ensures ∙ ap (λ s. string_bytes s) (get_or_read names clock n below c.index-names-clock.is name)) c.in-Ok-disk.ensures.opened)
+              (subst Holds (c.deref.ensures ∙ ap (λ s. string_bytes s) (get_or_read names clock n below c.index-names-clock.is name)) c.in-Ok-disk.ensures.opening.opened)
         ];
         are = λ journals are.
             let is = c.deref.ensures ∙ ap (λ s. string_bytes s) c.index-names-clock.is ∙ name-at journals names clock n are below ∙ ap (journal_name journals) (sym i.count) in
             subst (λ disks. AreOpen g.H.Disk.Disk.tells g.H.Disk.Disk.moments g.H.Disk.Disk.faults journals disks shelf) (sym c.push_reserved.ensures.items)
             (open-more g.H.Disk.Disk.tells g.H.Disk.Disk.moments g.H.Disk.Disk.faults journals c.loop-clock.disks.items disk c.deref.result.now shelf
             (g.H.Shelf.files c.loop-clock.shelf) (g.H.Shelf.faults c.loop-clock.shelf) (g.H.Shelf.opened c.loop-clock.shelf) (let k = i.count in let f = c.requires.few in omega arith) is (i.are journals are)
-            c.in-Ok-disk.ensures.fresh c.in-Ok-disk.ensures.stands c.in-Ok-disk.ensures.others c.in-Ok-disk.ensures.steady c.in-Ok-disk.ensures.names);
+            c.in-Ok-disk.ensures.fresh c.in-Ok-disk.ensures.stands c.in-Ok-disk.ensures.others c.in-Ok-disk.ensures.opening.steady c.in-Ok-disk.ensures.opening.names);
       };
       room = let r = c.loop-clock.invariant.room in let k = c.push_reserved.ensures.capacity in omega arith;
     }
