@@ -361,8 +361,9 @@ fn outcome<T: Wait>(
     }
 }
 
-fn refused(judgement: Judgement) -> Offered {
-    Offered::Refused(judgement)
+/// A turn at which a report is refused, and all stays as it is shown.
+fn refused(line: Line, seen: Seen, judgement: Judgement) -> Turn {
+    went(line, seen, Offered::Refused(judgement), seen)
 }
 
 /// The turns of two passes, one after the other.
@@ -371,19 +372,9 @@ fn turns_in_turn() -> [Turn; 10] {
     [
         went(report(0, 0, 1, 1, 2), opened, Offered::Taken, opened),
         went(report(1, 0, 1, 1, 2), opened, Offered::Again, opened),
-        went(
-            report(1, 0, 1, 1, 1),
-            opened,
-            refused(Judgement::Conflict(1)),
-            opened,
-        ),
+        refused(report(1, 0, 1, 1, 1), opened, Judgement::Conflict(1)),
         went(report(1, 0, 2, 1, 2), opened, Offered::Taken, running(2, 1)),
-        went(
-            report(1, 2, 2, 1, 2),
-            opened,
-            refused(Judgement::NotMember),
-            opened,
-        ),
+        refused(report(1, 2, 2, 1, 2), opened, Judgement::NotMember),
         went(report(1, 2, 1, 1, 2), opened, Offered::Taken, ended(1, 0)),
         went(
             report(1, 0, 1, 2, 1),
@@ -397,18 +388,8 @@ fn turns_in_turn() -> [Turn; 10] {
             Offered::Taken,
             ended(2, 1),
         ),
-        went(
-            report(1, 0, 1, 3, 1),
-            ended(2, 1),
-            refused(Judgement::Over(2)),
-            ended(2, 1),
-        ),
-        went(
-            report(0, 1, 2, 2, 2),
-            opened,
-            refused(Judgement::Early(1)),
-            opened,
-        ),
+        refused(report(1, 0, 1, 3, 1), ended(2, 1), Judgement::Over(2)),
+        refused(report(0, 1, 2, 2, 2), opened, Judgement::Early(1)),
     ]
 }
 

@@ -43,6 +43,7 @@ pub(crate) enum Change<'a> {
     Sync,
 }
 
+/// Makes one change.
 pub(crate) fn make<D: Disk>(disk: &mut D, change: Change) -> Result<(), Failed> {
     match change {
         Change::Write(at, text) => disk.write_at(at, text),
@@ -60,10 +61,12 @@ fn make_all<D: Disk>(disk: &mut D, changes: &[Change]) -> Result<(), Failed> {
     Ok(())
 }
 
+/// Reads into the buffer from this offset on, and tells how many bytes.
 pub(crate) fn read<D: Disk>(disk: &mut D, at: u64, into: &mut [u8]) -> Result<usize, Failed> {
     disk.read_at(at, into)
 }
 
+/// The length of a disk's file.
 pub(crate) fn size<D: Disk>(disk: &mut D) -> Result<u64, Failed> {
     disk.size()
 }

@@ -318,47 +318,60 @@ fn opened_in(
     Some(opened(alloc, &files, name, fails))
 }
 
+/// A folder, the one file that may be made in it, the name that a shelf opens, which sync fails, whether a disk is opened, and what the
+/// folder was asked for.
+type Opening = (
+    &'static str,
+    &'static str,
+    &'static str,
+    Fails,
+    bool,
+    [u64; 3],
+);
+
+const OPENINGS: [Opening; 8] = [
+    (".", "journal", "journal", Fails::Nothing, true, [2, 1, 1]),
+    (
+        "kept",
+        "kept/journal",
+        "kept/journal",
+        Fails::Nothing,
+        true,
+        [2, 1, 1],
+    ),
+    (
+        "a/b",
+        "a/b/journal",
+        "a/b/journal",
+        Fails::Nothing,
+        true,
+        [2, 1, 1],
+    ),
+    ("/", "/journal", "/journal", Fails::Nothing, true, [2, 1, 1]),
+    (
+        ".",
+        "journal",
+        "absent/journal",
+        Fails::Nothing,
+        false,
+        [1, 0, 0],
+    ),
+    (
+        "kept",
+        "journal",
+        "journal",
+        Fails::Nothing,
+        false,
+        [2, 1, 0],
+    ),
+    (".", "journal", "journal", Fails::File, false, [1, 1, 0]),
+    (".", "journal", "journal", Fails::Folder, false, [2, 1, 1]),
+];
+
 /// An opening opens and syncs the file, and then its folder. One that fails is not tried again.
 #[test]
 fn an_opening_syncs_the_file_and_its_folder(rt: HostRuntime) {
-    for (folder, file, name, fails, good, asked) in [
-        (".", "journal", "journal", Fails::Nothing, true, [2, 1, 1]),
-        (
-            "kept",
-            "kept/journal",
-            "kept/journal",
-            Fails::Nothing,
-            true,
-            [2, 1, 1],
-        ),
-        (
-            "a/b",
-            "a/b/journal",
-            "a/b/journal",
-            Fails::Nothing,
-            true,
-            [2, 1, 1],
-        ),
-        ("/", "/journal", "/journal", Fails::Nothing, true, [2, 1, 1]),
-        (
-            ".",
-            "journal",
-            "absent/journal",
-            Fails::Nothing,
-            false,
-            [1, 0, 0],
-        ),
-        (
-            "kept",
-            "journal",
-            "journal",
-            Fails::Nothing,
-            false,
-            [2, 1, 0],
-        ),
-        (".", "journal", "journal", Fails::File, false, [1, 1, 0]),
-        (".", "journal", "journal", Fails::Folder, false, [2, 1, 1]),
-    ] {
+    for (folder, file, name, fails, good, asked) in OPENINGS {
         assert_eq!(rt;
             opened_in(rt.alloc(), folder, file, name, fails),
             Some((good, asked)),

@@ -92,6 +92,7 @@ fn one_call(alloc: Global, call: u64) -> Option<Vec<u64>> {
     Some(numbers)
 }
 
+/// A link over which these bytes come, with room for 1,000 bytes to go, of which the calls of these numbers fail.
 pub(crate) fn list_link_with(alloc: Global, bytes: Vec<u8>, numbers: Vec<u64>) -> Option<ListLink> {
     ListLink::new(alloc, bytes, 1000, numbers).ok()
 }
@@ -172,53 +173,64 @@ fn each_frame_is_answered(rt: HostRuntime) {
     check(&rt, rt.alloc(), &[(&comes, &goes, SessionEnd::Quit)]);
 }
 
+/// What comes, what goes, and the place and the kind of the fault.
+type Faulty = (
+    &'static [&'static [u8]],
+    &'static [&'static [u8]],
+    u64,
+    WireKind,
+);
+
+const FAULTS: &[Faulty] = &[
+    (
+        &[b"\x00\x00\x80\x01"],
+        &[b"\x00\x00\x00\x06\x15\x0e\x00\x00\x00\x80\x01"],
+        0,
+        WireKind::TooLong(32_769),
+    ),
+    (
+        &[HELLO, b"\x00\x00\x00\x00\x09", QUIT],
+        &[WELCOME, b"\x00\x00\x00\x06\x15\x0f\x00\x00\x00\x00\x09"],
+        9,
+        WireKind::UnknownKind(9),
+    ),
+    (
+        &[WELCOME],
+        &[b"\x00\x00\x00\x06\x15\x0f\x00\x00\x00\x00\x11"],
+        0,
+        WireKind::UnknownKind(17),
+    ),
+    (
+        &[b"\x00\x00\x00\x02\x02\x00"],
+        &[b"\x00\x00\x00\x06\x15\x10\x00\x00\x00\x00\x02"],
+        0,
+        WireKind::BadPayload { kind: 2, length: 2 },
+    ),
+    (
+        &[b"\x00\x00\x00\x42\x01"],
+        &[b"\x00\x00\x00\x06\x15\x10\x00\x00\x00\x00\x01"],
+        0,
+        WireKind::BadPayload {
+            kind: 1,
+            length: 66,
+        },
+    ),
+    (
+        &[
+            HELLO,
+            b"\x00\x00\x00\x08\x03\x00\x00\x00\x00\x01\x01\x00\x01",
+        ],
+        &[WELCOME, b"\x00\x00\x00\x06\x15\x10\x00\x00\x00\x00\x03"],
+        9,
+        WireKind::BadPayload { kind: 3, length: 8 },
+    ),
+];
+
 #[test]
 fn a_fault_is_answered_behind_the_frames_and_ends_the_session(rt: HostRuntime) {
-    check(
-        &rt,
-        rt.alloc(),
-        &[
-            (
-                &[b"\x00\x00\x80\x01"],
-                &[b"\x00\x00\x00\x06\x15\x0e\x00\x00\x00\x80\x01"],
-                fault(0, WireKind::TooLong(32_769)),
-            ),
-            (
-                &[HELLO, b"\x00\x00\x00\x00\x09", QUIT],
-                &[WELCOME, b"\x00\x00\x00\x06\x15\x0f\x00\x00\x00\x00\x09"],
-                fault(9, WireKind::UnknownKind(9)),
-            ),
-            (
-                &[WELCOME],
-                &[b"\x00\x00\x00\x06\x15\x0f\x00\x00\x00\x00\x11"],
-                fault(0, WireKind::UnknownKind(17)),
-            ),
-            (
-                &[b"\x00\x00\x00\x02\x02\x00"],
-                &[b"\x00\x00\x00\x06\x15\x10\x00\x00\x00\x00\x02"],
-                fault(0, WireKind::BadPayload { kind: 2, length: 2 }),
-            ),
-            (
-                &[b"\x00\x00\x00\x42\x01"],
-                &[b"\x00\x00\x00\x06\x15\x10\x00\x00\x00\x00\x01"],
-                fault(
-                    0,
-                    WireKind::BadPayload {
-                        kind: 1,
-                        length: 66,
-                    },
-                ),
-            ),
-            (
-                &[
-                    HELLO,
-                    b"\x00\x00\x00\x08\x03\x00\x00\x00\x00\x01\x01\x00\x01",
-                ],
-                &[WELCOME, b"\x00\x00\x00\x06\x15\x10\x00\x00\x00\x00\x03"],
-                fault(9, WireKind::BadPayload { kind: 3, length: 8 }),
-            ),
-        ],
-    );
+    for (comes, goes, place, kind) in FAULTS {
+        check(&rt, rt.alloc(), &[(*comes, *goes, fault(*place, *kind))]);
+    }
 }
 
 #[test]

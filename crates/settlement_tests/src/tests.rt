@@ -312,22 +312,6 @@ const AT_SIX: Told = (
     ],
 );
 
-#[test]
-fn three_bidders_pay_the_price_of_uniform_units(rt: HostRuntime) -> Result<(), Fail> {
-    let terms = explained_example();
-    let told = settles_so(&rt, rt.alloc(), &terms, Reports::True(UNIFORM), &AT_SIX)?;
-    assert!(rt; told);
-    Ok(())
-}
-
-/// Terms of two units for three bidders, which open at a price.
-fn opening_at(rt: &impl Abort, price: u32) -> Result<Terms, Fail> {
-    let opening = Prices::read(&[price]).ok_or("opening")?;
-    let goods = Goods::new(&[2])?;
-    assert_eq!(rt; opening.count(), goods.count());
-    Ok(Terms::with_opening(goods, 3, 100, opening)?)
-}
-
 // A reserve of 5: they pay as much. The clocks without a bidder end where they opened.
 const FROM_FIVE: Told = (
     &[5],
@@ -341,14 +325,6 @@ const FROM_FIVE: Told = (
     ],
 );
 
-#[test]
-fn a_reserve_below_the_price_changes_no_payment(rt: HostRuntime) -> Result<(), Fail> {
-    let terms = opening_at(&rt, 5)?;
-    let told = settles_so(&rt, rt.alloc(), &terms, Reports::True(UNIFORM), &FROM_FIVE)?;
-    assert!(rt; told);
-    Ok(())
-}
-
 // A reserve of 9: one unit stays unsold, and the other is sold at it. The numbers are those of the law.
 const FROM_NINE: Told = (
     &[9],
@@ -361,14 +337,6 @@ const FROM_NINE: Told = (
         (0, &[9], &[&[1], &[0]]),
     ],
 );
-
-#[test]
-fn a_unit_stays_unsold_at_its_reserve(rt: HostRuntime) -> Result<(), Fail> {
-    let terms = reserve_example();
-    let told = settles_so(&rt, rt.alloc(), &terms, Reports::True(UNIFORM), &FROM_NINE)?;
-    assert!(rt; told);
-    Ok(())
-}
 
 /// Two units; the bidders value them at 10 and 9, 8 and 3.
 const UNEVEN: &[&[u32]] = &[&[0, 10, 19], &[0, 8, 11]];
@@ -385,11 +353,46 @@ const WITH_CREDIT: Told = (
     ],
 );
 
+/// Terms of two units for three bidders, which open at a price.
+fn opening_at(rt: &impl Abort, price: u32) -> Result<Terms, Fail> {
+    let opening = Prices::read(&[price]).ok_or("opening")?;
+    let goods = Goods::new(&[2])?;
+    assert_eq!(rt; opening.count(), goods.count());
+    Ok(Terms::with_opening(goods, 3, 100, opening)?)
+}
+
 #[test]
-fn a_credit_lowers_the_payment(rt: HostRuntime) -> Result<(), Fail> {
-    let terms = credit_example();
-    let told = settles_so(&rt, rt.alloc(), &terms, Reports::True(UNEVEN), &WITH_CREDIT)?;
-    assert!(rt; told);
+fn auctions_of_two_units_settle(rt: HostRuntime) -> Result<(), Fail> {
+    let from_five = opening_at(&rt, 5)?;
+    for (story, terms, values, told) in [
+        (
+            "three bidders pay the price of uniform units",
+            explained_example(),
+            UNIFORM,
+            AT_SIX,
+        ),
+        (
+            "a reserve below the price changes no payment",
+            from_five,
+            UNIFORM,
+            FROM_FIVE,
+        ),
+        (
+            "a unit stays unsold at its reserve",
+            reserve_example(),
+            UNIFORM,
+            FROM_NINE,
+        ),
+        (
+            "a credit lowers the payment",
+            credit_example(),
+            UNEVEN,
+            WITH_CREDIT,
+        ),
+    ] {
+        let settles = settles_so(&rt, rt.alloc(), &terms, Reports::True(values), &told)?;
+        assert!(rt; settles, "{story}");
+    }
     Ok(())
 }
 
@@ -420,13 +423,6 @@ const ONE_EACH_TOLD: Told = (
     ],
 );
 
-#[test]
-fn two_goods_go_to_two_bidders(rt: HostRuntime) -> Result<(), Fail> {
-    let told = supply_settles_so(&rt, rt.alloc(), &[1, 1], 2, ONE_EACH, &ONE_EACH_TOLD)?;
-    assert!(rt; told);
-    Ok(())
-}
-
 // A unit of one good and two of another; each bidder wants a unit of the first, at 3 and at 2, and none of the other.
 const FIRST_GOOD: Reports = Reports::True(&[&[0, 0, 0, 3, 3, 3], &[0, 0, 0, 2, 2, 2]]);
 
@@ -441,13 +437,6 @@ const FIRST_GOOD_TOLD: Told = (
     ],
 );
 
-#[test]
-fn a_good_without_a_price_stays_unsold(rt: HostRuntime) -> Result<(), Fail> {
-    let told = supply_settles_so(&rt, rt.alloc(), &[1, 2], 2, FIRST_GOOD, &FIRST_GOOD_TOLD)?;
-    assert!(rt; told);
-    Ok(())
-}
-
 const ONE_BIDDER: Reports = Reports::Listed(&[&[(1, 1, &[2])], &[]]);
 
 const ONE_BIDDER_TOLD: Told = (
@@ -456,13 +445,6 @@ const ONE_BIDDER_TOLD: Told = (
     &[(&[2], 0, 0, 0)],
     &[(0, &[0], &[&[2]]), (0, &[0], &[])],
 );
-
-#[test]
-fn one_bidder_pays_nothing(rt: HostRuntime) -> Result<(), Fail> {
-    let told = supply_settles_so(&rt, rt.alloc(), &[2], 1, ONE_BIDDER, &ONE_BIDDER_TOLD)?;
-    assert!(rt; told);
-    Ok(())
-}
 
 const ONE: &[u16] = &[1];
 
@@ -484,13 +466,6 @@ const ANYTHING_TOLD: Told = (
         (0, &[0], &[&[0]]),
     ],
 );
-
-#[test]
-fn the_first_choice_sells_nothing_where_nothing_has_a_price(rt: HostRuntime) -> Result<(), Fail> {
-    let told = supply_settles_so(&rt, rt.alloc(), &[1], 2, ANYTHING, &ANYTHING_TOLD)?;
-    assert!(rt; told);
-    Ok(())
-}
 
 // At price 4 both bidders want the unit or nothing.
 const TIE: Reports = Reports::Listed(&[
@@ -521,10 +496,47 @@ const TIE_TOLD: Told = (
     ],
 );
 
+/// What happens, the supply, how many bidders there are, their reports, and the outcome.
+type Auction<'a> = (&'a str, &'a [u16], u8, Reports<'a>, Told<'a>);
+
+const AUCTIONS: &[Auction] = &[
+    (
+        "two goods go to two bidders",
+        &[1, 1],
+        2,
+        ONE_EACH,
+        ONE_EACH_TOLD,
+    ),
+    (
+        "a good without a price stays unsold",
+        &[1, 2],
+        2,
+        FIRST_GOOD,
+        FIRST_GOOD_TOLD,
+    ),
+    (
+        "one bidder pays nothing",
+        &[2],
+        1,
+        ONE_BIDDER,
+        ONE_BIDDER_TOLD,
+    ),
+    (
+        "the first choice sells nothing where nothing has a price",
+        &[1],
+        2,
+        ANYTHING,
+        ANYTHING_TOLD,
+    ),
+    ("a tie goes to the last bidder", &[1], 2, TIE, TIE_TOLD),
+];
+
 #[test]
-fn a_tie_goes_to_the_last_bidder(rt: HostRuntime) -> Result<(), Fail> {
-    let told = supply_settles_so(&rt, rt.alloc(), &[1], 2, TIE, &TIE_TOLD)?;
-    assert!(rt; told);
+fn auctions_with_a_ceiling_of_100_settle(rt: HostRuntime) -> Result<(), Fail> {
+    for (story, supply, bidders, reports, told) in AUCTIONS {
+        let settles = supply_settles_so(&rt, rt.alloc(), supply, *bidders, *reports, told)?;
+        assert!(rt; settles, "{story}");
+    }
     Ok(())
 }
 

@@ -7,61 +7,8 @@ use house_io::{ListLink, ListNet, Net, SureNet};
 use std::alloc::Global;
 use std::sync::Wait;
 use std::thread::Threads;
-
-/// The unit is worth 4 to each.
-const VALUES: &str = r#"
-[[valuations]]
-form = "marginal"
-lists = [[4]]
-
-[[valuations]]
-form = "marginal"
-lists = [[4]]
-"#;
-
-const WELCOME: &[u8] = b"\x00\x00\x00\x02\x11\x01\x03";
-
-const RUNNING_0: &[u8] = b"\x00\x00\x00\x0c\x12\x00\x00\x00\x00\x01\x00\x00\x01\x00\x00\x00\x00";
-
-const RUNNING_2: &[u8] = b"\x00\x00\x00\x0c\x12\x02\x00\x00\x00\x01\x00\x00\x01\x00\x00\x00\x00";
-
-const TAKEN_0: &[u8] = b"\x00\x00\x00\x05\x13\x00\x00\x00\x00\x01";
-
-const TAKEN_2: &[u8] = b"\x00\x00\x00\x05\x13\x02\x00\x00\x00\x01";
-
-const ENDED_0: &[u8] = b"\x00\x00\x00\x0c\x12\x00\x00\x00\x00\x01\x01\x00\x01\x00\x00\x00\x00";
-
-const ENDED_2: &[u8] = b"\x00\x00\x00\x0c\x12\x02\x00\x00\x00\x01\x01\x00\x01\x00\x00\x00\x00";
-
-const BYE: &[u8] = b"\x00\x00\x00\x00\x16";
-
-const REFUSED: &[u8] = b"\x00\x00\x00\x06\x15\x02\x00\x00\x00\x00\x01";
-
-const HELLO: &[u8] = b"\x00\x00\x00\x04\x01\x01abc";
-
-const LOOK_0: &[u8] = b"\x00\x00\x00\x01\x02\x00";
-
-const LOOK_2: &[u8] = b"\x00\x00\x00\x01\x02\x02";
-
-const REPORT_0: &[u8] = b"\x00\x00\x00\x0a\x03\x00\x00\x00\x00\x01\x01\x00\x01\x00\x01";
-
-const REPORT_2: &[u8] = b"\x00\x00\x00\x0a\x03\x02\x00\x00\x00\x01\x01\x00\x01\x00\x01";
-
-const QUIT: &[u8] = b"\x00\x00\x00\x00\x04";
-
-/// All frames of a talk to the end, and the replies to these.
-const ALL: &[&[u8]] = &[
-    HELLO, LOOK_0, REPORT_0, LOOK_2, REPORT_2, LOOK_0, LOOK_2, QUIT,
-];
-
-const REPLIES: &[&[u8]] = &[
-    WELCOME, RUNNING_0, TAKEN_0, RUNNING_2, TAKEN_2, ENDED_0, ENDED_2, BYE,
-];
-
-/// One look that is equal to the one before, and the frames.
-const ONCE: &[&[u8]] = &[WELCOME, RUNNING_0, TAKEN_0, RUNNING_2, TAKEN_2, RUNNING_0];
-
-const LOOKS: &[&[u8]] = &[HELLO, LOOK_0, REPORT_0, LOOK_2, REPORT_2, LOOK_0];
+use worked_auctions::talks::{ALL, HELLO, LOOKS, ONCE, REFUSED, REPLIES};
+use worked_auctions::valuations::TIE;
 
 const BID: &[&str] = &["bid", "a", "v", "1", "abc", "house:1"];
 
@@ -85,7 +32,7 @@ fn ends_with<N: Net>(
     status: u8,
     text: &str,
 ) -> Option<bool> {
-    let mut shelf = bidder_shelf(alloc, VALUES)?;
+    let mut shelf = bidder_shelf(alloc, TIE)?;
     ends_so(rt, alloc, words, &mut shelf, net, status, text)
 }
 

@@ -11,9 +11,7 @@ use std::alloc::Global;
 use std::sync::Wait;
 use std::thread::Threads;
 use valuation::read as read_values;
-
-/// The frame by which ada begins a session.
-const HELLO: &[u8] = b"\x00\x00\x00\x04\x01\x01abc";
+use worked_auctions::talks::HELLO;
 
 /// What a journal's file begins with, but for the digest of the auction file.
 const GATE_AND_FORMAT: &[u8] = b"\xa5AHJ1\x00\x00\x00\x00";

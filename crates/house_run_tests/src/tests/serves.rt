@@ -7,32 +7,20 @@ use house_io::{ListDoor, ListNet, SureDoor, SureNet, SureShelf};
 use std::alloc::Global;
 use std::sync::Wait;
 use std::thread::Threads;
+use worked_auctions::talks::{BYE, HELLO, QUIT, REPORT_0, REPORT_2, TAKEN_0, TAKEN_2, WELCOME};
 
 /// Ada wants the unit, and says so to the clock of all and to that without bob.
-const ADA: &[&[u8]] = &[
-    b"\x00\x00\x00\x04\x01\x01abc",
-    b"\x00\x00\x00\x0a\x03\x00\x00\x00\x00\x01\x01\x00\x01\x00\x01",
-    b"\x00\x00\x00\x0a\x03\x02\x00\x00\x00\x01\x01\x00\x01\x00\x01",
-    b"\x00\x00\x00\x00\x04",
-];
+const ADA: &[&[u8]] = &[HELLO, REPORT_0, REPORT_2, QUIT];
 
 /// Bob takes the unit or nothing, and says so to the clock of all and to that without ada.
 const BOB: &[&[u8]] = &[
     b"\x00\x00\x00\x06\x01\x02hello",
     b"\x00\x00\x00\x0c\x03\x00\x00\x00\x00\x01\x01\x00\x02\x00\x00\x00\x01",
     b"\x00\x00\x00\x0c\x03\x01\x00\x00\x00\x01\x01\x00\x02\x00\x00\x00\x01",
-    b"\x00\x00\x00\x00\x04",
+    QUIT,
 ];
 
-const WELCOME: &[u8] = b"\x00\x00\x00\x02\x11\x01\x03";
-
-const TAKEN_0: &[u8] = b"\x00\x00\x00\x05\x13\x00\x00\x00\x00\x01";
-
 const TAKEN_1: &[u8] = b"\x00\x00\x00\x05\x13\x01\x00\x00\x00\x01";
-
-const TAKEN_2: &[u8] = b"\x00\x00\x00\x05\x13\x02\x00\x00\x00\x01";
-
-const BYE: &[u8] = b"\x00\x00\x00\x00\x16";
 
 const TO_ADA: &[&[u8]] = &[WELCOME, TAKEN_0, TAKEN_2, BYE];
 

@@ -6,6 +6,7 @@ use super::runs::{FailingRow, fails_so, runs_over};
 use std::alloc::Global;
 use std::sync::Wait;
 use std::thread::Threads;
+use worked_auctions::outcomes;
 
 /// The reports of each clock where no, one and two units are worth 0, 10 and 14, then 0, 8 and 11, then 0, 6 and 7.
 const ALL: &[Report] = &[
@@ -68,26 +69,6 @@ const WITHOUT_THIRD: &[Report] = &[
     [1, 5, 1, 2],
     [2, 5, 1, 1],
 ];
-
-const SETTLED: &str = "settled goods 1 bidders 3
-prices 6
-bidder 1 award 1 debit -4 credit -4 pays 6
-bidder 2 award 1 debit -5 credit -5 pays 6
-bidder 3 award 0 debit -7 credit -7 pays 0
-clock 0 steps 6 prices 6
-choice 0 1 1
-choice 0 2 1
-choice 0 3 0
-clock 1 steps 3 prices 3
-choice 1 2 1
-choice 1 3 1
-clock 2 steps 4 prices 4
-choice 2 1 1
-choice 2 3 1
-clock 3 steps 4 prices 4
-choice 3 1 1
-choice 3 2 1
-";
 
 /// The files of a house: the auction, and the journals of its first clocks.
 const NAMES: &[&str] = &[
@@ -157,7 +138,15 @@ const THREE_BIDDERS: &[&[Report]] = &[ALL, WITHOUT_FIRST, WITHOUT_SECOND, WITHOU
 
 #[test]
 fn settles_two_units_among_three_bidders(rt: HostRuntime) {
-    let told = units_end_so(&rt, rt.alloc(), SETTLE, 3, THREE_BIDDERS, 0, SETTLED);
+    let told = units_end_so(
+        &rt,
+        rt.alloc(),
+        SETTLE,
+        3,
+        THREE_BIDDERS,
+        0,
+        outcomes::THREE_BIDDERS,
+    );
     assert_eq!(rt; told, Some(true));
 }
 
@@ -186,10 +175,6 @@ fn tells_how_each_clock_stands(rt: HostRuntime) {
 
 /// The reports of one bidder's auction, who demands both units.
 const ONE_BIDDER: &[&[Report]] = &[&[[1, 1, 2, 2]]];
-
-const JSON: &str =
-    r#"{"bidders":[{"award":[2],"bidder":1,"credit":0,"debit":0,"pays":0}],"clocks":[{"choices":[{"bidder":1,"bundle":[2]}],"clock":0,"prices":[0],"steps":0},{"choices":[],"clock":1,"prices":[0],"steps":0}],"goods":1,"prices":[0]}
-"#;
 
 const WITH_JSON: &[&[&str]] = &[
     &["settle", "a", "j", "--json"],
@@ -232,7 +217,7 @@ fn first_other(
 
 #[test]
 fn takes_json_anywhere_and_once(rt: HostRuntime) {
-    let others = first_other(&rt, rt.alloc(), WITH_JSON, 0, JSON);
+    let others = first_other(&rt, rt.alloc(), WITH_JSON, 0, outcomes::ONE_BIDDER_JSON);
     let commands = first_other(&rt, rt.alloc(), NO_SETTLE, 2, "usage\n");
     assert_eq!(rt; (others, commands), (None, None));
 }
@@ -269,23 +254,10 @@ fn house_of_two_goods(alloc: Global) -> Option<Vec<Vec<u8>>> {
     Some(contents)
 }
 
-const TWO_GOODS_SETTLED: &str = "settled goods 2 bidders 2
-prices 1 0
-bidder 1 award 0 1 debit 0 credit 0 pays 0
-bidder 2 award 1 0 debit 0 credit 0 pays 1
-clock 0 steps 1 prices 1 0
-choice 0 1 0 1
-choice 0 2 1 0
-clock 1 steps 0 prices 0 0
-choice 1 2 1 0
-clock 2 steps 0 prices 0 0
-choice 2 1 1 0
-";
-
 /// Whether the auction of two goods settles so.
 fn two_goods_settle(rt: &(impl Threads + Wait + Sync), alloc: Global) -> Option<bool> {
     let contents = house_of_two_goods(alloc)?;
-    runs_over(rt, alloc, SETTLE, NAMES, &contents, 0, TWO_GOODS_SETTLED)
+    runs_over(rt, alloc, SETTLE, NAMES, &contents, 0, outcomes::ONE_EACH)
 }
 
 #[test]

@@ -1,150 +1,11 @@
 //! The commands `trial` and `make`: auctions that were worked by hand, told by valuations, and the market of the number 7.
 use super::auctions::{ONE_UNIT, TO_HUNDRED, TWO_GOODS, TWO_UNITS, auction_of};
-use super::fixtures::{Outside, named};
+use super::fixtures::{Outside, joined_text, named};
 use super::runs::{FailingRow, fails_so, runs_over, runs_so};
 use std::alloc::Global;
 use std::sync::Wait;
 use std::thread::Threads;
-
-/// What two licences are worth to three bidders.
-const THREE: &[&str] = &["lists = [[10, 4]]", "lists = [[8, 3]]", "lists = [[6, 1]]"];
-
-const FIRST: &str = "settled goods 1 bidders 3
-prices 6
-bidder 1 award 1 debit -4 credit -4 pays 6
-bidder 2 award 1 debit -5 credit -5 pays 6
-bidder 3 award 0 debit -7 credit -7 pays 0
-clock 0 steps 6 prices 6
-choice 0 1 1
-choice 0 2 1
-choice 0 3 0
-clock 1 steps 3 prices 3
-choice 1 2 1
-choice 1 3 1
-clock 2 steps 4 prices 4
-choice 2 1 1
-choice 2 3 1
-clock 3 steps 4 prices 4
-choice 3 1 1
-choice 3 2 1
-";
-
-const SECOND: &str = "settled goods 1 bidders 2
-prices 8
-bidder 1 award 2 debit 0 credit 5 pays 11
-bidder 2 award 0 debit 0 credit 0 pays 0
-clock 0 steps 8 prices 8
-choice 0 1 2
-choice 0 2 0
-clock 1 steps 0 prices 0
-choice 1 2 2
-clock 2 steps 0 prices 0
-choice 2 1 2
-";
-
-const THIRD: &str = "settled goods 2 bidders 2
-prices 1 0
-bidder 1 award 0 1 debit 0 credit 0 pays 0
-bidder 2 award 1 0 debit 0 credit 0 pays 1
-clock 0 steps 1 prices 1 0
-choice 0 1 0 1
-choice 0 2 1 0
-clock 1 steps 0 prices 0 0
-choice 1 2 1 0
-clock 2 steps 0 prices 0 0
-choice 2 1 1 0
-";
-
-const FOURTH: &str = "settled goods 1 bidders 1
-prices 0
-bidder 1 award 2 debit 0 credit 0 pays 0
-clock 0 steps 0 prices 0
-choice 0 1 2
-clock 1 steps 0 prices 0
-";
-
-const FIFTH: &str = "settled goods 1 bidders 2
-prices 0
-bidder 1 award 0 debit 0 credit 0 pays 0
-bidder 2 award 0 debit 0 credit 0 pays 0
-clock 0 steps 0 prices 0
-choice 0 1 0
-choice 0 2 0
-clock 1 steps 0 prices 0
-choice 1 2 0
-clock 2 steps 0 prices 0
-choice 2 1 0
-";
-
-const SIXTH: &str = "settled goods 1 bidders 2
-prices 4
-bidder 1 award 0 debit 0 credit 0 pays 0
-bidder 2 award 1 debit 0 credit 0 pays 4
-clock 0 steps 4 prices 4
-choice 0 1 0
-choice 0 2 1
-clock 1 steps 0 prices 0
-choice 1 2 1
-clock 2 steps 0 prices 0
-choice 2 1 1
-";
-
-const SEVENTH: &str = "settled goods 2 bidders 2
-prices 2 0
-bidder 1 award 1 0 debit 0 credit 0 pays 2
-bidder 2 award 0 0 debit 0 credit 0 pays 0
-clock 0 steps 2 prices 2 0
-choice 0 1 1 0
-choice 0 2 0 0
-clock 1 steps 0 prices 0 0
-choice 1 2 1 0
-clock 2 steps 0 prices 0 0
-choice 2 1 1 0
-";
-
-/// The first auction, of which no unit is sold below 5.
-const FROM_FIVE: &str = "settled goods 1 bidders 3
-prices 6
-opening 5
-bidder 1 award 1 debit 0 credit 0 pays 6
-bidder 2 award 1 debit 0 credit 0 pays 6
-bidder 3 award 0 debit 0 credit 0 pays 0
-clock 0 steps 1 prices 6
-choice 0 1 1
-choice 0 2 1
-choice 0 3 0
-clock 1 steps 0 prices 5
-choice 1 2 1
-choice 1 3 1
-clock 2 steps 0 prices 5
-choice 2 1 1
-choice 2 3 1
-clock 3 steps 0 prices 5
-choice 3 1 1
-choice 3 2 1
-";
-
-/// The same below 9, where a unit stays unsold.
-const FROM_NINE: &str = "settled goods 1 bidders 3
-prices 9
-opening 9
-bidder 1 award 1 debit 0 credit 0 pays 9
-bidder 2 award 0 debit 0 credit 0 pays 0
-bidder 3 award 0 debit 0 credit 0 pays 0
-clock 0 steps 0 prices 9
-choice 0 1 1
-choice 0 2 0
-choice 0 3 0
-clock 1 steps 0 prices 9
-choice 1 2 0
-choice 1 3 0
-clock 2 steps 0 prices 9
-choice 2 1 1
-choice 2 3 0
-clock 3 steps 0 prices 9
-choice 3 1 1
-choice 3 2 0
-";
+use worked_auctions::{outcomes, valuations};
 
 const SEVEN: &str =
     "make 7 goods 3 bidders 12 clocks 13 steps 1280 revenue 680 outcome 3fc0eb098f54fb2d09de7849f1cf2db34b42ff2adfcf16c1001b1e6d35cd14aa\n";
@@ -179,28 +40,8 @@ supply = 2
 opening = 9
 "#;
 
-/// The section of a valuation in this form, with this key.
-fn push_valuation(alloc: Global, text: &mut String, form: &str, key: &str) -> Option<()> {
-    let section = format!(in alloc; "[[valuations]]\nform = \"{form}\"\n{key}\n").ok()?;
-    text.push_str(&section).ok()
-}
-
-/// The file of valuations in this form, with these keys, one for each bidder.
-fn values_of(alloc: Global, form: &str, keys: &[&str]) -> Option<Vec<u8>> {
-    let mut text = String::new(alloc);
-    for key in keys {
-        push_valuation(alloc, &mut text, form, key)?;
-    }
-    Some(text.into_bytes())
-}
-
-/// The head and the goods of an auction, the form of the valuations, and a key for each bidder.
-type Told = (
-    &'static str,
-    &'static str,
-    &'static str,
-    &'static [&'static str],
-);
+/// The head and the goods of an auction, how many bidders there are, and their valuations.
+type Told = (&'static str, &'static str, usize, &'static str);
 
 /// An auction that is told, and the status and the text of its trial.
 type Row = (Told, u8, &'static str);
@@ -209,12 +50,12 @@ const NAMES: &[&str] = &["a", "v"];
 
 /// The auction and the valuations that are told.
 fn contents_of(alloc: Global, told: &Told) -> Option<Vec<Vec<u8>>> {
-    let (head, goods, form, keys) = told;
+    let (head, goods, bidders, values) = told;
     let mut contents = Vec::new(alloc);
     contents
-        .push(auction_of(alloc, head, goods, keys.len())?)
+        .push(auction_of(alloc, head, goods, *bidders)?)
         .ok()?;
-    contents.push(values_of(alloc, form, keys)?).ok()?;
+    contents.push(joined_text(alloc, &[*values])?).ok()?;
     Some(contents)
 }
 
@@ -243,45 +84,26 @@ fn ends_over_nothing(
     runs_so(rt, alloc, words, &[("a", b""), ("v", b"")], status, text)
 }
 
-const FIRST_TOLD: Told = (TO_HUNDRED, TWO_UNITS, "marginal", THREE);
+const FIRST_TOLD: Told = (TO_HUNDRED, TWO_UNITS, 3, valuations::THREE_BIDDERS);
 
 const ONE_GOOD: &[Row] = &[
-    (FIRST_TOLD, 0, FIRST),
+    (FIRST_TOLD, 0, outcomes::THREE_BIDDERS),
     (
-        (
-            TO_HUNDRED,
-            TWO_UNITS,
-            "marginal",
-            &["lists = [[10, 9]]", "lists = [[8, 3]]"],
-        ),
+        (TO_HUNDRED, TWO_UNITS, 2, valuations::UNEVEN),
         0,
-        SECOND,
+        outcomes::UNEVEN,
     ),
     (
-        (TO_HUNDRED, TWO_UNITS, "marginal", &["lists = [[5, 3]]"]),
+        (TO_HUNDRED, TWO_UNITS, 1, valuations::ONE_BIDDER),
         0,
-        FOURTH,
+        outcomes::ONE_BIDDER,
     ),
     (
-        (
-            TO_HUNDRED,
-            ONE_UNIT,
-            "marginal",
-            &["lists = [[0]]", "lists = [[0]]"],
-        ),
+        (TO_HUNDRED, ONE_UNIT, 2, valuations::WORTHLESS),
         0,
-        FIFTH,
+        outcomes::WORTHLESS,
     ),
-    (
-        (
-            TO_HUNDRED,
-            ONE_UNIT,
-            "marginal",
-            &["lists = [[4]]", "lists = [[4]]"],
-        ),
-        0,
-        SIXTH,
-    ),
+    ((TO_HUNDRED, ONE_UNIT, 2, valuations::TIE), 0, outcomes::TIE),
 ];
 
 #[test]
@@ -294,24 +116,14 @@ fn trials_of_one_good_settle(rt: HostRuntime) {
 
 const BY_UNITS: &[Row] = &[
     (
-        (
-            TO_HUNDRED,
-            TWO_GOODS,
-            "unit",
-            &["values = [5, 4]", "values = [3, 0]"],
-        ),
+        (TO_HUNDRED, TWO_GOODS, 2, valuations::ONE_EACH),
         0,
-        THIRD,
+        outcomes::ONE_EACH,
     ),
     (
-        (
-            TO_HUNDRED,
-            ONE_AND_TWO,
-            "unit",
-            &["values = [3, 0]", "values = [2, 0]"],
-        ),
+        (TO_HUNDRED, ONE_AND_TWO, 2, valuations::FIRST_GOOD),
         0,
-        SEVENTH,
+        outcomes::FIRST_GOOD,
     ),
 ];
 
@@ -323,22 +135,28 @@ fn trials_of_two_goods_settle(rt: HostRuntime) {
     }
 }
 
+/// The first bidder wants both goods or nothing, and the second one of them.
+const COMPLEMENTS: &str = r#"[[valuations]]
+form = "table"
+values = [0, 0, 0, 3]
+[[valuations]]
+form = "table"
+values = [0, 2, 2, 2]
+"#;
+
+/// A form that is none.
+const OTHER_FORM: &str = r#"[[valuations]]
+form = "other"
+x = 1
+"#;
+
 const REFUSED: &[Row] = &[
     (
-        (
-            TO_HUNDRED,
-            TWO_GOODS,
-            "table",
-            &["values = [0, 0, 0, 3]", "values = [0, 2, 2, 2]"],
-        ),
+        (TO_HUNDRED, TWO_GOODS, 2, COMPLEMENTS),
         13,
         "not substitutes bidder 1 x 1 1 y 0 0 good 0\n",
     ),
-    (
-        (TO_HUNDRED, ONE_UNIT, "other", &["x = 1"]),
-        12,
-        "bad values 10\n",
-    ),
+    ((TO_HUNDRED, ONE_UNIT, 1, OTHER_FORM), 12, "bad values 10\n"),
 ];
 
 #[test]
@@ -353,14 +171,24 @@ fn trials_are_refused(rt: HostRuntime) {
 
 const RESERVED: &[Row] = &[
     (
-        (SECOND_TO_HUNDRED, TWO_FROM_FIVE, "marginal", THREE),
+        (
+            SECOND_TO_HUNDRED,
+            TWO_FROM_FIVE,
+            3,
+            valuations::THREE_BIDDERS,
+        ),
         0,
-        FROM_FIVE,
+        outcomes::FROM_FIVE,
     ),
     (
-        (SECOND_TO_HUNDRED, TWO_FROM_NINE, "marginal", THREE),
+        (
+            SECOND_TO_HUNDRED,
+            TWO_FROM_NINE,
+            3,
+            valuations::THREE_BIDDERS,
+        ),
         0,
-        FROM_NINE,
+        outcomes::FROM_NINE,
     ),
 ];
 
@@ -394,12 +222,12 @@ const BY_EIGHT: &[&str] = &["trial", "a", "v", "--workers", "8"];
 const FAILING: &[(Outside, u64, u8, &str)] = &[
     (Outside::Opening, 0, 4, "read fault\n"),
     (Outside::Opening, 1, 4, "read fault\n"),
-    (Outside::Opening, 2, 0, FIRST),
+    (Outside::Opening, 2, 0, outcomes::THREE_BIDDERS),
     (Outside::File(0), 0, 4, "read fault\n"),
     (Outside::File(1), 0, 4, "read fault\n"),
     (Outside::File(1), 1, 4, "read fault\n"),
     (Outside::Sink, 0, 5, ""),
-    (Outside::Sink, 1, 0, FIRST),
+    (Outside::Sink, 1, 0, outcomes::THREE_BIDDERS),
 ];
 
 /// Whether the words of a row over these contents end as it says.
