@@ -1,18 +1,23 @@
-//! How much more four threads do than one, where none waits for another and none touches memory: what a machine lets four workers gain at most.
-//! Two processors of a machine may be halves of one core, and a core that works alone may run faster.
+//! How much more four threads do than one, where none waits for another: each makes passes over 2,048 numbers of its own, which is what a worker
+//! of a trial does most. That is what a machine lets four workers gain at most: two processors of it may be halves of one core, and a core
+//! that works alone may run faster.
 use std::hint::black_box;
 use std::thread;
 use std::time::{Duration, Instant};
 
+const NUMBERS: usize = 2_048;
 const SPELL: Duration = Duration::from_millis(300);
 const SPELLS: usize = 5;
 
-/// Runs of a short loop of arithmetic that a thread makes in a spell.
-fn runs() -> u64 {
-    let (begun, mut count, mut state) = (Instant::now(), 0, 1u64);
+/// How many passes a thread makes in a spell, in hundreds.
+fn passes() -> u64 {
+    let (begun, mut count, mut numbers) = (Instant::now(), 0, [1i64; NUMBERS]);
     while begun.elapsed() < SPELL {
-        for _ in 0..10_000 {
-            state = black_box(state.wrapping_mul(6_364_136_223_846_793_005).wrapping_add(state >> 33));
+        for step in 0..100 {
+            for number in &mut numbers {
+                *number = number.wrapping_sub(step).max(-1_000_000);
+            }
+            black_box(&mut numbers);
         }
         count += 1;
     }
@@ -21,7 +26,7 @@ fn runs() -> u64 {
 
 fn together(threads: usize) -> u64 {
     thread::scope(|scope| {
-        let made: Vec<_> = (0..threads).map(|_| scope.spawn(runs)).collect();
+        let made: Vec<_> = (0..threads).map(|_| scope.spawn(passes)).collect();
         made.into_iter().map(|thread| thread.join().unwrap()).sum()
     })
 }

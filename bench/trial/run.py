@@ -10,7 +10,7 @@ another one, and --programs to run the integer programs too, which take long. Wi
 again in one process, is proved and run beside the reference that does so too; --makes FILE takes it as it was built before.
 
 With --workers only the times by the clock are taken, with one worker and with four in turns, the least of fifteen runs each, beside the load
-average, the commit that the program is built from, and what four threads of arithmetic alone gain on the machine (processors.rs). The program is
+average, the commit that the program is built from, and what four threads gain that only make passes over numbers (processors.rs). The program is
 then to be 2.5 times as fast on each auction, on four idle processors.
 """
 import hashlib
@@ -135,7 +135,7 @@ def only_workers(program, folder):
     spin = folder / "processors"
     subprocess.run(["rustc", "-O", "--edition", "2021", "-o", str(spin), str(HERE / "processors.rs")], check=True)
     ceiling = subprocess.run([spin], capture_output=True, text=True, check=True).stdout.strip()
-    print(f"four threads of arithmetic alone: {ceiling} times what one does")
+    print(f"four threads that only make passes over numbers: {ceiling} times what one does")
     print(f"{'auction':34} {'1 worker ms':>11} {'4 workers ms':>12} {'faster':>6} {'load':>6}")
     for title, supply, tables in rows():
         (folder / "auction.toml").write_text(auction_file(supply))
