@@ -1,7 +1,6 @@
 -- The first triple by places is the first by bundles.
-use Rattle.std.proofs.Common.{◌≡◌, ◌<◌, ℕ, List, length, sym, subst, ap, arith}
+use Rattle.std.proofs.Common.{ℕ, List, subst, arith}
 use Rattle.std.specs.Prelude.{ℤ}
-use Rattle.lot_base.specs.Goods.{AtMost, box_size}
 use Rattle.lot_base.specs.Box.{index_of, bundle_at}
 use Rattle.lot_base.proofs.Index.{bundle_at-within, bundle_at-index_of, index_of-bundle_at, index_of-small}
 use Rattle.exchange_check.specs.Exchange.{IsExchanged, IsFirstBroken}

@@ -5,7 +5,7 @@ ghost use Rattle.exchange_check.specs.Verdicts.{IsRight};
 use crate::local_test::is_strong;
 use crate::scan::first_broken;
 use lot_base::{Bundle, Goods};
-use valuation::{Valuation, supply_of};
+use valuation::Valuation;
 
 /// What the exchange check finds.
 #[derive(Clone, Copy, Debug)]
@@ -21,8 +21,8 @@ pub enum Verdict {
 pub fn check(goods: &Goods, valuation: &Valuation) -> Verdict
     ensures { IsRight goods.now (valuation_of goods.now valuation.now) result }
 {
-    let units = supply_of(goods);
-    let supply = units.as_slice();
+    let _count = goods.count();
+    let supply = goods.as_slice();
     let values = valuation.as_slice();
     if is_strong(supply, goods.box_size() as usize, values) {
         return Verdict::Holds;

@@ -1,5 +1,5 @@
 -- Columns of units, and for how many steps the best bundles stay the same.
-use Rattle.std.proofs.Common.{◌≡◌, ◌<◌, ◌≤◌, ℕ, zero, suc, ◌+◌, ◌-◌, ◌*◌, ◌/◌, ◌%◌, nat_eq, cond, List, [], ◌∷◌, length, slice_index, inl, inr, arith, ap, sym, ◌∙◌, subst, mul-le-mul_left}
+use Rattle.std.proofs.Common.{◌≡◌, ◌<◌, ◌≤◌, ℕ, zero, suc, ◌+◌, ◌-◌, ◌*◌, ◌/◌, ◌%◌, nat_eq, cond, List, [], ◌∷◌, length, slice_index, inl, inr, arith, ap, subst, mul-le-mul_left}
 use Rattle.std.proofs.lemmas.Bool.{cases_lt}
 use Rattle.std.proofs.Math.Nat.{mul-div-le}
 use Rattle.lot_base.specs.Goods.{quantity_in, box_size, AtMost}

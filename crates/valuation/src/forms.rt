@@ -8,7 +8,7 @@ ghost use Rattle.valuation.specs.Capping.{IsBestLess, AreBefore};
 
 use crate::costs::costs_at;
 use crate::faults::ValuesFault;
-use crate::layout::{strides, supply_of};
+use crate::layout::strides;
 use lot_base::Goods;
 use std::alloc::{AllocError, Global};
 
@@ -62,8 +62,8 @@ pub(crate) fn marginal_values(
     requires { length entries.now ≡ total goods.now }
     ensures { IfOk result (λ v. v.items ≡ map (marginal_value goods.now entries.now) (box goods.now)) }
 {
-    let units = supply_of(goods);
-    let supply = units.as_slice();
+    let _count = goods.count();
+    let supply = goods.as_slice();
     let mut values = Vec::with_capacity(alloc, goods.box_size() as usize)?;
     for index in 0..goods.box_size() {
         let x = goods.bundle(index);
@@ -118,8 +118,8 @@ pub(crate) fn capped_values(
     ensures { GivesIfRoom (λ v. v.items) result (Ok (map (capped_value values.now cap) (box goods.now))) }
 {
     let costs = costs_at(alloc, goods, values)?;
-    let units = supply_of(goods);
-    let steps = strides(units.as_slice());
+    let _count = goods.count();
+    let steps = strides(goods.as_slice());
     let mut worth = Vec::with_capacity(alloc, costs.len())?;
     for index in 0..goods.box_size() {
         let x = goods.bundle(index);

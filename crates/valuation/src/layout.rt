@@ -1,21 +1,7 @@
 //! How the bundles of a box stand in a list.
-ghost use Rattle.std.specs.Prelude.{◌≡◌, ◌<◌, ◌≤◌, ◌^◌, length};
-ghost use Rattle.lot_base.specs.Goods.{box_size, IsSupply};
+ghost use Rattle.std.specs.Prelude.{◌<◌, ◌≤◌, ◌^◌, length};
+ghost use Rattle.lot_base.specs.Goods.{box_size};
 ghost use Rattle.valuation.specs.Strides.{AreStrides};
-
-use lot_base::{Bundle, Goods};
-
-/// The bundle of all units.
-pub fn supply_of(goods: &Goods) -> Bundle
-    ensures value { result ≡ goods.now }
-    ensures supply { IsSupply goods.now }
-{
-    let mut units = [0u16; 6];
-    for good in 0..goods.count() {
-        units[good as usize] = goods.supply(good);
-    }
-    Bundle::read(&units[..goods.count() as usize]).unwrap()
-}
 
 /// How far apart a bundle and the one with a unit more of a good stand, for each good.
 pub fn strides(supply: &[u16]) -> [usize; 6]

@@ -15,7 +15,7 @@ pub mod values;
 
 pub use columns::{Column, column_of};
 pub use faults::{ValueKey, ValuesFault};
-pub use layout::{strides, supply_of};
+pub use layout::strides;
 pub use reader::{MOST_BYTES, read};
 pub use surpluses::Surplus;
 pub use toml_tree::KeyText;

@@ -11,7 +11,6 @@ ghost use Rattle.valuation.specs.Seen.{GivesIfRoom};
 use crate::document::{array_at, known_keys, string_at, table_of};
 use crate::faults::{ValueKey, ValuesFault};
 use crate::forms::{capped_values, marginal_values, unit_values};
-use crate::layout::supply_of;
 use crate::numbers::{cap_at, lists_at, values_at};
 use crate::values::Valuation;
 use lot_base::{Goods, Terms};
@@ -80,8 +79,8 @@ fn marginal_form(
     ensures { GivesIfRoom (λ v. v.items) result (marginal_form bidder limit goods.now (table_view table.now)) }
 {
     known_keys(alloc, table, &["form", "lists"])?;
-    let units = supply_of(goods);
-    let entries = lists_at(alloc, bidder, limit, units.as_slice(), table)?;
+    let _count = goods.count();
+    let entries = lists_at(alloc, bidder, limit, goods.as_slice(), table)?;
     Ok(marginal_values(alloc, goods, &entries)?)
 }
 

@@ -1,4 +1,4 @@
-use Rattle.std.proofs.Common.{ℕ, List, sym, subst, ◌∙◌}
+use Rattle.std.proofs.Common.{ℕ, List, sym, subst}
 use Rattle.lot_base.specs.Box.{bundle_at}
 use Rattle.valuation.specs.Values.{valuation_of}
 use Rattle.exchange_check.specs.Exchange.{IsFirstBroken}
@@ -13,7 +13,7 @@ returns-in-Some c =
     let t = c.in-Some.triple in
     let P : List ℕ → Type 0 = λ z. IsFirstPlace z (valuation_of z c.as_slice-values.result.now) t.x t.y t.good in
     let Q : List ℕ → Type 0 = λ z. IsFirstPlace s (valuation_of s z) t.x t.y t.good in
-    let supply = c.as_slice-supply.ensures.value ∙ c.supply_of-units.ensures.value in
+    let supply = c.as_slice-supply.ensures in
     let found = subst Q c.as_slice-values.ensures.value (subst P supply (c.in-Some.ensures.some)) in
     let B : List ℕ → Type 0 = λ x. IsFirstBroken s (valuation_of s v) x (bundle_at s t.y) t.good in
     let C : List ℕ → Type 0 = λ y. IsFirstBroken s (valuation_of s v) c.bundle.result y t.good in

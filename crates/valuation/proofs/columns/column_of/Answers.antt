@@ -1,5 +1,5 @@
-use Rattle.std.proofs.Common.{◌∙◌, ap, subst, arith, ◌≤◌, ℕ, List}
-use Rattle.lot_base.specs.Goods.{box_size, quantity_in}
+use Rattle.std.proofs.Common.{◌∙◌, ap, arith}
+use Rattle.lot_base.specs.Goods.{quantity_in}
 use Rattle.lot_base.specs.Box.{bundle_at}
 use Rattle.lot_base.proofs.Index.{bundle_at-within}
 use Rattle.valuation.proofs.Steady.{quantity-few, column_is}

@@ -12,7 +12,7 @@ pub capped_at-value-requires-clause-before : goal.capped_at-value-requires-claus
 capped_at-value-requires-clause-before c =
     let s = c.args.goods.now in
     let P : List ℕ → Type 0 = λ z. AreStrides z c.strides-steps.result in
-    let strides = subst P (c.as_slice.ensures.value ∙ c.supply_of-units.ensures.value) c.strides-steps.ensures in
+    let strides = subst P c.as_slice.ensures c.strides-steps.ensures in
     before-steps s c.strides-steps.result c.as_slice-in-loop-index.result.now c.loop-index.index (c.as_slice-in-loop-index.ensures.value ∙ c.bundle-x.ensures.digits)
     (let b = c.box_size-index-end.ensures in let t = c.loop-index-test.true in omega (arith, b, t)) strides
 
@@ -28,7 +28,7 @@ loop-index-preserved c =
     let i = c.loop-index.index in
     let inside : i < box_size s = (let b = c.box_size-index-end.ensures in let t = c.loop-index-test.true in omega (arith, b, t)) in
     let P : List ℕ → Type 0 = λ z. AreStrides z c.strides-steps.result in
-    let strides = subst P (c.as_slice.ensures.value ∙ c.supply_of-units.ensures.value) c.strides-steps.ensures in
+    let strides = subst P c.as_slice.ensures c.strides-steps.ensures in
     let Q : List ℕ → Type 0 = λ z. AreCosts s v z in
     let priced = subst Q (sym c.deref.ensures.value) c.in_ok-costs.ensures in
     let is = capped-next s c.strides-steps.result v c.deref.result.now c.deref-in-loop-index.result.now c.as_slice-in-loop-index.result.now i c.args.cap c.capped_at-value.result

@@ -8,7 +8,7 @@ loop-index-preserved c =
     let entries = c.args.entries.now in
     map-next (marginal_value c.args.goods.now entries) c.args.goods.now c.loop-index.index c.marginal_value.result c.loop-index.values.items c.push.new.self.items c.bundle-x.result c.bundle-x.ensures.place
     (c.marginal_value.ensures
-    ∙ ap (λ s. marginal_value s entries c.as_slice.result.now) (c.as_slice-supply.ensures.value ∙ c.supply_of-units.ensures.value)
+    ∙ ap (λ s. marginal_value s entries c.as_slice.result.now) c.as_slice-supply.ensures
     ∙ ap (marginal_value c.args.goods.now entries) c.as_slice.ensures.value)
     c.loop-index.invariant c.in_ok-push.ensures.items
 
