@@ -1,11 +1,9 @@
 -- Clocks that several workers ran, put together.
-use Rattle.std.proofs.Common.{◌≡◌, ◌≢◌, ◌<◌, ◌≤◌, ◌⊎◌, inl, inr, ℕ, zero, suc, ◌+◌, ◌%◌, List, [], ◌∷◌, ◌++◌, length, map, get_or, set, Option, Some, None, is_some, true, false, refl, sym, ◌∙◌, ap, arith, subst}
+use Rattle.std.proofs.Common.{◌≡◌, ◌<◌, ◌≤◌, ℕ, zero, suc, ◌+◌, ◌*◌, ◌/◌, List, [], ◌∷◌, ◌++◌, length, map, get_or, Option, Some, None, refl, sym, ◌∙◌, ap, arith, subst}
 use Rattle.std.specs.Prelude.{slice_get, IfSome, IfOk, Result, Ok, ℤ}
 use Rattle.std.specs.List.{AllByRecursion, AllZip, range_with_len}
-use Rattle.std.proofs.Math.Seq.{get_or-append_seam}
-use Rattle.std.proofs.Math.ListN.{get_or-append}
-use Rattle.std.proofs.Math.Nat.{eq-or-lt_of_le}
-use Rattle.std.proofs.lemmas.List.{get_or-set_same, get_or-set_other, length-append, length-set}
+use Rattle.std.proofs.Math.Nat.{div-le_of_le-mul, div-mul-le_self, le-div_iff_mul-le, mul-add, mul-div_cancel, mul-le-mul, mul_comm, le_refl, zero-div}
+use Rattle.std.proofs.lemmas.List.{length-append}
 use Rattle.lot_base.specs.declared.auction_terms.Terms.{Terms}
 use Rattle.clock.specs.Reports.{ClockHistory, ClockOf, histories}
 use Rattle.settlement.specs.Found.{IsFoundOf}
@@ -15,78 +13,43 @@ use Rattle.settlement.proofs.Zips.{zip-push}
 use Rattle.trial.specs.Trials.{IsTrialHistory, IsTrial}
 use Rattle.trial.specs.Rounds.{IsTrialOf}
 use Rattle.trial.specs.declared.workers.Told.{Told}
-use Rattle.trial.specs.Workers.{IsToldOf, HasClock, slot_at, AreFilled, AreOfWorker, laid_over, AreLaidOver}
+use Rattle.trial.specs.Workers.{IsToldOf, AreToldFrom, AreToldUpTo, share_start}
 use Rattle.trial.proofs.Finding.{all-both}
 
--- one place more
-pub worker-next : (terms : Terms) (u : ℕ → List ℕ → ℤ) (workers worker count : ℕ) (slots next : List (Option Told)) (slot : Option Told) → AreOfWorker terms u workers worker count slots → next ≡ slots ++ slot ∷ []
-    → (count % workers ≡ worker → HasClock terms u count slot) → (count % workers ≢ worker → slot ≡ None) → AreOfWorker terms u workers worker (count + 1) next
-worker-next terms u workers worker count slots next slot of is own other =
-    let long : length next ≡ count + 1 = (let e = ap length is in let f = length-append slots (slot ∷ []) in let g = of.places in omega arith) in
-    let before : (n : ℕ) → n < count → slot_at slots n ≡ slot_at next n = λ n below. sym (ap (λ xs. get_or xs n None) is ∙ get_or-append slots (slot ∷ []) None n (let g = of.places in omega arith)) in
-    let here : slot ≡ slot_at next count = sym (ap (λ xs. get_or xs count None) is ∙ ap (λ i. get_or (slots ++ slot ∷ []) i None) (sym of.places) ∙ get_or-append_seam slots slot [] None) in
-    record {
-      places = long;
-      ran = λ n below mine. ran n below mine before here;
-      others = λ n below mine. others n below mine before here;
-    }
-  where
-    ran : (n : ℕ) → n < count + 1 → n % workers ≡ worker → ((n : ℕ) → n < count → slot_at slots n ≡ slot_at next n) → slot ≡ slot_at next count → HasClock terms u n (slot_at next n)
-    ran n below mine before here = by (eq-or-lt_of_le (let l : n ≤ count = omega arith in l))
-      where
-        by : (n ≡ count) ⊎ (n < count) → HasClock terms u n (slot_at next n)
-        by (inl same) =
-            let N : ℕ → Type 0 = λ m. HasClock terms u m (slot_at next m) in
-            subst N (sym same) (subst (HasClock terms u count) here (own (ap (λ m. m % workers) (sym same) ∙ mine)))
-        by (inr less) = subst (HasClock terms u n) (before n less) (of.ran n less mine)
+-- the shares begin with clock 0, rise, and end behind the last clock
+pub first-start : (clocks workers : ℕ) → share_start clocks workers 0 ≡ 0
+first-start clocks workers = ap (λ n. n / workers) (let e : clocks * 0 ≡ 0 = omega arith in e) ∙ zero-div workers
 
-    others : (n : ℕ) → n < count + 1 → n % workers ≢ worker → ((n : ℕ) → n < count → slot_at slots n ≡ slot_at next n) → slot ≡ slot_at next count → slot_at next n ≡ None
-    others n below mine before here = by (eq-or-lt_of_le (let l : n ≤ count = omega arith in l))
-      where
-        by : (n ≡ count) ⊎ (n < count) → slot_at next n ≡ None
-        by (inl same) = ap (slot_at next) same ∙ sym here ∙ other (λ e. mine (ap (λ m. m % workers) same ∙ e))
-        by (inr less) = sym (before n less) ∙ of.others n less mine
+pub last-start : (clocks workers : ℕ) → 1 ≤ workers → share_start clocks workers workers ≡ clocks
+last-start clocks workers some = mul-div_cancel clocks some
 
--- places over which so many of a part were laid
-pub record IsLaying (part old now : List (Option Told)) (count : ℕ) : Type 0 where
-  pub places : length now ≡ length old
-  pub done : (n : ℕ) → n < count → n < length old → slot_at now n ≡ laid_over (slot_at part n) (slot_at old n)
-  pub rest : (n : ℕ) → count ≤ n → slot_at now n ≡ slot_at old n
+pub start-rises : (clocks workers worker : ℕ) → 1 ≤ workers → share_start clocks workers worker ≤ share_start clocks workers (worker + 1)
+start-rises clocks workers worker some =
+    let whole = div-mul-le_self (clocks * worker) workers in
+    let more : clocks * worker ≤ clocks * (worker + 1) = (let e = mul-add clocks worker 1 in omega arith) in
+    (le-div_iff_mul-le some).1 (omega arith)
 
-pub laying-first : (part old : List (Option Told)) → IsLaying part old old 0
-laying-first part old = record { places = refl; done = λ n below in_old. absurd (omega arith); rest = λ n above. refl }
+pub start-within : (clocks workers worker : ℕ) → worker ≤ workers → share_start clocks workers worker ≤ clocks
+start-within clocks workers worker most =
+    let below : clocks * worker ≤ workers * clocks = (let e = mul-le-mul (le_refl clocks) most in let f = mul_comm clocks workers in omega arith) in
+    div-le_of_le-mul workers below
 
-laying-by : (part old now next : List (Option Told)) (count : ℕ) → IsLaying part old now count → length next ≡ length now → slot_at next count ≡ laid_over (slot_at part count) (slot_at old count)
-    → ((n : ℕ) → n ≢ count → slot_at next n ≡ slot_at now n) → IsLaying part old next (count + 1)
-laying-by part old now next count laying places here others = record {
-  places = places ∙ laying.places;
-  done = λ n below in_old. by n in_old (eq-or-lt_of_le (let l : n ≤ count = omega arith in l));
-  rest = λ n above. others n (λ same. omega arith) ∙ laying.rest n (omega arith);
+-- clocks behind others
+pub told-both : (terms : Terms) (u : ℕ → List ℕ → ℤ) (from to end : ℕ) (front back : List Told) → AreToldUpTo terms u from to front → AreToldUpTo terms u to end back → AreToldUpTo terms u from end (front ++ back)
+told-both terms u from to end front back these those = record {
+  count = (let l = length-append front back in let p = these.count in let q = those.count in omega arith);
+  each = behind from front these.each (subst (λ n. AreToldFrom terms u n back) (sym these.count) those.each);
 }
   where
-    by : (n : ℕ) → n < length old → (n ≡ count) ⊎ (n < count) → slot_at next n ≡ laid_over (slot_at part n) (slot_at old n)
-    by n in_old (inl same) = ap (slot_at next) same ∙ here ∙ (λ i. laid_over (slot_at part (sym same i)) (slot_at old (sym same i)))
-    by n in_old (inr less) = others n (λ same. omega arith) ∙ laying.done n less in_old
+    behind : (from : ℕ) (front : List Told) → AreToldFrom terms u from front → AreToldFrom terms u (from + length front) back → AreToldFrom terms u from (front ++ back)
+    behind from [] each rest = subst (λ n. AreToldFrom terms u n back) (let e : from + 0 ≡ from = omega arith in e) rest
+    behind from (t ∷ front) each rest =
+        (each.0, behind (from + 1) front each.1 (subst (λ n. AreToldFrom terms u n back) (let e : from + suc (length front) ≡ from + 1 + length front = omega arith in e) rest))
 
-pub laying-some : (part old now next : List (Option Told)) (count : ℕ) (slot : Option Told) → IsLaying part old now count → is_some slot ≡ true → slot_at part count ≡ slot → count < length now
-    → next ≡ set now count slot → IsLaying part old next (count + 1)
-laying-some part old now next count None laying some there below is = absurd (let e : false ≡ true = some in cc)
-laying-some part old now next count (Some c) laying some there below is =
-    laying-by part old now next count laying (ap length is ∙ length-set now count (Some c))
-    (ap (λ xs. get_or xs count None) is ∙ get_or-set_same now count (Some c) None below ∙ ap (λ o. laid_over o (slot_at old count)) (sym there))
-    (λ n other. ap (λ xs. get_or xs n None) is ∙ get_or-set_other now count n (Some c) None other)
-
-pub laying-none : (part old now next : List (Option Told)) (count : ℕ) (slot : Option Told) → IsLaying part old now count → is_some slot ≡ false → slot_at part count ≡ slot → next ≡ now → IsLaying part old next (count + 1)
-laying-none part old now next count (Some c) laying none there is = absurd (let e : true ≡ false = none in cc)
-laying-none part old now next count None laying none there is =
-    laying-by part old now next count laying (ap length is) (ap (λ xs. get_or xs count None) is ∙ laying.rest count (omega arith) ∙ ap (λ o. laid_over o (slot_at old count)) (sym there)) (λ n other. ap (λ xs. get_or xs n None) is)
-
-pub laid-over : (part old now : List (Option Told)) (count : ℕ) → IsLaying part old now count → length old ≤ count → AreLaidOver part old now
-laid-over part old now count laying all = record { places = laying.places; each = λ n below. laying.done n (omega arith) below }
-
--- what stands at a place of a list that goes on behind some front
-pub there : {X : Type 0} (front rest all : List X) (x d : X) (count : ℕ) → front ++ x ∷ rest ≡ all → count ≡ length front → get_or all count d ≡ x
-there front rest all x d count is e = ap (λ xs. get_or xs count d) (sym is) ∙ ap (λ i. get_or (front ++ x ∷ rest) i d) e ∙ get_or-append_seam front x rest d
+-- one clock more
+pub told-next : (terms : Terms) (u : ℕ → List ℕ → ℤ) (from to : ℕ) (told next : List Told) (t : Told) → AreToldUpTo terms u from to told → IsToldOf terms u to t → next ≡ told ++ t ∷ [] → AreToldUpTo terms u from (to + 1) next
+told-next terms u from to told next t before one is =
+    subst (AreToldUpTo terms u from (to + 1)) (sym is) (told-both terms u from to (to + 1) told (t ∷ []) before (record { count = refl; each = (one, tt) }))
 
 pub got : {X : Type 0} (front rest all : List X) (x : X) → front ++ x ∷ rest ≡ all → slice_get all (length front) ≡ Some x
 got {X = X} front rest all x is = ap (λ xs. slice_get xs (length front)) (sym is) ∙ at-seam front
@@ -94,26 +57,6 @@ got {X = X} front rest all x is = ap (λ xs. slice_get xs (length front)) (sym i
     at-seam : (front : List X) → slice_get (front ++ x ∷ rest) (length front) ≡ Some x
     at-seam [] = refl
     at-seam (y ∷ front) = at-seam front
-
--- one worker's clocks more
-pub filled-next : (terms : Terms) (u : ℕ → List ℕ → ℤ) (workers before : ℕ) (part old now : List (Option Told)) → AreFilled terms u workers before old → AreOfWorker terms u workers before (terms.bidders + 1) part → AreLaidOver part old now
-    → AreFilled terms u workers (before + 1) now
-filled-next terms u workers before part old now filled of over = record {
-  places = over.places ∙ filled.places;
-  ran = λ n low mine.
-      let inside : n < length old = (let p = filled.places in omega arith) in
-      subst (HasClock terms u n) (sym (over.each n inside)) (by n low (eq-or-lt_of_le (let l : n % workers ≤ before = omega arith in l)));
-}
-  where
-    kept : (n : ℕ) (new old : Option Told) → HasClock terms u n new → HasClock terms u n (laid_over new old)
-    kept n None old has = absurd has
-    kept n (Some c) old has = has
-
-    by : (n : ℕ) → n ≤ terms.bidders → (n % workers ≡ before) ⊎ (n % workers < before) → HasClock terms u n (laid_over (slot_at part n) (slot_at old n))
-    by n low (inl same) = kept n (slot_at part n) (slot_at old n) (of.ran n (omega arith) same)
-    by n low (inr less) =
-        let none = of.others n (omega arith) (λ same. omega arith) in
-        subst (HasClock terms u n) (sym (ap (λ o. laid_over o (slot_at old n)) none)) (filled.ran n low less)
 
 -- the first so many clocks of a trial
 pub record AreInOrder (terms : Terms) (u : ℕ → List ℕ → ℤ) (count : ℕ) (clocks : List ClockHistory) : Type 0 where
@@ -155,13 +98,6 @@ rows-next clocks next rows more c row all found is more-is =
     let Y : List ClockHistory → Type 0 = λ hs. AllZip IsFoundOf hs more in
     let Z : List (Option ClockRow) → Type 0 = λ rs. AllZip IsFoundOf (histories clocks ++ c.history ∷ []) rs in
     subst Y (sym (ap histories is ∙ histories-push clocks c)) (subst Z (sym more-is) (zip-push IsFoundOf (histories clocks) rows c.history row all found))
-
--- the clock at a place that has its clock
-pub told-at : (terms : Terms) (u : ℕ → List ℕ → ℤ) (number : ℕ) (slot : Option Told) (t : Told) → HasClock terms u number slot → slot ≡ Some t → IsToldOf terms u number t
-told-at terms u number slot t has is = subst (HasClock terms u number) is has
-
-pub not-empty : (terms : Terms) (u : ℕ → List ℕ → ℤ) (number : ℕ) (slot : Option Told) → HasClock terms u number slot → slot ≡ None → ⊥
-not-empty terms u number slot has is = subst (HasClock terms u number) is has
 
 -- a part of which something is known
 pub from-part : {S E : Type 0} (P : S → Type 0) (o : Option (Result S E)) (r : Result S E) (v : S) → IfSome o (λ part. IfOk part P) → o ≡ Some r → r ≡ Ok v → P v

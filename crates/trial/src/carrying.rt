@@ -27,10 +27,7 @@ pub(crate) fn surpluses_at(
     let mut surpluses = Vec::new(alloc);
     for place in 0..valuations.len() {
         match Surplus::new(alloc, &terms.goods, &valuations[place], prices) {
-            Ok(surplus) => match surpluses.push(surplus) {
-                Ok(()) => {}
-                Err(_) => return Err(NoMemory),
-            },
+            Ok(surplus) => surpluses.push(surplus)?,
             Err(NoMemory) => return Err(NoMemory),
         }
     }
@@ -43,13 +40,8 @@ pub(crate) fn columns_of(alloc: Global, goods: &Goods) -> Result<Vec<Column>, No
 {
     let mut columns = Vec::new(alloc);
     for set in 0..goods.set_count() {
-        match column_of(alloc, goods, GoodSet(set)) {
-            Ok(column) => match columns.push(column) {
-                Ok(()) => {}
-                Err(_) => return Err(NoMemory),
-            },
-            Err(NoMemory) => return Err(NoMemory),
-        }
+        let column = column_of(alloc, goods, GoodSet(set))?;
+        columns.push(column)?;
     }
     Ok(columns)
 }

@@ -1,12 +1,12 @@
 //! The clocks of a trial and their rows, shared among workers.
-ghost use Rattle.std.specs.Prelude.{◌≡◌, ◌≤◌, ◌<◌, ◌+◌, ◌%◌, ◌≢◌, ℕ, length, slice_get, IfOk, IfSome, None};
+ghost use Rattle.std.specs.Prelude.{◌≡◌, ◌≤◌, ◌<◌, ◌+◌, ◌^◌, ℕ, length, slice_get, IfOk, IfSome};
 ghost use Rattle.std.specs.List.{AllZip};
 ghost use Rattle.clock.specs.Reports.{histories};
 ghost use Rattle.settlement.specs.Found.{IsFoundOf};
 ghost use Rattle.trial.specs.Bidding.{bidders_of};
 ghost use Rattle.trial.specs.Rounds.{AreColumns};
 ghost use Rattle.trial.specs.Trials.{IsTrial};
-ghost use Rattle.trial.specs.Workers.{HasClock, AreOfWorker, AreLaidOver, slot_at};
+ghost use Rattle.trial.specs.Workers.{AreOfWorker, AreToldUpTo, IsToldOf, share_start};
 
 use crate::carrying::columns_of;
 use crate::rounds::run_clock;
@@ -36,8 +36,8 @@ pub(crate) struct Run {
     pub rows: Vec<Option<ClockRow>>,
 }
 
-/// All clocks of a trial, in the order of their numbers, run by so many workers, each of which finds the rows of its clocks. Where no
-/// thread can be made the workers run one after another.
+/// All clocks of a trial, in the order of their numbers, run by so many workers, but no more than there are clocks. Each finds the rows of
+/// its clocks. Where no thread can be made the workers run one after another.
 pub(crate) fn run_clocks<T: Threads + Sync>(
     rt: &T,
     alloc: Global,
@@ -50,7 +50,7 @@ pub(crate) fn run_clocks<T: Threads + Sync>(
     ensures trial { IfOk result (λ run. IsTrial terms.now (bidders_of terms.now.goods valuations.now) (histories run.clocks.items)) }
     ensures rows { IfOk result (λ run. AllZip IsFoundOf (histories run.clocks.items) run.rows.items) }
 {
-    let workers = workers as usize;
+    let workers = (workers as usize).min(terms.bidders as usize + 1);
     match thread::map_indices(
         rt,
         alloc,
@@ -62,62 +62,57 @@ pub(crate) fn run_clocks<T: Threads + Sync>(
     }
 }
 
-/// The clocks that a worker runs, each at the place of its number.
+/// The number of a worker's first clock. Behind the last worker it is the number of clocks.
+fn share_start(clocks: usize, workers: usize, worker: usize) -> usize
+    requires clocks { clocks < 2 ^ 16 }
+    requires worker { worker < 2 ^ 32 }
+    requires workers { 1 ≤ workers }
+    ensures { result ≡ share_start clocks workers worker }
+{
+    clocks * worker / workers
+}
+
+/// The clocks that a worker runs, in the order of their numbers. Worker 0, who has the clock of all bidders, has no more clocks than another.
 fn run_share(
     alloc: Global,
     terms: &Terms,
     valuations: &[Valuation],
     workers: usize,
     worker: usize,
-) -> Result<Vec<Option<Told>>, NoMemory>
+) -> Result<Vec<Told>, NoMemory>
     requires count { length valuations.now ≡ terms.now.bidders }
-    requires workers { 1 ≤ workers }
-    ensures { IfOk result (λ slots. AreOfWorker terms.now (bidders_of terms.now.goods valuations.now) workers worker (terms.now.bidders + 1) slots.items) }
+    requires workers { worker < workers }
+    requires few { workers < 2 ^ 32 }
+    ensures { IfOk result (λ told. AreOfWorker terms.now (bidders_of terms.now.goods valuations.now) workers worker told.items) }
 {
-    let columns = match columns_of(alloc, &terms.goods) {
-        Ok(columns) => columns,
-        Err(NoMemory) => return Err(NoMemory),
-    };
-    let mut slots = Vec::new(alloc);
-    for number in 0..terms.bidders + 1 {
-        match run_own(alloc, terms, valuations, &columns, workers, worker, number) {
-            Ok(slot) => match slots.push(slot) {
-                Ok(()) => {}
-                Err(_) => return Err(NoMemory),
-            },
-            Err(NoMemory) => return Err(NoMemory),
-        }
+    let columns = columns_of(alloc, &terms.goods)?;
+    let clocks = terms.bidders as usize + 1;
+    let first = share_start(clocks, workers, worker);
+    let end = share_start(clocks, workers, worker + 1);
+    let mut told = Vec::new(alloc);
+    for number in first..end {
+        let one = run_told(alloc, terms, valuations, &columns, number as u8)?;
+        told.push(one)?;
     }
-    Ok(slots)
+    Ok(told)
 }
 
-/// The clock of this number and its row, if it is one of the worker's.
-fn run_own(
+/// The clock of this number and its row.
+fn run_told(
     alloc: Global,
     terms: &Terms,
     valuations: &[Valuation],
     columns: &[Column],
-    workers: usize,
-    worker: usize,
     number: u8,
-) -> Result<Option<Told>, NoMemory>
+) -> Result<Told, NoMemory>
     requires columns { AreColumns terms.now.goods columns.now }
     requires count { length valuations.now ≡ terms.now.bidders }
-    requires workers { 1 ≤ workers }
     requires number { number ≤ terms.now.bidders }
-    ensures own { IfOk result (λ slot. number % workers ≡ worker → HasClock terms.now (bidders_of terms.now.goods valuations.now) number slot) }
-    ensures other { IfOk result (λ slot. number % workers ≢ worker → slot ≡ None) }
+    ensures { IfOk result (λ told. IsToldOf terms.now (bidders_of terms.now.goods valuations.now) number told) }
 {
-    if number as usize % workers != worker {
-        return Ok(None);
-    }
-    match run_clock(alloc, terms, valuations, columns, number) {
-        Ok(clock) => match row_of(alloc, terms, &clock) {
-            Ok(row) => Ok(Some(Told { clock, row })),
-            Err(NoMemory) => Err(NoMemory),
-        },
-        Err(NoMemory) => Err(NoMemory),
-    }
+    let clock = run_clock(alloc, terms, valuations, columns, number)?;
+    let row = row_of(alloc, terms, &clock)?;
+    Ok(Told { clock, row })
 }
 
 /// The clocks of all workers, in the order of their numbers.
@@ -126,79 +121,41 @@ fn put_together(
     terms: &Terms,
     valuations: &[Valuation],
     workers: usize,
-    parts: Vec<Result<Vec<Option<Told>>, NoMemory>>,
+    parts: Vec<Result<Vec<Told>, NoMemory>>,
 ) -> Result<Run, NoMemory>
     requires workers { 1 ≤ workers }
     requires count { length parts.items ≡ workers }
-    requires parts { (worker : ℕ) → IfSome (slice_get parts.items worker) (λ part. IfOk part (λ slots. AreOfWorker terms.now (bidders_of terms.now.goods valuations.now) workers worker (terms.now.bidders + 1) slots.items)) }
+    requires parts { (worker : ℕ) → IfSome (slice_get parts.items worker) (λ part. IfOk part (λ told. AreOfWorker terms.now (bidders_of terms.now.goods valuations.now) workers worker told.items)) }
     ensures trial { IfOk result (λ run. IsTrial terms.now (bidders_of terms.now.goods valuations.now) (histories run.clocks.items)) }
     ensures rows { IfOk result (λ run. AllZip IsFoundOf (histories run.clocks.items) run.rows.items) }
 {
-    let mut slots = match empty_slots(alloc, terms.bidders) {
-        Ok(slots) => slots,
-        Err(NoMemory) => return Err(NoMemory),
-    };
+    let mut all = Vec::new(alloc);
     for part in parts {
         match part {
-            Ok(part) => lay_over(&mut slots, part),
+            Ok(mut told) => all.append(&mut told)?,
             Err(NoMemory) => return Err(NoMemory),
         }
     }
-    in_order(alloc, terms, valuations, slots)
+    in_order(alloc, terms, valuations, all)
 }
 
-/// An empty place for each clock.
-fn empty_slots(alloc: Global, bidders: u8) -> Result<Vec<Option<Told>>, NoMemory>
-    ensures { IfOk result (λ slots. length slots.items ≡ bidders + 1) }
-{
-    let mut slots = Vec::new(alloc);
-    for number in 0..u32::from(bidders) + 1 {
-        match slots.push(None) {
-            Ok(()) => {}
-            Err(_) => return Err(NoMemory),
-        }
-    }
-    Ok(slots)
-}
-
-/// Puts each clock of a part at its place.
-fn lay_over(slots: &mut Vec<Option<Told>>, part: Vec<Option<Told>>)
-    requires { length part.items ≡ length slots.old.items }
-    ensures { AreLaidOver part.items slots.old.items slots.new.items }
-{
-    let mut number = 0;
-    for slot in part {
-        if slot.is_some() {
-            slots[number] = slot;
-        }
-        number += 1;
-    }
-}
-
-/// The clocks of places that all have theirs, and their rows.
+/// The clocks of a trial and their rows, each by itself.
 fn in_order(
     alloc: Global,
     terms: &Terms,
     valuations: &[Valuation],
-    slots: Vec<Option<Told>>,
+    all: Vec<Told>,
 ) -> Result<Run, NoMemory>
-    requires count { length slots.items ≡ terms.now.bidders + 1 }
-    requires full { (number : ℕ) → number ≤ terms.now.bidders → HasClock terms.now (bidders_of terms.now.goods valuations.now) number (slot_at slots.items number) }
+    requires { AreToldUpTo terms.now (bidders_of terms.now.goods valuations.now) 0 (terms.now.bidders + 1) all.items }
     ensures trial { IfOk result (λ run. IsTrial terms.now (bidders_of terms.now.goods valuations.now) (histories run.clocks.items)) }
     ensures rows { IfOk result (λ run. AllZip IsFoundOf (histories run.clocks.items) run.rows.items) }
 {
     let mut clocks = Vec::new(alloc);
     let mut rows = Vec::new(alloc);
-    for slot in slots {
-        let Told { clock, row } = slot.unwrap();
-        match clocks.push(clock) {
-            Ok(()) => {}
-            Err(_) => return Err(NoMemory),
-        }
-        match rows.push(row) {
-            Ok(()) => {}
-            Err(_) => return Err(NoMemory),
-        }
+    for told in all {
+        let Told { clock, row } = told;
+        clocks.push(clock)?;
+        rows.push(row)?;
     }
     Ok(Run { clocks, rows })
 }
