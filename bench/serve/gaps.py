@@ -1,0 +1,99 @@
+#!/usr/bin/env python3
+"""Where the time of a report goes, on one clock: what its two syncs take, and what passes from the last sync of a report to the first write of
+the next.
+
+    gaps.py PROGRAM.. [--runs N] [--seconds N]
+
+Twelve bidders (load.rs) report to one clock of a real house of 13 doors, in turns of the programs. The house runs over syncs.c, which notes when
+each fdatasync begins and ends; cc and rustc have to be there. Printed are the reports a second, the microseconds of a report from its first sync
+to its last and from there to the next report's first sync, in the middle and on the average, and the pairs that one thread alone makes. Of the
+averages those above a millisecond are left out, and told apart: they are spells in which the machine or its disk stood still. Each figure is the
+middle of the runs.
+"""
+import argparse
+import os
+import shutil
+import statistics
+import struct
+import subprocess
+import tempfile
+from pathlib import Path
+
+from load import BIDDERS, write_auction
+from run import HERE, PORT, build, house_words, pairs
+
+NOTE = struct.Struct("=QQII")
+DOORS = 13
+STOOD_STILL = 1_000
+
+
+def notes_of(path):
+    """The syncs of the file that is synced most, in order: begin and end in nanoseconds, and thread."""
+    data = path.read_bytes()
+    count = struct.unpack_from("=Q", data)[0]
+    notes = sorted(NOTE.unpack_from(data, 8 + NOTE.size * place) for place in range(count))
+    journal = statistics.mode(file for _, _, _, file in notes)
+    return [(begin, end, thread) for begin, end, thread, file in notes if file == journal]
+
+
+def reports_of(notes):
+    """Begin and end of each report's two syncs, which one thread makes one after the other."""
+    reports, place = [], 0
+    while place + 1 < len(notes):
+        (begin, _, thread), (_, end, other) = notes[place], notes[place + 1]
+        if thread == other:
+            reports.append((begin, end))
+        place += 2 if thread == other else 1
+    return reports[1:]
+
+
+def shape(micros):
+    """The middle, the average of what is below a millisecond, and how many are above."""
+    short = [value for value in micros if value < STOOD_STILL]
+    return statistics.median(short), statistics.mean(short), len(micros) - len(short)
+
+
+def measure(program, bidder, syncs, folder, seconds):
+    shutil.rmtree(folder, ignore_errors=True)
+    (folder / "journals").mkdir(parents=True)
+    write_auction(folder / "auction.toml")
+    alone = pairs(folder, 1, 1)
+    noted = {**os.environ, "LD_PRELOAD": str(syncs), "SYNCS": str(folder / "notes")}
+    house = subprocess.Popen(house_words(program, DOORS), cwd=folder, stdout=subprocess.DEVNULL, env=noted)
+    bidders = [
+        subprocess.Popen([bidder, str(PORT), str(number), "1", str(seconds), "1", "0"], stdout=subprocess.DEVNULL)
+        for number in range(1, BIDDERS + 1)
+    ]
+    for process in bidders:
+        process.wait()
+    house.kill()
+    house.wait()
+    reports = reports_of(notes_of(folder / "notes"))
+    own = [(end - begin) / 1_000 for begin, end in reports]
+    gaps = [(after - end) / 1_000 for (_, end), (after, _) in zip(reports, reports[1:])]
+    rate = len(reports) / (reports[-1][1] - reports[0][0]) * 1e9
+    return rate, *shape(own), *shape(gaps), alone
+
+
+def main():
+    words = argparse.ArgumentParser()
+    words.add_argument("programs", nargs="+")
+    words.add_argument("--runs", type=int, default=5)
+    words.add_argument("--seconds", type=int, default=2)
+    given = words.parse_args()
+    folder, found = HERE / "scratch", {program: [] for program in given.programs}
+    with tempfile.TemporaryDirectory() as name:
+        bidder, syncs = build(Path(name), "load"), Path(name) / "syncs.so"
+        subprocess.run(["cc", "-O2", "-shared", "-fPIC", "-o", str(syncs), str(HERE / "syncs.c"), "-ldl"], check=True)
+        for _ in range(given.runs):
+            for program in given.programs:
+                found[program].append(measure(str(Path(program).resolve()), bidder, syncs, folder, given.seconds))
+    print("reports/s | its syncs us: middle average still | to the next us: middle average still | pairs alone/s")
+    for program, rows in found.items():
+        rate, *parts, alone = (statistics.median(column) for column in zip(*rows))
+        print(f"{rate:9.0f} | {parts[0]:5.0f} {parts[1]:7.0f} {parts[2]:5.0f} | {parts[3]:5.0f} {parts[4]:7.0f} {parts[5]:5.0f} | {alone:7.0f}  {program}")
+    shutil.rmtree(folder, ignore_errors=True)
+
+
+if __name__ == "__main__":
+    main()
