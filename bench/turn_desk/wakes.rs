@@ -1,7 +1,7 @@
 //! What it costs to wake whose turn is next: threads take turns by ticket. Where all that wait sleep on one word, the end of a turn wakes all of
-//! them; where each sleeps on the bell of its ticket, it wakes one, or that one and the one behind. The desk wakes one behind a turn with entries
-//! and both behind an empty one. Twelve threads make turns of two writes with an fdatasync each, as an append to a journal is, beside one thread
-//! alone; four threads make empty turns. Plain Rust, the middle of nine short spells each, in turns of all rows:
+//! them; where each sleeps on the bell of its ticket, it wakes one, or that one and the one behind. Twelve threads make turns of two writes with
+//! an fdatasync each, as an append to a journal is, beside one thread alone; four threads make empty turns. Plain Rust, the middle of nine short
+//! spells each, in turns of all rows:
 //!
 //!     rustc -O --edition 2021 wakes.rs -o FOLDER/wakes && FOLDER/wakes FILE
 //!

@@ -7,8 +7,8 @@ use std::sync::atomic::{AtomicU32, AtomicU64};
 /// The most tickets that are out at once: a desk has at most so many seats, and a seat holds one ticket at most.
 const BELLS: usize = 64;
 
-/// A bell for each ticket that is out, at its number modulo 64, so that the end of a turn wakes the thread whose turn is next, or the next two,
-/// and no other. No clause speaks of it.
+/// A bell for each ticket that is out, at its number modulo 64, so that the end of a turn wakes the two threads whose turns are next and no
+/// other. No clause speaks of it.
 ///
 /// No ring is lost. A thread asks what it has `heard` before it looks at the number that is served. Who ends a turn changes that number and
 /// rings then. So where a thread saw the number of before, what it heard is of before too, and it does not fall asleep once the bell has rung.
@@ -46,17 +46,9 @@ impl Bells {
         self.sleepers.fetch_sub(1, SeqCst);
     }
 
-    /// Rings the bell of the ticket behind the one that was served, and where the turn was short that of the next one too.
-    pub(crate) fn ring_behind(&self, served: u64, short: bool) {
-        self.ring(served.wrapping_add(1));
-        if short {
-            self.ring(served.wrapping_add(2));
-        }
-    }
-
     /// Rings the bell of the ticket. The kernel is asked to wake a thread only where one sleeps: a thread counts itself before it
     /// sleeps, and the bell has rung before the count is read, so either it is counted here or it does not fall asleep.
-    fn ring(&self, ticket: u64) {
+    pub(crate) fn ring(&self, ticket: u64) {
         let bell = self.of(ticket);
         bell.fetch_add(1, SeqCst);
         if self.sleepers.load(SeqCst) > 0 {

@@ -50,9 +50,8 @@ impl<B: Book> Board<B> {
         0
     }
 
-    /// Puts the book back, makes its last `more` entries the seat's own, passes the turn on, and wakes the thread whose turn is next. Behind a
-    /// turn without entries it wakes the one after that too: turns that are shorter than a wake would else each wait for one. Behind a long turn
-    /// that thread would only wake to sleep again, and take time from the next.
+    /// Puts the book back, makes its last `more` entries the seat's own, passes the turn on, and wakes the thread whose turn is next and the
+    /// one behind it: turns that are shorter than a wake would else each wait for one.
     pub(crate) fn leave(&self, seat: &mut Place<B>, book: B, more: u64)
         requires desk { seat.old.table_id ≡ self.now.table.shared.table_id }
         requires turn { (holding seat.old.me.0.stage ≡ 1) × (unsteady seat.old.me.0.stage ≡ 0) × (seat.old.me.1 ≡ (0, None) ∷ []) }
@@ -69,6 +68,7 @@ impl<B: Book> Board<B> {
             self.append(seat);
         }
         let served = self.pass_on(seat);
-        self.bells.ring_behind(served, more == 0);
+        self.bells.ring(served.wrapping_add(1));
+        self.bells.ring(served.wrapping_add(2));
     }
 }
