@@ -6,7 +6,8 @@ use Rattle.std.proofs.lemmas.Bool.Decides.{leb_tells}
 use Rattle.std.proofs.lemmas.Nat.{mod_below}
 use Rattle.lot_base.specs.Economy.{IsStrongSubstitutes}
 use Rattle.lot_base.specs.declared.auction_terms.Terms.{Terms}
-use Rattle.trial.specs.Checking.{OfWorker, OfAll, IsBroken, IsFirstOf, earlier}
+use Rattle.exchange_check.specs.Exchange.{IsFirstBroken}
+use Rattle.trial.specs.Checking.{OfWorker, OfAll, IsBroken, IsFirstOf, IsFoundAt, earlier}
 use Rattle.trial.specs.Refusals.{IsFirstWithout}
 use Rattle.trial.specs.declared.substitutes.Broken.{Broken}
 
@@ -81,3 +82,16 @@ share-next terms u workers worker place before here j low high own = by (eq-or-l
         let P : ℕ → Type 0 = λ n. IsStrongSubstitutes terms.goods (u n) in
         subst P (sym same) (here (ap (λ n. n % workers) e ∙ own))
     by (inr less) = before j low (omega (arith, less)) own
+
+-- a bidder that was found behind those that were checked
+pub found-first : (terms : Terms) (u : ℕ → List ℕ → ℤ) (own : ℕ → Type 0) (place : ℕ) (b : Broken) → place < terms.bidders → ((j : ℕ) → 1 ≤ j → j ≤ place → own j → IsStrongSubstitutes terms.goods (u j))
+    → IsFoundAt terms u (place + 1) (Some b) → IsBroken terms u own b
+found-first terms u own place b below before found =
+    let same = found.0 in
+    let B : ℕ → Type 0 = λ n. IsFirstBroken terms.goods (u n) b.x b.y b.good in
+    record {
+      from_one = omega (arith, same);
+      to_last = omega (arith, same, below);
+      before = λ j low less mine. before j low (omega (arith, same, less)) mine;
+      broken = subst B (sym same) found.1;
+    }

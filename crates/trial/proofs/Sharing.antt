@@ -1,9 +1,10 @@
 -- Clocks that several workers ran, put together.
-use Rattle.std.proofs.Common.{◌≡◌, ◌<◌, ◌≤◌, ℕ, zero, suc, ◌+◌, ◌*◌, ◌/◌, List, [], ◌∷◌, ◌++◌, length, map, get_or, Option, Some, None, refl, sym, ◌∙◌, ap, arith, subst}
-use Rattle.std.specs.Prelude.{slice_get, IfSome, IfOk, Result, Ok, ℤ}
+use Rattle.std.proofs.Common.{◌≡◌, ◌<◌, ◌≤◌, ℕ, zero, suc, ◌+◌, ◌*◌, ◌/◌, List, [], ◌∷◌, ◌++◌, length, map, get_or, Option, Some, refl, sym, ◌∙◌, ap, arith, subst}
+use Rattle.std.specs.Prelude.{IfSome, ℤ}
 use Rattle.std.specs.List.{AllByRecursion, AllZip, range_with_len}
-use Rattle.std.proofs.Math.Nat.{div-le_of_le-mul, div-mul-le_self, le-div_iff_mul-le, mul-add, mul-div_cancel, mul-le-mul, mul_comm, le_refl, zero-div}
+use Rattle.std.proofs.Math.Nat.{div-add-mod', mul-add, mul-le-mul, le_refl}
 use Rattle.std.proofs.lemmas.List.{length-append}
+use Rattle.std.proofs.lemmas.Nat.{mod_below}
 use Rattle.lot_base.specs.declared.auction_terms.Terms.{Terms}
 use Rattle.clock.specs.Reports.{ClockHistory, ClockOf, histories}
 use Rattle.settlement.specs.Found.{IsFoundOf}
@@ -12,27 +13,33 @@ use Rattle.settlement.proofs.Histories.{histories-push}
 use Rattle.settlement.proofs.Zips.{zip-push}
 use Rattle.trial.specs.Trials.{IsTrialHistory, IsTrial}
 use Rattle.trial.specs.Rounds.{IsTrialOf}
+use Rattle.trial.specs.declared.workers.Part.{Part}
 use Rattle.trial.specs.declared.workers.Told.{Told}
-use Rattle.trial.specs.Workers.{IsToldOf, AreToldFrom, AreToldUpTo, share_start}
+use Rattle.trial.specs.Workers.{IsToldOf, IsPartOf, AreOfWorker, AreToldFrom, AreToldUpTo, light_workers, share_start}
 use Rattle.trial.proofs.Finding.{all-both}
+
+-- some worker has a clock less than the others
+pub light-some : (clocks workers : ℕ) → 1 ≤ workers → 1 ≤ light_workers clocks workers
+light-some clocks workers some = let l = mod_below clocks workers some in omega arith
 
 -- the shares begin with clock 0, rise, and end behind the last clock
 pub first-start : (clocks workers : ℕ) → share_start clocks workers 0 ≡ 0
-first-start clocks workers = ap (λ n. n / workers) (let e : clocks * 0 ≡ 0 = omega arith in e) ∙ zero-div workers
+first-start clocks workers = let e : clocks / workers * 0 ≡ 0 = omega arith in omega arith
 
 pub last-start : (clocks workers : ℕ) → 1 ≤ workers → share_start clocks workers workers ≡ clocks
-last-start clocks workers some = mul-div_cancel clocks some
+last-start clocks workers some =
+    let l = mod_below clocks workers some in
+    let e = div-add-mod' clocks workers in
+    omega arith
 
-pub start-rises : (clocks workers worker : ℕ) → 1 ≤ workers → share_start clocks workers worker ≤ share_start clocks workers (worker + 1)
-start-rises clocks workers worker some =
-    let whole = div-mul-le_self (clocks * worker) workers in
-    let more : clocks * worker ≤ clocks * (worker + 1) = (let e = mul-add clocks worker 1 in omega arith) in
-    (le-div_iff_mul-le some).1 (omega arith)
+pub start-rises : (clocks workers worker : ℕ) → share_start clocks workers worker ≤ share_start clocks workers (worker + 1)
+start-rises clocks workers worker = let e = mul-add (clocks / workers) worker 1 in omega arith
 
-pub start-within : (clocks workers worker : ℕ) → worker ≤ workers → share_start clocks workers worker ≤ clocks
-start-within clocks workers worker most =
-    let below : clocks * worker ≤ workers * clocks = (let e = mul-le-mul (le_refl clocks) most in let f = mul_comm clocks workers in omega arith) in
-    div-le_of_le-mul workers below
+pub start-within : (clocks workers worker : ℕ) → 1 ≤ workers → worker ≤ workers → share_start clocks workers worker ≤ clocks
+start-within clocks workers worker some most =
+    let few = mul-le-mul (le_refl (clocks / workers)) most in
+    let all = last-start clocks workers some in
+    omega arith
 
 -- clocks behind others
 pub told-both : (terms : Terms) (u : ℕ → List ℕ → ℤ) (from to end : ℕ) (front back : List Told) → AreToldUpTo terms u from to front → AreToldUpTo terms u to end back → AreToldUpTo terms u from end (front ++ back)
@@ -50,13 +57,6 @@ told-both terms u from to end front back these those = record {
 pub told-next : (terms : Terms) (u : ℕ → List ℕ → ℤ) (from to : ℕ) (told next : List Told) (t : Told) → AreToldUpTo terms u from to told → IsToldOf terms u to t → next ≡ told ++ t ∷ [] → AreToldUpTo terms u from (to + 1) next
 told-next terms u from to told next t before one is =
     subst (AreToldUpTo terms u from (to + 1)) (sym is) (told-both terms u from to (to + 1) told (t ∷ []) before (record { count = refl; each = (one, tt) }))
-
-pub got : {X : Type 0} (front rest all : List X) (x : X) → front ++ x ∷ rest ≡ all → slice_get all (length front) ≡ Some x
-got {X = X} front rest all x is = ap (λ xs. slice_get xs (length front)) (sym is) ∙ at-seam front
-  where
-    at-seam : (front : List X) → slice_get (front ++ x ∷ rest) (length front) ≡ Some x
-    at-seam [] = refl
-    at-seam (y ∷ front) = at-seam front
 
 -- the first so many clocks of a trial
 pub record AreInOrder (terms : Terms) (u : ℕ → List ℕ → ℤ) (count : ℕ) (clocks : List ClockHistory) : Type 0 where
@@ -99,22 +99,16 @@ rows-next clocks next rows more c row all found is more-is =
     let Z : List (Option ClockRow) → Type 0 = λ rs. AllZip IsFoundOf (histories clocks ++ c.history ∷ []) rs in
     subst Y (sym (ap histories is ∙ histories-push clocks c)) (subst Z (sym more-is) (zip-push IsFoundOf (histories clocks) rows c.history row all found))
 
--- a part of which something is known
-pub from-part : {S E : Type 0} (P : S → Type 0) (o : Option (Result S E)) (r : Result S E) (v : S) → IfSome o (λ part. IfOk part P) → o ≡ Some r → r ≡ Ok v → P v
-from-part {S} {E} P o r v known is ok =
-    let Q : Option (Result S E) → Type 0 = λ x. IfSome x (λ part. IfOk part P) in
-    let R : Result S E → Type 0 = λ x. IfOk x P in
-    subst R ok (subst Q is known)
-
--- what each index of results has
-pub from-each : {S E : Type 0} (P : ℕ → S → Type 0) (rs : List (Result S E)) → ((i : ℕ) (d : Result S E) → i < length rs → IfOk (get_or rs i d) (P i)) → (i : ℕ) → IfSome (slice_get rs i) (λ part. IfOk part (P i))
-from-each {S} {E} P rs each i = by (slice_get rs i) refl
+-- a worker's part, where it is taken from the list
+pub part-at : {X : Type 0} (P : ℕ → X → Type 0) (front rest all : List X) (x : X) → ((i : ℕ) (d : X) → i < length all → P i (get_or all i d)) → front ++ x ∷ rest ≡ all → P (length front) x
+part-at {X} P front rest all x each is =
+    let within : length front < length all = (let l = length-append front (x ∷ rest) in let m = ap length is in omega arith) in
+    subst (P (length front)) (at-seam front) (subst (λ xs. P (length front) (get_or xs (length front) x)) (sym is) (each (length front) x within))
   where
-    inside : (xs : List (Result S E)) (i : ℕ) (r : Result S E) → slice_get xs i ≡ Some r → (i < length xs) × (get_or xs i r ≡ r)
-    inside [] i r e = absurd (let f : None ≡ Some r = e in cc)
-    inside (x ∷ xs) zero r e = (omega arith, (let f : Some x ≡ Some r = e in let g : x ≡ r = cc in g))
-    inside (x ∷ xs) (suc i) r e = let h = inside xs i r e in ((let l = h.0 in omega arith), h.1)
+    at-seam : (front : List X) → get_or (front ++ x ∷ rest) (length front) x ≡ x
+    at-seam [] = refl
+    at-seam (y ∷ front) = at-seam front
 
-    by : (o : Option (Result S E)) → slice_get rs i ≡ o → IfSome o (λ part. IfOk part (P i))
-    by None e = tt
-    by (Some r) e = let h = inside rs i r e in let R : Result S E → Type 0 = λ x. IfOk x (P i) in subst R h.1 (each i r h.0)
+-- the clocks of a part that has them
+pub told-of : (terms : Terms) (u : ℕ → List ℕ → ℤ) (workers worker : ℕ) (part : Part) (told : _) → IsPartOf terms u workers worker part → part.told ≡ Some told → AreOfWorker terms u workers worker told.items
+told-of terms u workers worker part told known is = subst (λ o. IfSome o (λ told. AreOfWorker terms u workers worker told.items)) is known.told

@@ -1,5 +1,5 @@
--- How workers share the bidders whose valuations are checked: bidder j is checked by the worker that is j - 1 modulo their number.
-use Rattle.std.specs.Prelude.{◌≡◌, ◌≤◌, ◌<◌, ◌-◌, ◌%◌, ℕ, nat_le, if◌then◌else◌, List, slice_index_or, Option, Some, None, ℤ}
+-- How workers share the bidders whose valuations are checked: bidder j is checked by worker j - 1 modulo the number of those who check.
+use Rattle.std.specs.Prelude.{◌≡◌, ◌≤◌, ◌<◌, ◌-◌, ◌%◌, ℕ, nat_le, if◌then◌else◌, List, Option, Some, None, ℤ}
 use Rattle.lot_base.specs.Economy.{IsStrongSubstitutes}
 use Rattle.lot_base.specs.declared.auction_terms.Terms.{Terms}
 use Rattle.exchange_check.specs.Exchange.{IsFirstBroken}
@@ -24,9 +24,10 @@ abbrev pub IsFirstOf : Terms → (ℕ → List ℕ → ℤ) → (ℕ → Type 0)
 IsFirstOf terms u own None = (j : ℕ) → 1 ≤ j → j ≤ terms.bidders → own j → IsStrongSubstitutes terms.goods (u j)
 IsFirstOf terms u own (Some b) = IsBroken terms u own b
 
--- what each worker found among its own
-abbrev pub AreParts : Terms → (ℕ → List ℕ → ℤ) → ℕ → List (Option Broken) → Type 0
-AreParts terms u workers parts = (worker : ℕ) (other : Option Broken) → worker < workers → IsFirstOf terms u (OfWorker workers worker) (slice_index_or parts worker other)
+-- what was found of one bidder
+abbrev pub IsFoundAt : Terms → (ℕ → List ℕ → ℤ) → ℕ → Option Broken → Type 0
+IsFoundAt terms u j None = IsStrongSubstitutes terms.goods (u j)
+IsFoundAt terms u j (Some b) = (b.bidder ≡ j) × IsFirstBroken terms.goods (u j) b.x b.y b.good
 
 -- the earlier of two that were found
 abbrev pub earlier : Option Broken → Option Broken → Option Broken

@@ -27,9 +27,8 @@ use settlement::{Settlement, settle_found};
 use std::alloc::Global;
 use std::sync::Wait;
 use std::thread::Threads;
-use substitutes::check_all;
 use valuation::Valuation;
-use workers::{Run, run_clocks};
+use workers::{Run, run_workers};
 
 /// The clocks of a trial, in the order of their numbers, and what they settle.
 #[derive(Debug, Drop)]
@@ -55,13 +54,9 @@ pub fn trial<T: Threads + Wait + Sync>(
     ensures tried { IfOk result (λ t. IsTried terms.now (bidders_of terms.now.goods valuations.now) (histories t.clocks.items) t.settlement) }
     ensures refused { IfErr result (IsRefusal terms.now (bidders_of terms.now.goods valuations.now)) }
 {
-    match check_all(rt, alloc, terms, valuations, workers) {
-        Ok(()) => {}
-        Err(fault) => return Err(fault),
-    }
-    match run_clocks(rt, alloc, terms, valuations, workers) {
+    match run_workers(rt, alloc, terms, valuations, workers) {
         Ok(run) => settle_all(alloc, terms, valuations, run),
-        Err(NoMemory) => Err(TrialFault::NoMemory),
+        Err(fault) => Err(fault),
     }
 }
 

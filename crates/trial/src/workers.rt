@@ -1,15 +1,20 @@
-//! The clocks of a trial and their rows, shared among workers.
-ghost use Rattle.std.specs.Prelude.{◌≡◌, ◌≤◌, ◌<◌, ◌+◌, ◌^◌, ℕ, length, slice_get, IfOk, IfSome};
+//! The bidders and clocks of a trial, shared among workers.
+ghost use Rattle.std.specs.Prelude.{◌≡◌, ◌≤◌, ◌<◌, ◌+◌, ◌^◌, ℕ, length, slice_get, IfOk, IfErr, IfSome};
 ghost use Rattle.std.specs.List.{AllZip};
-ghost use Rattle.clock.specs.Reports.{histories};
+ghost use Rattle.lot_base.specs.Economy.{AllStrongSubstitutes};
+ghost use Rattle.clock.specs.Reports.{all_bidders, histories};
 ghost use Rattle.settlement.specs.Found.{IsFoundOf};
 ghost use Rattle.trial.specs.Bidding.{bidders_of};
+ghost use Rattle.trial.specs.Checking.{IsFirstOf, OfAll};
+ghost use Rattle.trial.specs.Refusals.{IsRefusal};
 ghost use Rattle.trial.specs.Rounds.{AreColumns};
 ghost use Rattle.trial.specs.Trials.{IsTrial};
-ghost use Rattle.trial.specs.Workers.{AreOfWorker, AreToldUpTo, IsToldOf, share_start};
+ghost use Rattle.trial.specs.Workers.{AreOfWorker, AreParts, AreToldUpTo, IsPartOf, IsToldOf, light_workers, share_start};
 
 use crate::carrying::columns_of;
+use crate::faults::TrialFault;
 use crate::rounds::run_clock;
+use crate::substitutes::{Broken, check_share, earlier};
 use clock::Clock;
 use lot_base::{NoMemory, Terms};
 use settlement::{ClockRow, row_of};
@@ -27,6 +32,15 @@ struct Told {
     row: Option<ClockRow>,
 }
 
+/// What a worker did.
+#[derive(Drop)]
+struct Part {
+    /// The first of its bidders for whom the goods are no strong substitutes.
+    broken: Option<Broken>,
+    /// Its clocks, in the order of their numbers. None where they were not run: a bidder is broken, or there was no memory.
+    told: Option<Vec<Told>>,
+}
+
 /// The clocks of a trial, and the row of each.
 #[derive(Drop)]
 pub(crate) struct Run {
@@ -36,30 +50,72 @@ pub(crate) struct Run {
     pub rows: Vec<Option<ClockRow>>,
 }
 
-/// All clocks of a trial, in the order of their numbers, run by so many workers, but no more than there are clocks. Each finds the rows of
-/// its clocks. Where no thread can be made the workers run one after another.
-pub(crate) fn run_clocks<T: Threads + Sync>(
+/// All clocks of a trial, in the order of their numbers, with the rows of each, or the first bidder for whom the goods are no strong
+/// substitutes. So many workers check the bidders and run the clocks, but no more than there are clocks. Where no thread can be made they
+/// work one after another.
+pub(crate) fn run_workers<T: Threads + Sync>(
     rt: &T,
     alloc: Global,
     terms: &Terms,
     valuations: &[Valuation],
     workers: u32,
-) -> Result<Run, NoMemory>
+) -> Result<Run, TrialFault>
     requires count { length valuations.now ≡ terms.now.bidders }
     requires workers { 1 ≤ workers }
+    ensures substitutes { IfOk result (λ _. AllStrongSubstitutes terms.now.goods (bidders_of terms.now.goods valuations.now) (all_bidders terms.now.bidders)) }
     ensures trial { IfOk result (λ run. IsTrial terms.now (bidders_of terms.now.goods valuations.now) (histories run.clocks.items)) }
     ensures rows { IfOk result (λ run. AllZip IsFoundOf (histories run.clocks.items) run.rows.items) }
+    ensures refused { IfErr result (IsRefusal terms.now (bidders_of terms.now.goods valuations.now)) }
 {
     let workers = (workers as usize).min(terms.bidders as usize + 1);
     match thread::map_indices(
         rt,
         alloc,
         workers,
-        &|worker| { run_share(alloc, terms, valuations, workers, worker) },
+        &|worker| { work(alloc, terms, valuations, workers, worker) },
     ) {
-        Ok(parts) => put_together(alloc, terms, valuations, workers, parts),
-        Err(_) => Err(NoMemory),
+        Ok(parts) => conclude(alloc, terms, valuations, workers, parts),
+        Err(_) => Err(TrialFault::NoMemory),
     }
+}
+
+/// What the parts of all workers come to.
+fn conclude(
+    alloc: Global,
+    terms: &Terms,
+    valuations: &[Valuation],
+    workers: usize,
+    parts: Vec<Part>,
+) -> Result<Run, TrialFault>
+    requires workers { 1 ≤ workers }
+    requires count { length parts.items ≡ workers }
+    requires parts { AreParts terms.now (bidders_of terms.now.goods valuations.now) workers parts.items }
+    ensures substitutes { IfOk result (λ _. AllStrongSubstitutes terms.now.goods (bidders_of terms.now.goods valuations.now) (all_bidders terms.now.bidders)) }
+    ensures trial { IfOk result (λ run. IsTrial terms.now (bidders_of terms.now.goods valuations.now) (histories run.clocks.items)) }
+    ensures rows { IfOk result (λ run. AllZip IsFoundOf (histories run.clocks.items) run.rows.items) }
+    ensures refused { IfErr result (IsRefusal terms.now (bidders_of terms.now.goods valuations.now)) }
+{
+    match first_of(terms, valuations, workers, parts.as_slice()) {
+        None => match put_together(alloc, terms, valuations, workers, parts) {
+            Ok(run) => Ok(run),
+            Err(NoMemory) => Err(TrialFault::NoMemory),
+        },
+        Some(broken) => Err(TrialFault::NotSubstitutes {
+            bidder: broken.bidder,
+            x: broken.x,
+            y: broken.y,
+            good: broken.good,
+        }),
+    }
+}
+
+/// How many workers have a clock less than the others, or all where each has as many. These come first, and check the bidders.
+fn light_workers(clocks: usize, workers: usize) -> usize
+    requires workers { 1 ≤ workers }
+    ensures value { result ≡ light_workers clocks workers }
+    ensures some { 1 ≤ result }
+{
+    workers - clocks % workers
 }
 
 /// The number of a worker's first clock. Behind the last worker it is the number of clocks.
@@ -69,7 +125,29 @@ fn share_start(clocks: usize, workers: usize, worker: usize) -> usize
     requires workers { 1 ≤ workers }
     ensures { result ≡ share_start clocks workers worker }
 {
-    clocks * worker / workers
+    clocks / workers * worker + worker.saturating_sub(light_workers(clocks, workers))
+}
+
+/// Checks the bidders of a worker, and runs its clocks where the goods are strong substitutes for each of them.
+fn work(
+    alloc: Global,
+    terms: &Terms,
+    valuations: &[Valuation],
+    workers: usize,
+    worker: usize,
+) -> Part
+    requires count { length valuations.now ≡ terms.now.bidders }
+    requires workers { worker < workers }
+    requires few { workers < 2 ^ 32 }
+    ensures { IsPartOf terms.now (bidders_of terms.now.goods valuations.now) workers worker result }
+{
+    let light = light_workers(terms.bidders as usize + 1, workers);
+    let broken = check_share(terms, valuations, light, worker);
+    if broken.is_some() {
+        return Part { broken, told: None };
+    }
+    let told = run_share(alloc, terms, valuations, workers, worker).ok();
+    Part { broken, told }
 }
 
 /// The clocks that a worker runs, in the order of their numbers. Worker 0, who has the clock of all bidders, has no more clocks than another.
@@ -115,25 +193,45 @@ fn run_told(
     Ok(Told { clock, row })
 }
 
+/// The first bidder of all workers for whom the goods are no strong substitutes.
+fn first_of(
+    terms: &Terms,
+    valuations: &[Valuation],
+    workers: usize,
+    parts: &[Part],
+) -> Option<Broken>
+    requires workers { 1 ≤ workers }
+    requires count { length parts.now ≡ workers }
+    requires parts { AreParts terms.now (bidders_of terms.now.goods valuations.now) workers parts.now }
+    ensures { IsFirstOf terms.now (bidders_of terms.now.goods valuations.now) OfAll result }
+{
+    let mut first = None;
+    for worker in 0..parts.len() {
+        first = earlier(first, parts[worker].broken);
+    }
+    first
+}
+
 /// The clocks of all workers, in the order of their numbers.
 fn put_together(
     alloc: Global,
     terms: &Terms,
     valuations: &[Valuation],
     workers: usize,
-    parts: Vec<Result<Vec<Told>, NoMemory>>,
+    parts: Vec<Part>,
 ) -> Result<Run, NoMemory>
     requires workers { 1 ≤ workers }
     requires count { length parts.items ≡ workers }
-    requires parts { (worker : ℕ) → IfSome (slice_get parts.items worker) (λ part. IfOk part (λ told. AreOfWorker terms.now (bidders_of terms.now.goods valuations.now) workers worker told.items)) }
+    requires parts { AreParts terms.now (bidders_of terms.now.goods valuations.now) workers parts.items }
     ensures trial { IfOk result (λ run. IsTrial terms.now (bidders_of terms.now.goods valuations.now) (histories run.clocks.items)) }
     ensures rows { IfOk result (λ run. AllZip IsFoundOf (histories run.clocks.items) run.rows.items) }
 {
     let mut all = Vec::new(alloc);
     for part in parts {
-        match part {
-            Ok(mut told) => all.append(&mut told)?,
-            Err(NoMemory) => return Err(NoMemory),
+        let Part { broken: _, told } = part;
+        match told {
+            Some(mut clocks) => all.append(&mut clocks)?,
+            None => return Err(NoMemory),
         }
     }
     in_order(alloc, terms, valuations, all)

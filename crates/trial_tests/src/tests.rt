@@ -117,7 +117,9 @@ fn trials_settle(rt: HostRuntime) -> Result<(), Fail> {
 fn complements_are_refused(rt: HostRuntime) -> Result<(), Fail> {
     let terms = terms_of(&rt, &[1, 1], 2);
     let line = "bidder 1 [1, 1] [0, 0] good 0";
-    assert!(&rt; gives(&rt, rt.alloc(), &terms, COMPLEMENTS, 1, line)?);
+    for workers in [1, 2, 64] {
+        assert!(&rt; gives(&rt, rt.alloc(), &terms, COMPLEMENTS, workers, line)?);
+    }
     Ok(())
 }
 

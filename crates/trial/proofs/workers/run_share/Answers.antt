@@ -6,7 +6,7 @@ use Rattle.trial.proofs.workers.run_share.Goals as goal
 
 pub run_told-requires-clause-number : goal.run_told-requires-clause-number
 run_told-requires-clause-number c =
-    let within = start-within (c.args.terms.now.bidders + 1) c.args.workers (c.args.worker + 1) (let w = c.requires.workers in omega arith) in
+    let within = start-within (c.args.terms.now.bidders + 1) c.args.workers (c.args.worker + 1) (let w = c.requires.workers in omega arith) (let w = c.requires.workers in omega arith) in
     omega (arith, within, c.share_start-end.ensures, c.loop-number-test.true)
 
 pub loop-number-preserved : goal.loop-number-preserved
@@ -20,7 +20,7 @@ returns c =
     let u = bidders_of terms.goods c.args.valuations.now in
     let start = share_start (terms.bidders + 1) c.args.workers in
     let told = c.loop-number.told.items in
-    let rises = start-rises (terms.bidders + 1) c.args.workers c.args.worker (let w = c.requires.workers in omega arith) in
+    let rises = start-rises (terms.bidders + 1) c.args.workers c.args.worker in
     let all : c.loop-number.number ≡ start (c.args.worker + 1) = omega (arith, rises, c.share_start-first.ensures, c.share_start-end.ensures, c.loop-number-test.false, c.loop-number.auto.number, c.loop-number.auto.number-end) in
     let From : ℕ → Type 0 = λ n. AreToldUpTo terms u n c.loop-number.number told in
     let UpTo : ℕ → Type 0 = λ n. AreToldUpTo terms u (start c.args.worker) n told in
