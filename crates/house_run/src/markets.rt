@@ -19,7 +19,6 @@ use house_io::Shelf;
 use lot_base::Terms;
 use settlement::{Outcome, Settlement};
 use std::alloc::Global;
-use std::sync::Wait;
 use std::thread::Threads;
 use trial::{TrialFault, Tried, trial};
 use valuation::Valuation;
@@ -98,7 +97,7 @@ pub(crate) fn read_bidders<H: Shelf>(
 }
 
 /// The outcome of the trial of a market by so many workers, or how a command that needs it ends.
-pub(crate) fn try_market<T: Threads + Wait + Sync>(
+pub(crate) fn try_market<T: Threads + Sync>(
     rt: &T,
     alloc: Global,
     terms: &Terms,

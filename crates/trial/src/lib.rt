@@ -25,7 +25,6 @@ use lot_base::{NoMemory, Terms};
 pub use making::make;
 use settlement::{Settlement, settle_found};
 use std::alloc::Global;
-use std::sync::Wait;
 use std::thread::Threads;
 use valuation::Valuation;
 use workers::{Run, run_workers};
@@ -42,7 +41,7 @@ pub struct Tried {
 /// The auction on these terms where each bidder reports in every round what it demands by its valuation, the first valuation being that
 /// of bidder 1. The clocks are run by 1 to 64 workers, on whose number the answer does not depend. It is settled where the goods
 /// are strong substitutes for all bidders, and refused where they are not.
-pub fn trial<T: Threads + Wait + Sync>(
+pub fn trial<T: Threads + Sync>(
     rt: &T,
     alloc: Global,
     terms: &Terms,

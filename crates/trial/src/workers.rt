@@ -28,7 +28,7 @@ use valuation::{Column, Valuation};
 struct Told {
     /// It has ended, or was halted at the ceiling.
     clock: Clock,
-    /// None where it was halted, or no choice clears.
+    /// None where no choice clears. Of a clock that was halted it says nothing.
     row: Option<ClockRow>,
 }
 

@@ -7,7 +7,6 @@ use outcome_text::write_plain;
 use settlement::Settlement;
 use std::alloc::{AllocError, Global};
 use std::process::Abort;
-use std::sync::Wait;
 use std::test::Fail;
 use std::thread::Threads;
 use trial::{TrialFault, Tried, make, trial};
@@ -82,7 +81,7 @@ fn plain_text(alloc: Global, settlement: &Settlement) -> Result<Vec<u8>, AllocEr
 
 /// Whether a trial of these valuations with so many workers gives this text.
 fn gives(
-    rt: &(impl Abort + Threads + Wait + Sync),
+    rt: &(impl Abort + Threads + Sync),
     alloc: Global,
     terms: &Terms,
     values: &str,

@@ -17,12 +17,11 @@ use outcome_text::write_plain;
 use settlement::{AwardRow, ClockRow, Outcome};
 use sha2::{Digest, Sha256};
 use std::alloc::{AllocError, Global};
-use std::sync::Wait;
 use std::thread::Threads;
 use trial::make;
 
 /// The line of the outcome of a trial, or why there is none. It opens no file.
-pub(crate) fn job<T: Threads + Wait + Sync, H: Shelf>(
+pub(crate) fn job<T: Threads + Sync, H: Shelf>(
     rt: &T,
     alloc: Global,
     number: u32,

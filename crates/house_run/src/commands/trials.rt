@@ -11,11 +11,10 @@ use house_io::Shelf;
 use lot_base::NoMemory;
 use outcome_text::write_plain;
 use std::alloc::Global;
-use std::sync::Wait;
 use std::thread::Threads;
 
 /// The text of the outcome of a trial, or why there is none.
-pub(crate) fn job<T: Threads + Wait + Sync, H: Shelf>(
+pub(crate) fn job<T: Threads + Sync, H: Shelf>(
     rt: &T,
     alloc: Global,
     auction: &str,
