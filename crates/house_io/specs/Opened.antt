@@ -1,7 +1,12 @@
--- A file that is open for reading.
+-- A file that is open for reading, and a connection.
 use Rattle.std.specs.Prelude.{ℕ}
 
 -- the file, and how often a call on it has failed
 pub record OpenedFile (F : Type 0) : Type 0 where
   pub file : F
+  pub faults : ℕ
+
+-- the connection, and how often a call on it has failed
+pub record OpenedStream (S : Type 0) : Type 0 where
+  pub stream : S
   pub faults : ℕ

@@ -58,11 +58,11 @@ pub record TakesDisk (name : List ℕ) (room : ℕ) (disk : ShelvedDisk) (before
 abbrev pub with_closed : ShelvedDisk → ShelvedFile → ShelvedFile
 with_closed disk file = record file { closed = Some disk }
 
--- A disk is closed in a name. The shelf tells from then on exactly where it did, the disk tells, and the name has a file; then the
--- disk is kept on that file. Every other file stays.
+-- A disk is closed in a name. The shelf tells from then on exactly where it did, the disk tells, and the name has a file. A disk
+-- that tells is kept on that file, also where the shelf ceased to tell. Every other file stays.
 pub record KeepsDisk (name : List ℕ) (disk_told : Bool) (disk : ShelvedDisk) (told_before told_after : Bool) (before after : List ShelvedFile) : Type 0 where
   pub told : IsTrue told_after ↔ (IsTrue told_before × IsTrue disk_told × IsSome (shelved_file before name))
-  pub kept : IsTrue told_after → shelved_file after name ≡ option_map (with_closed disk) (shelved_file before name)
+  pub kept : IsTrue disk_told → shelved_file after name ≡ option_map (with_closed disk) (shelved_file before name)
   pub others : (other : List ℕ) → other ≢ name → shelved_file after other ≡ shelved_file before other
 
 -- a file as a shelf tells it

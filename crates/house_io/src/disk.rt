@@ -23,7 +23,8 @@ pub trait Disk {
         ensures moments { IsTrue (tells self.new) → moments self.new ≡ moments self.old }
         ensures cause { HasCause (faults self.old) (faults self.new) result };
 
-    /// Fills a front of the buffer and answers its length, which is less than the buffer's only at the file's end.
+    /// Fills a front of the buffer and answers its length, which is less than the buffer's only at the file's end. What stands in
+    /// the buffer behind it, or after a failure, is not said.
     fn read_at(&mut self, at: u64, into: &mut [u8]) -> Result<usize, Failed>
         ensures count { IfOk result (λ n. n ≤ length into.old) }
         ensures bytes { IfOk result (λ n. IsTrue (tells self.new)

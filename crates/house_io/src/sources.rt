@@ -73,7 +73,7 @@ fn read_pieces<R: Source>(
     let mut text = Vec::new(alloc);
     'pulls: while text.len() as u64 <= limit {
         let room = (limit - text.len() as u64).min(CHUNK as u64 - 1) as usize + 1;
-        // The memory before the pull: no byte that was taken is lost for lack of it.
+        // The memory before the pull, so that what the pull takes has its place.
         if text.reserve(room).is_err() {
             return Err(ReadWhole::NoMemory);
         }

@@ -320,11 +320,12 @@ fn grown_by(rt: &HostRuntime, at: u64, length: usize) -> Result<(u64, bool), Fai
     grown_file(rt, at, &text, &mut buffer)
 }
 
-/// About a page, about 65,535, and a piece that is longer than that.
+/// A byte, about a page, about 65,535, and a piece that is longer than that.
 #[test]
 fn a_real_file_grows_by_zeros_up_to_a_text(rt: HostRuntime) -> Result<(), Fail> {
     for (at, length) in [
         (3, 1),
+        (4, 0),
         (4_095, 0),
         (4_096, 0),
         (4_096, 9),

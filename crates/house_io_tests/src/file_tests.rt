@@ -104,9 +104,8 @@ fn counter(alloc: Global) -> Option<Arc<AtomicU64>> {
     Arc::new(alloc, AtomicU64::new(0)).ok()
 }
 
-fn slow_disk(alloc: Global, calls: u64) -> Option<FileDisk<SlowFile>> {
-    let syncs = counter(alloc)?;
-    match slow_file(calls, &syncs) {
+fn slow_disk(calls: u64, syncs: &Arc<AtomicU64>) -> Option<FileDisk<SlowFile>> {
+    match slow_file(calls, syncs) {
         Ok(file) => Some(FileDisk::new(file)),
         Err(_) => None,
     }
@@ -114,7 +113,8 @@ fn slow_disk(alloc: Global, calls: u64) -> Option<FileDisk<SlowFile>> {
 
 #[test]
 fn a_disk_on_a_file_reads_on_after_a_short_read(rt: HostRuntime) -> Result<(), Fail> {
-    let mut disk = slow_disk(rt.alloc(), 99).ok_or("no disk")?;
+    let syncs = counter(rt.alloc()).ok_or("no memory")?;
+    let mut disk = slow_disk(99, &syncs).ok_or("no disk")?;
     let mut front = [0; 4];
     for (at, count, bytes) in [(3, 4, [3, 4, 5, 6]), (8, 2, [8, 9, 5, 6])] {
         assert_eq!(rt; read(&mut disk, at, &mut front), Ok(count), "at {at}");
@@ -135,13 +135,14 @@ fn failing_calls_of<D: Disk>(disk: &mut D) -> [bool; 5] {
     ]
 }
 
-/// Which calls on a disk fail, where the call of this number on its file does, and how many faults it counts. Reading two
-/// bytes is a seek and two reads; the size is a seek; writing four bytes is a seek and two writes; lengthening is a seek and
-/// one more call; and a sync is one.
-fn failing_calls(alloc: Global, call: u64) -> Option<([bool; 5], u64)> {
-    let mut disk = slow_disk(alloc, call)?;
+/// Which calls on a disk fail, where the call of this number on its file does, how many faults it counts, and how often it asks
+/// for a sync. Reading two bytes is a seek and two reads; the size is a seek; writing four bytes is a seek and two writes;
+/// lengthening is a seek and one more call; and a sync is one.
+fn failing_calls(alloc: Global, call: u64) -> Option<([bool; 5], u64, u64)> {
+    let syncs = counter(alloc)?;
+    let mut disk = slow_disk(call, &syncs)?;
     let failing = failing_calls_of(&mut disk);
-    Some((failing, disk.faults()))
+    Some((failing, disk.faults(), syncs.load(Ordering::SeqCst)))
 }
 
 /// Of five, only that of this number.
@@ -171,7 +172,7 @@ fn each_call_of_a_file_that_fails_is_a_counted_fault(rt: HostRuntime) {
     ] {
         assert_eq!(rt;
             failing_calls(rt.alloc(), call),
-            Some((only(failing), 1)),
+            Some((only(failing), 1, 1)),
             "at the call {call}"
         );
     }

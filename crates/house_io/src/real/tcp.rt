@@ -1,6 +1,7 @@
 //! Links, doors and a net over TCP. They count their faults, and tell no content.
 ghost use Rattle.std.specs.Prelude.{◌≡◌, ◌≤◌, ◌+◌, [], ℕ, List, None, length, vec_capacity, IfOk, OnOk};
 ghost use Rattle.std.specs.List.{AllByRecursion};
+ghost use Rattle.std.specs.Io.KnownBytes.{ReadConsumes, WriteAppends};
 ghost use Rattle.house_io.specs.Faults.{HasCause, faults_after, raised_by};
 ghost use Rattle.house_io.specs.Sinks.{IsPart};
 ghost use Rattle.house_io.specs.Nets.{HasNetCause};
@@ -12,7 +13,7 @@ use std::io::{self, ErrorKind, Read, Write};
 use std::marker::Model;
 use std::net::{OpenListener, OpenStream, TcpListener, TcpStream};
 
-/// A connection, seen as the count of its faults. A pull reads once, and a push writes once.
+/// A connection, seen as the stream and the count of its faults. A pull reads once, and a push writes once.
 #[derive(Drop)]
 pub struct TcpLink<S> {
     /// The connection. Its small pieces are sent at once where the system allows it.
@@ -22,15 +23,17 @@ pub struct TcpLink<S> {
 }
 
 impl<S> Model for TcpLink<S> {
-    ghost Value = { ℕ };
+    ghost use Rattle.house_io.specs.Opened.{OpenedStream};
 
-    ghost view = { λ link. link.faults };
+    ghost Value = { OpenedStream S };
+
+    ghost view = { λ link. record { stream = link.stream; faults = link.faults } };
 }
 
 impl<S: OpenStream> TcpLink<S> {
     /// A link over a connection, whose small pieces are sent at once where the system allows it. It has not failed yet.
     pub fn new(stream: S) -> TcpLink<S>
-        ensures { result ≡ 0 }
+        ensures { result ≡ record { stream = stream; faults = 0 } }
     {
         // Else a reply would wait for the one before it to be acknowledged. A refusal makes it slower, and nothing else.
         let _ = stream.set_nodelay(true);
@@ -41,7 +44,7 @@ impl<S: OpenStream> TcpLink<S> {
 impl<S> TcpLink<S> {
     /// Counts a call that failed.
     fn fail(&mut self) -> Failed
-        ensures { self.new ≡ raised_by self.old 1 }
+        ensures { self.new ≡ record self.old { faults = raised_by self.old.faults 1 } }
     {
         self.faults = self.faults.saturating_add(1);
         Failed
@@ -51,11 +54,13 @@ impl<S> TcpLink<S> {
 impl<S: Read + Write> Link for TcpLink<S> {
     ghost told = { λ _. None };
 
-    ghost faults = { λ link. link };
+    ghost faults = { λ link. link.faults };
 
     fn pull(&mut self, into: &mut [u8]) -> Result<usize, Failed>
         ensures within { IfOk result (λ count. count ≤ length into.new) }
-        ensures faults { self.new ≡ faults_after result self.old }
+        // Of a stream whose bytes are known.
+        ensures reads { ReadConsumes (S.remaining self.old.stream) (S.remaining self.new.stream) result into.new }
+        ensures faults { self.new.faults ≡ faults_after result self.old.faults }
     {
         match self.stream.read(into) {
             Ok(count) => Ok(count),
@@ -65,7 +70,9 @@ impl<S: Read + Write> Link for TcpLink<S> {
 
     fn push(&mut self, from: &[u8]) -> Result<usize, Failed>
         ensures part { IfOk result (λ count. IsPart count from.now) }
-        ensures faults { self.new ≡ faults_after result self.old }
+        // On a stream whose bytes are known.
+        ensures writes { WriteAppends (S.contents self.old.stream) (S.contents self.new.stream) result from.now }
+        ensures faults { self.new.faults ≡ faults_after result self.old.faults }
     {
         match self.stream.write(from) {
             Ok(count) if count > 0 || from.is_empty() => Ok(count),
@@ -125,7 +132,7 @@ where
     ghost faults = { λ door. door };
 
     fn accept(&mut self) -> Result<TcpLink<L::Stream>, Failed>
-        ensures fresh { IfOk result (λ link. link ≡ 0) }
+        ensures fresh { IfOk result (λ link. link.faults ≡ 0) }
         ensures faults { self.new ≡ faults_after result self.old }
     {
         match next_stream(&self.listener) {
@@ -236,7 +243,7 @@ where
     }
 
     fn dial(&mut self, _alloc: Global, address: &str) -> Result<TcpLink<R::Stream>, Refusal>
-        ensures fresh { IfOk result (λ link. link ≡ 0) }
+        ensures fresh { IfOk result (λ link. link.faults ≡ 0) }
         ensures faults { self.new ≡ net_faults_after result self.old }
         ensures cause { HasNetCause self.old self.new result }
     {
