@@ -24,13 +24,15 @@ use Rattle.recovery.specs.Journaled.{Owner, header_of, contents_of, StandsForRep
 use Rattle.recovery.specs.Streams.{AreLong, IsWhole, IsUndamaged}
 use Rattle.clock_book.specs.declared.faults.OpenFault.{OpenFault}
 use Rattle.clock_book.specs.declared.faults.OpenFault.TheVariants as why
+use Rattle.clock_book.specs.declared.entries.Entry.{Entry}
 use Rattle.clock_book.specs.declared.origins.Origin.{Origin}
 use Rattle.clock_book.specs.Opening.{ReadsClock, IsSyncedBy, CountsFaults}
 use Rattle.clock_book.specs.Opened.{IsFound, IsLaid, IsNotBegun, IsUnopened, LeftUnopened, KeepsRoom, not_formed, IsFromOutside}
-use Rattle.clock_book.specs.DeskHistories.{NotedOf, marks_in}
-use Rattle.clock_book.specs.Past.{owner_in, IsNext, StoodFor, IsAsOpened, KeepsPast}
+use Rattle.clock_book.specs.DeskHistories.{NotedOf, reports_in, marks_in}
+use Rattle.clock_book.specs.Past.{owner_in, StoodFor, IsAsOpened, KeepsPast}
 use Rattle.clock_book.specs.Books.{IsBook, HasRoom}
 use Rattle.clock_book.proofs.Mending.{stands-settled}
+use Rattle.clock_book.proofs.Pasts.{stood-whole}
 use Rattle.clock_book.proofs.Sizes.{quantities-push}
 
 -- a clock that took one report more from its room
@@ -40,23 +42,13 @@ room-taken empty old new r kept is =
     let all = quantities-push old.history.reports r in
     subst (λ (k : ClockOf). KeepsRoom empty k) (sym is) (record { reports = omega (arith, kept.reports, more); quantities = omega (arith, kept.quantities, all) })
 
-stood-now : (origin : Origin) (c : ClockHistory) (file : List ℕ) → origin.reports ≡ length c.reports → StandsForReports (owner_in origin) c.reports file → StoodFor origin c file
-stood-now origin c file same stands =
-    let P : List Report → Type 0 = λ reports. StandsForReports (owner_in origin) reports file ⊎ ((r : Report) × IsNext (record c { reports = reports }) r × StandsForReports (owner_in origin) (reports ++ r ∷ []) file) in
-    record {
-      count = length c.reports;
-      least = omega (arith, same);
-      most = omega arith;
-      stands = subst P (sym (take_all (length c.reports) c.reports (omega arith))) (inl stands);
-    }
-
-past-begins : (origin : Origin) (c : ClockHistory) (x : Contents) (o : Option (List ℕ)) (old new : Moments) → AreReportsOf origin.terms c.reports → origin.reports ≡ length c.reports → x ≡ contents_of (owner_in origin) c.reports → o ≡ None → Stands x o new
-    → origin.answered ≡ length new.past → origin.synced ≡ length old.past → AtEach (IsAsOpened (owner_in origin) origin.read) old new → KeepsPast origin c new
-past-begins origin c x o old new are count same none stands answered synced call =
-    let P : List ℕ → Type 0 = λ file. StoodFor origin c file in
+past-begins : (origin : Origin) (c : ClockHistory) (history : List Entry) (x : Contents) (o : Option (List ℕ)) (old new : Moments) → AreReportsOf origin.terms c.reports → origin.reports ≡ length c.reports → x ≡ contents_of (owner_in origin) c.reports → o ≡ None → Stands x o new
+    → origin.answered ≡ length new.past → origin.synced ≡ length old.past → AtEach (IsAsOpened (owner_in origin) origin.read) old new → KeepsPast origin c history new
+past-begins origin c history x o old new are count same none stands answered synced call =
+    let P : List ℕ → Type 0 = λ file. StoodFor origin c history file in
     let Q : List ℕ → Type 0 = λ file. IsAsOpened (owner_in origin) origin.read file in
-    let R : List ℕ → Type 0 = λ file. StoodFor origin c file ⊎ IsAsOpened (owner_in origin) origin.read file in
-    let here : Leaves P new.now = leaves_weaker (StandsForReports (owner_in origin) c.reports) P new.now (λ file s. stood-now origin c file count s) (stands-settled (owner_in origin) c.reports x o new are same none stands) in
+    let R : List ℕ → Type 0 = λ file. StoodFor origin c history file ⊎ IsAsOpened (owner_in origin) origin.read file in
+    let here : Leaves P new.now = leaves_weaker (StandsForReports (owner_in origin) c.reports) P new.now (λ file s. stood-whole origin c history file (omega (arith, count)) (inl s)) (stands-settled (owner_in origin) c.reports x o new are same none stands) in
     let first : Leaves R old.now = leaves_weaker Q R old.now (λ file s. inr s) call.first in
     record {
       answered = subst (λ (t : ℕ). Since P t new) (sym answered) (since_now P new here);
@@ -64,10 +56,10 @@ past-begins origin c x o old new are count same none stands answered synced call
     }
 
 pub begun : {D : Type 0} (k : JournalOf D) (told : Type 0) (old new : Moments) (faults : ℕ) (n : NotedOf) (origin : Origin) → n.clock.terms ≡ origin.terms → n.clock.number ≡ origin.clock → AreReportsOf origin.terms n.clock.reports
-    → origin.reports ≡ length n.clock.reports → k.end ≡ length (front (contents_of (owner_in origin) n.clock.reports)) → k.pending ≡ None → marks_in n.history ≡ 0 → HasRoom n (k.spare + 0)
+    → origin.reports ≡ length n.clock.reports → k.end ≡ length (front (contents_of (owner_in origin) n.clock.reports)) → k.pending ≡ None → reports_in n.history ≡ n.clock.reports → marks_in n.history ≡ 0 → HasRoom n (k.spare + 0)
     → (told → k.contents ≡ contents_of (owner_in origin) n.clock.reports) → (told → Stands k.contents k.pending new) → (told → origin.answered ≡ length new.past) → (told → origin.synced ≡ length old.past)
     → (told → AtEach (IsAsOpened (owner_in origin) origin.read) old new) → (told → IsTrue origin.told) → IsBook k told new faults n None origin
-begun k told old new faults n origin terms number are count end none unmarked room contents stands answered synced call first = record {
+begun k told old new faults n origin terms number are count end none reports unmarked room contents stands answered synced call first = record {
   terms = terms;
   number = number;
   are = are;
@@ -75,11 +67,12 @@ begun k told old new faults n origin terms number are count end none unmarked ro
   end = end;
   in_doubt = none;
   waits = tt;
-  after = tt;
+  doubt = tt;
+  reports = reports;
   marks = omega (arith, unmarked);
   room = room;
   contents = contents;
-  past = λ t. past-begins origin n.clock k.contents k.pending old new are count (contents t) none (stands t) (answered t) (synced t) (call t);
+  past = λ t. past-begins origin n.clock n.history k.contents k.pending old new are count (contents t) none (stands t) (answered t) (synced t) (call t);
   first = first;
 }
 

@@ -1,9 +1,8 @@
 -- What a mend and an append leave of what a book keeps.
-use Rattle.std.proofs.Common.{◌≡◌, inl, inr, ℕ, ◌+◌, ◌-◌, ◌^◌, ◌≤◌, ◌∙◌, Bool, true, false, nat_lt, cond, List, ◌∷◌, [], ◌++◌, length, Option, Some, None, is_some, Err, refl, sym, ap, subst, arith, length-append}
+use Rattle.std.proofs.Common.{◌≡◌, inl, ℕ, ◌+◌, ◌-◌, ◌^◌, ◌≤◌, ◌∙◌, true, min, List, ◌∷◌, [], ◌++◌, length, Option, Some, None, is_some, Err, refl, sym, ap, subst, arith, append-nil, length-append}
 use Rattle.std.specs.Prelude.{IfSome, IsSome}
 use Rattle.std.specs.List.{concat}
 use Rattle.std.specs.Option.{option_map}
-use Rattle.std.proofs.lemmas.Bool.Decides.{nat_tests}
 use Rattle.lot_base.specs.declared.auction_terms.Terms.{Terms}
 use Rattle.demand_set.specs.declared.reports.Report.{Report}
 use Rattle.clock.specs.Reports.{ClockHistory, with_report}
@@ -23,13 +22,13 @@ use Rattle.recovery.proofs.Lists.{all-push}
 use Rattle.clock_book.specs.declared.entries.Entry.{Entry}
 use Rattle.clock_book.specs.declared.entries.Entry.TheVariants.{Mark}
 use Rattle.clock_book.specs.declared.origins.Origin.{Origin}
-use Rattle.clock_book.specs.DeskHistories.{NotedOf, HasRoomFor, marks_in, with_mark, EndsInMark}
+use Rattle.clock_book.specs.DeskHistories.{NotedOf, HasRoomFor, reports_in, marks_in, IsMarkedBehind, IsInDoubt}
 use Rattle.clock_book.specs.Past.{owner_in, IsNext, IsEither, KeepsPast}
 use Rattle.clock_book.specs.Books.{IsWaiting, IsBook, HasRoom, kept_for}
 use Rattle.clock_book.specs.Offers.{record_end}
-use Rattle.clock_book.proofs.Histories.{marks-append}
+use Rattle.clock_book.proofs.Histories.{reports-append, marks-append, same-reports, marked-now, marked-later, doubt-later}
 use Rattle.clock_book.proofs.Nexts.{next-report}
-use Rattle.clock_book.proofs.Pasts.{either, past-same, past-more}
+use Rattle.clock_book.proofs.Pasts.{either, past-in-doubt, past-more}
 use Rattle.clock_book.proofs.Sizes.{contents-push, end-push, quantities-push}
 
 -- a report is pending where a payload is in doubt
@@ -44,27 +43,14 @@ none-pending f (Some q) e = absurd (cc)
 pub waiting : (n : NotedOf) (o : Option Report) (q : Report) → o ≡ Some q → IfSome o (IsWaiting n) → IsWaiting n q
 waiting n o q is waits = let P : Option Report → Type 0 = λ x. IfSome x (IsWaiting n) in subst P is waits
 
-pub marks-marked : (h : List Entry) (before now : ℕ) → marks_in h ≤ before → before ≤ now → Rose before now → marks_in (with_mark h) ≤ now
-marks-marked h before now most later rose = by (nat_lt (marks_in h) (2 ^ 64 - 1)) refl
-  where
-    by : (b : Bool) → nat_lt (marks_in h) (2 ^ 64 - 1) ≡ b → marks_in (cond b (h ++ Mark ∷ []) h) ≤ now
-    by true e = let m = marks-append h (Mark ∷ []) in let less = below e in omega (arith, m, less, most, rose)
-      where
-        below : nat_lt (marks_in h) (2 ^ 64 - 1) ≡ true → marks_in h + 1 ≤ 2 ^ 64 - 1
-        below t = grind (arith, nat_tests)
-    by false e = omega (arith, most, later)
+-- the marks are at most the faults, and one fault more was counted
+pub marks-marked : (h k : List Entry) (r : Report) (before now : ℕ) → k ≡ h ++ Mark r ∷ [] → min (marks_in h) (2 ^ 64 - 1) ≤ before → Rose before now → min (marks_in k) (2 ^ 64 - 1) ≤ now
+marks-marked h k r before now e most rose = let n = ap marks_in e in let m = marks-append h (Mark r ∷ []) in omega (arith, n, m, most, rose)
 
--- after a mark, or where no more can be counted
-pub ends-marked : (h : List Entry) → EndsInMark (with_mark h)
-ends-marked h = by (nat_lt (marks_in h) (2 ^ 64 - 1)) refl
-  where
-    by : (b : Bool) → nat_lt (marks_in h) (2 ^ 64 - 1) ≡ b → EndsInMark (cond b (h ++ Mark ∷ []) h)
-    by true e = inl (h, refl)
-    by false e = inr (grind (arith, nat_tests))
-
-pub after-marked : (o : Option Report) (h k : List Entry) → k ≡ with_mark h → IfSome o (λ r. EndsInMark k)
-after-marked None h k e = tt
-after-marked (Some q) h k e = let P : List Entry → Type 0 = λ l. EndsInMark l in subst P (sym e) (ends-marked h)
+doubted : (n : NotedOf) (o : Option Report) (q : Report) → o ≡ Some q → IfSome o (IsInDoubt n.history) → reports_in n.history ≡ n.clock.reports → IsMarkedBehind n.history (length n.clock.reports) q
+doubted n o q is doubt same =
+    let P : Option Report → Type 0 = λ x. IfSome x (IsInDoubt n.history) in
+    subst (λ (k : ℕ). IsMarkedBehind n.history k q) (ap length same) (subst P is doubt)
 
 waiting-same : (n m : NotedOf) (o : Option Report) → m.clock ≡ n.clock → m.spare_reports ≡ n.spare_reports → m.spare_quantities ≡ n.spare_quantities → IfSome o (IsWaiting n) → IfSome o (IsWaiting m)
 waiting-same n m None clock reports quantities waits = tt
@@ -107,11 +93,13 @@ module _ {D : Type 0} (j k : JournalOf D) (told told' : Type 0) (old new : Momen
   pub report-of : (q : Report) → IsNext n.clock q → IsReportOf origin.terms q
   report-of q next = next-report origin.terms n.clock q book.terms next
 
-  -- a mend failed: the report is still pending, and there is one mark more
-  pub mend-failed : (m : NotedOf) (q : Report) → pending ≡ Some q → k.pending ≡ j.pending → k.end ≡ j.end → k.spare ≡ j.spare → (told' → k.contents ≡ j.contents) → Rose faults faults' → Call q
-      → m.clock ≡ n.clock → m.history ≡ with_mark n.history → m.spare_reports ≡ n.spare_reports → m.spare_quantities ≡ n.spare_quantities → IsBook k told' new faults' m pending origin
-  mend-failed m q is same_pending same_end same_spare same_contents rose call clock history reports quantities =
+  -- a mend failed: the report is still pending, and the offered one is marked
+  pub mend-failed : (m : NotedOf) (q r : Report) → pending ≡ Some q → k.pending ≡ j.pending → k.end ≡ j.end → k.spare ≡ j.spare → (told' → k.contents ≡ j.contents) → Rose faults faults' → Call q
+      → m.clock ≡ n.clock → m.history ≡ n.history ++ Mark r ∷ [] → m.spare_reports ≡ n.spare_reports → m.spare_quantities ≡ n.spare_quantities → IsBook k told' new faults' m pending origin
+  mend-failed m q r is same_pending same_end same_spare same_contents rose call clock history reports quantities =
       let next = (waiting n pending q is book.waits).next in
+      let marked = doubted n pending q is book.doubt book.reports in
+      let here : IsMarkedBehind m.history (length n.clock.reports) q = subst (λ (h : List Entry). IsMarkedBehind h (length n.clock.reports) q) (sym history) (marked-later n.history (Mark r ∷ []) (length n.clock.reports) q marked) in
       record {
         terms = ap (λ c. c.terms) clock ∙ book.terms;
         number = ap (λ c. c.number) clock ∙ book.number;
@@ -120,11 +108,13 @@ module _ {D : Type 0} (j k : JournalOf D) (told told' : Type 0) (old new : Momen
         end = same_end ∙ book.end ∙ ap (λ c. length (front (contents_of (owner_in origin) c.reports))) (sym clock);
         in_doubt = same_pending ∙ book.in_doubt;
         waits = waiting-same n m pending clock reports quantities book.waits;
-        after = after-marked pending n.history m.history history;
-        marks = subst (λ (h : List Entry). marks_in h ≤ faults') (sym history) (marks-marked n.history faults faults' book.marks later rose);
+        doubt = doubt-later pending n.history m.history r history book.doubt;
+        reports = same-reports n.clock.reports n.history m.history r history book.reports ∙ ap (λ c. c.reports) (sym clock);
+        marks = marks-marked n.history m.history r faults faults' history book.marks rose;
         room = room-same n m (j.spare + kept_for pending) (k.spare + kept_for pending) clock reports quantities (ap (λ s. s + kept_for pending) same_spare) book.room;
         contents = λ t. same_contents t ∙ book.contents (tells t) ∙ ap (λ c. contents_of (owner_in origin) c.reports) (sym clock);
-        past = λ t. subst (λ (c : ClockHistory). KeepsPast origin c new) (sym clock) (past-same origin n.clock q book.are (report-of q next) old new book.opened next (book.past (tells t)) (own q call t));
+        past = λ t. subst (λ (c : ClockHistory). KeepsPast origin c m.history new) (sym clock)
+            (past-in-doubt origin n.clock q book.are (report-of q next) n.history m.history (Mark r ∷ []) history old new book.opened (book.past (tells t)) (own q call t) next here);
         first = λ t. book.first (tells t);
       }
 
@@ -140,19 +130,20 @@ module _ {D : Type 0} (j k : JournalOf D) (told told' : Type 0) (old new : Momen
         end = same_end ∙ book.end;
         in_doubt = none;
         waits = tt;
-        after = tt;
+        doubt = tt;
+        reports = book.reports;
         marks = let m = book.marks in omega (arith, m, later);
         room = let kept : kept_for pending ≡ 1 = ap kept_for is in room-same n n (j.spare + kept_for pending) (k.spare + 0) refl refl refl (omega (arith, spare, kept)) book.room;
         contents = λ t. same_contents t ∙ book.contents (tells t);
-        past = λ t. past-same origin n.clock q book.are (report-of q next) old new book.opened next (book.past (tells t)) (own q call t);
+        past = λ t. past-in-doubt origin n.clock q book.are (report-of q next) n.history n.history [] (sym (append-nil n.history)) old new book.opened (book.past (tells t)) (own q call t) next (doubted n pending q is book.doubt book.reports);
         first = λ t. book.first (tells t);
       }
 
   -- a report that the clock takes next is behind the others on the disk, and the clock took it
   pub one-more : (m : NotedOf) (q : Report) (e : Entry) → IsNext n.clock q → k.pending ≡ None → k.end ≡ j.end + 5 + length (payload q) → j.spare + kept_for pending ≤ k.spare + 1
-      → (told' → k.contents ≡ with_one_more j.contents (payload q)) → Call q → m.clock ≡ with_report n.clock q → m.history ≡ n.history ++ e ∷ [] → marks_in (e ∷ []) ≡ 0
+      → (told' → k.contents ≡ with_one_more j.contents (payload q)) → Call q → m.clock ≡ with_report n.clock q → m.history ≡ n.history ++ e ∷ [] → reports_in (e ∷ []) ≡ q ∷ [] → marks_in (e ∷ []) ≡ 0
       → n.spare_reports ≤ m.spare_reports + 1 → n.spare_quantities ≤ m.spare_quantities + length (concat q.demand) → IsBook k told' new faults' m None origin
-  one-more m q e next none grown spare more call clock history unmarked reports quantities =
+  one-more m q e next none grown spare more call clock history taken unmarked reports quantities =
       let report = report-of q next in
       record {
         terms = ap (λ c. c.terms) clock ∙ book.terms;
@@ -162,20 +153,23 @@ module _ {D : Type 0} (j k : JournalOf D) (told told' : Type 0) (old new : Momen
         end = grown ∙ ap (λ l. l + 5 + length (payload q)) book.end ∙ sym (end-push (owner_in origin) n.clock.reports q) ∙ ap (λ c. length (front (contents_of (owner_in origin) c.reports))) (sym clock);
         in_doubt = none;
         waits = tt;
-        after = tt;
-        marks = subst (λ (h : List Entry). marks_in h ≤ faults') (sym history) (let a = marks-append n.history (e ∷ []) in let m = book.marks in omega (arith, a, m, later, unmarked));
+        doubt = tt;
+        reports = ap reports_in history ∙ reports-append n.history (e ∷ []) ∙ (λ i. book.reports i ++ taken i) ∙ ap (λ c. c.reports) (sym clock);
+        marks = let h = ap marks_in history in let a = marks-append n.history (e ∷ []) in let m = book.marks in omega (arith, h, a, m, later, unmarked);
         room = room-less n m q (j.spare + kept_for pending) (k.spare + 0) clock reports quantities (omega (arith, spare)) book.room;
         contents = λ t. more t ∙ ap (λ x. with_one_more x (payload q)) (book.contents (tells t)) ∙ sym (contents-push (owner_in origin) n.clock.reports q) ∙ ap (λ c. contents_of (owner_in origin) c.reports) (sym clock);
-        past = λ t. subst (λ (c : ClockHistory). KeepsPast origin c new) (sym clock) (past-more origin n.clock q book.are report old new book.opened next (book.past (tells t)) (own q call t));
+        past = λ t. subst (λ (c : ClockHistory). KeepsPast origin c m.history new) (sym clock) (past-more origin n.clock q book.are report n.history m.history (e ∷ []) history old new book.opened (book.past (tells t)) (own q call t));
         first = λ t. book.first (tells t);
       }
 
-  -- an append failed: its report is pending, and there is one mark more
+  -- an append failed: its report is pending, and marked
   pub put-in-doubt : (m : NotedOf) (r : Report) → pending ≡ None → IsNext n.clock r → HasRoomFor n r → k.pending ≡ Some (payload r) → k.end ≡ j.end → j.spare ≤ k.spare + 1 → (told' → k.contents ≡ j.contents) → Rose faults faults' → Call r
-      → m.clock ≡ n.clock → m.history ≡ with_mark n.history → m.spare_reports ≡ n.spare_reports → m.spare_quantities ≡ n.spare_quantities → IsBook k told' new faults' m (Some r) origin
+      → m.clock ≡ n.clock → m.history ≡ n.history ++ Mark r ∷ [] → m.spare_reports ≡ n.spare_reports → m.spare_quantities ≡ n.spare_quantities → IsBook k told' new faults' m (Some r) origin
   put-in-doubt m r nothing next room doubt same_end spare same_contents rose call clock history reports quantities =
       let N : ClockHistory → Type 0 = λ c. IsNext c r in
       let none : kept_for pending ≡ 0 = ap kept_for nothing in
+      let marked : IsInDoubt m.history r = marked-now n.history m.history r history in
+      let same : reports_in m.history ≡ n.clock.reports = same-reports n.clock.reports n.history m.history r history book.reports in
       record {
         terms = ap (λ c. c.terms) clock ∙ book.terms;
         number = ap (λ c. c.number) clock ∙ book.number;
@@ -184,14 +178,17 @@ module _ {D : Type 0} (j k : JournalOf D) (told told' : Type 0) (old new : Momen
         end = same_end ∙ book.end ∙ ap (λ c. length (front (contents_of (owner_in origin) c.reports))) (sym clock);
         in_doubt = doubt;
         waits = record { next = subst N (sym clock) next; room = record { reports = omega (arith, room.reports, reports); quantities = omega (arith, room.quantities, quantities) } };
-        after = after-marked (Some r) n.history m.history history;
-        marks = subst (λ (h : List Entry). marks_in h ≤ faults') (sym history) (marks-marked n.history faults faults' book.marks later rose);
+        doubt = marked;
+        reports = same ∙ ap (λ c. c.reports) (sym clock);
+        marks = marks-marked n.history m.history r faults faults' history book.marks rose;
         room =
             let had = book.room in
             let first = room-same n m (j.spare + kept_for pending) (j.spare + kept_for pending) clock reports quantities refl book.room in
             record { reports = first.reports; quantities = first.quantities; records_are = omega (arith, first.records_are, spare, none) };
         contents = λ t. same_contents t ∙ book.contents (tells t) ∙ ap (λ c. contents_of (owner_in origin) c.reports) (sym clock);
-        past = λ t. subst (λ (c : ClockHistory). KeepsPast origin c new) (sym clock) (past-same origin n.clock r book.are (report-of r next) old new book.opened next (book.past (tells t)) (own r call t));
+        past = λ t. subst (λ (c : ClockHistory). KeepsPast origin c m.history new) (sym clock)
+            (past-in-doubt origin n.clock r book.are (report-of r next) n.history m.history (Mark r ∷ []) history old new book.opened (book.past (tells t)) (own r call t) next
+            (subst (λ (x : ℕ). IsMarkedBehind m.history x r) (ap length same) marked));
         first = λ t. book.first (tells t);
       }
 

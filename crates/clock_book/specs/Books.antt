@@ -1,5 +1,5 @@
 -- A clock book as its callers see it.
-use Rattle.std.specs.Prelude.{◌≡◌, ℕ, ◌+◌, ◌*◌, ◌≤◌, min, List, [], ◌∷◌, length, Option, Some, None, IfSome, IsTrue}
+use Rattle.std.specs.Prelude.{◌≡◌, ℕ, ◌+◌, ◌-◌, ◌*◌, ◌^◌, ◌≤◌, min, List, [], ◌∷◌, length, Option, Some, None, IfSome, IsTrue}
 use Rattle.std.specs.List.{concat}
 use Rattle.std.specs.Option.{option_map}
 use Rattle.lot_base.specs.Goods.{box_size}
@@ -15,7 +15,7 @@ use Rattle.recovery.specs.Entries.{payload_of, AreReportsOf}
 use Rattle.recovery.specs.Journaled.{contents_of}
 use Rattle.clock_book.specs.declared.entries.Entry.{Entry}
 use Rattle.clock_book.specs.declared.origins.Origin.{Origin}
-use Rattle.clock_book.specs.DeskHistories.{NotedOf, HasRoomFor, reports_in, marks_in, EndsInMark}
+use Rattle.clock_book.specs.DeskHistories.{NotedOf, HasRoomFor, reports_in, marks_in, IsInDoubt}
 use Rattle.clock_book.specs.Past.{owner_in, IsNext, IsEither, KeepsPast}
 
 -- the clock, the history of its desk, and the report that is pending: one that was offered and is in doubt since the disk failed
@@ -30,19 +30,20 @@ pub record BookOf (D : Type 0) : Type 0 where
   pub origin : Origin
 
 -- What a book keeps, as its callers see it. Its history is legal, and its records and their gate end within the limit of a file. The
--- disk's file stands for its reports, or for these and the pending one, at each image that a crash may leave now; and it stood for a
--- front of them since the opening was answered. A disk that tells told then.
+-- disk's file stands for its reports, or for these and the pending one, at each image that a crash may leave now; and since the opening
+-- was answered it stood for a front of them, or for such a front and a report in doubt there. A disk that tells told then. The marks are
+-- at most the faults of the disk, which are counted in 64 bits.
 pub record IsKept {D : Type 0} (told : Type 0) (ms : Moments) (faults : ℕ) (b : BookOf D) : Type 0 where
   pub legal : IsLegal b.state.clock
   pub terms : b.state.clock.terms ≡ b.origin.terms
   pub number : b.state.clock.number ≡ b.origin.clock
   pub reports : reports_in b.state.history ≡ b.state.clock.reports
-  pub marks : marks_in b.state.history ≤ faults
+  pub marks : min (marks_in b.state.history) (2 ^ 64 - 1) ≤ faults
   pub limit : length (front (contents_of (owner_in b.origin) b.state.clock.reports)) + 1 ≤ GREATEST_FILE
   pub next : IfSome b.state.pending (IsNext b.state.clock)
-  pub after : IfSome b.state.pending (λ r. EndsInMark b.state.history)
+  pub doubt : IfSome b.state.pending (IsInDoubt b.state.history)
   pub stands : told → Leaves (IsEither (owner_in b.origin) b.state.clock.reports b.state.pending) ms.now
-  pub past : told → KeepsPast b.origin b.state.clock ms
+  pub past : told → KeepsPast b.origin b.state.clock b.state.history ms
   pub first : told → IsTrue b.origin.told
 
 -- the quantities of these reports
@@ -80,9 +81,10 @@ pub record IsBook {D : Type 0} (j : JournalOf D) (told : Type 0) (ms : Moments) 
   pub end : j.end ≡ length (front (contents_of (owner_in origin) n.clock.reports))
   pub in_doubt : j.pending ≡ option_map (payload_of (length origin.terms.goods)) pending
   pub waits : IfSome pending (IsWaiting n)
-  pub after : IfSome pending (λ r. EndsInMark n.history)
-  pub marks : marks_in n.history ≤ faults
+  pub doubt : IfSome pending (IsInDoubt n.history)
+  pub reports : reports_in n.history ≡ n.clock.reports
+  pub marks : min (marks_in n.history) (2 ^ 64 - 1) ≤ faults
   pub room : HasRoom n (j.spare + kept_for pending)
   pub contents : told → j.contents ≡ contents_of (owner_in origin) n.clock.reports
-  pub past : told → KeepsPast origin n.clock ms
+  pub past : told → KeepsPast origin n.clock n.history ms
   pub first : told → IsTrue origin.told

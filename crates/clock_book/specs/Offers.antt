@@ -13,7 +13,6 @@ use Rattle.report_journal.specs.declared.spellings.TheConstants.{OPEN}
 use Rattle.recovery.specs.Entries.{payload_of}
 use Rattle.recovery.specs.Journaled.{Owner, contents_of}
 use Rattle.clock_book.specs.declared.entries.Entry.TheVariants as entry
-use Rattle.clock_book.specs.DeskHistories.{with_mark}
 use Rattle.clock_book.specs.Past.{IsEither}
 use Rattle.clock_book.specs.Books.{BookState}
 
@@ -24,9 +23,9 @@ taken s r = record { clock = with_report s.clock r; history = s.history ++ entry
 abbrev pub counted : BookState → Report → BookState
 counted s r = record { clock = with_report s.clock r; history = s.history ++ entry.Counted r ∷ []; pending = None }
 
--- one mark more
-abbrev pub marked : BookState → BookState
-marked s = record { clock = s.clock; history = with_mark s.history; pending = s.pending }
+-- a mark of this report more
+abbrev pub marked : BookState → Report → BookState
+marked s r = record { clock = s.clock; history = s.history ++ entry.Mark r ∷ []; pending = s.pending }
 
 -- another report is pending, or none is
 abbrev pub with_pending : Option Report → BookState → BookState
@@ -65,20 +64,20 @@ Answers owner answers.Taken mid r new = IsNew owner mid r × (new ≡ taken mid 
 Answers owner answers.Again mid r new = (judgement_of mid.clock r ≡ judged.Again) × (new ≡ mid)
 Answers owner (answers.Refused judgement) mid r new = (judgement_of mid.clock r ≡ judgement) × (judgement ≢ judged.Take) × (judgement ≢ judged.Again) × (new ≡ mid)
 Answers owner (answers.Full needed) mid r new = (judgement_of mid.clock r ≡ judged.Take) × (needed ≡ needed_for owner mid r) × (GREATEST_FILE < needed) × (new ≡ mid)
-Answers owner answers.DiskFault mid r new = IsNew owner mid r × (new ≡ marked (with_pending (Some r) mid))
+Answers owner answers.DiskFault mid r new = IsNew owner mid r × (new ≡ marked (with_pending (Some r) mid) r)
 Answers owner answers.NoMemory mid r new = ⊥
 
--- An offer: the mend fails, and a mark is all that is appended; or it does not, and an answer follows.
+-- An offer: the mend fails, and a mark of the offered report is all that is appended; or it does not, and an answer follows.
 abbrev pub IsOffer : Owner → BookState → Report → Offered → BookState → Type 0
 IsOffer owner old r answer new =
-    ((answer ≡ answers.DiskFault) × IsSome old.pending × (new ≡ marked old))
+    ((answer ≡ answers.DiskFault) × IsSome old.pending × (new ≡ marked old r))
     ⊎ ((mid : BookState) × IsMended old mid × Answers owner answer mid r new)
 
 -- What a crash at any moment of an offer leaves: the reports at its start or these and the pending one, and then the reports
 -- after the mend or these and the offered one. The file as it was when the call began decides the mend.
 abbrev pub OfferLeaves : Owner → BookState → Report → Offered → BookState → Moments → Moments → Type 0
 OfferLeaves owner old r answer new before after =
-    ((answer ≡ answers.DiskFault) × (new ≡ marked old) × AtEach (IsEither owner old.clock.reports old.pending) before after)
+    ((answer ≡ answers.DiskFault) × (new ≡ marked old r) × AtEach (IsEither owner old.clock.reports old.pending) before after)
     ⊎ ((mid : BookState) × IsMended old mid × Answers owner answer mid r new
     × ((between : Moments) × AtEach (IsEither owner old.clock.reports old.pending) before between × AtEach (IsEither owner mid.clock.reports (Some r)) between after)
     × IsByGate owner before.now.read old mid)

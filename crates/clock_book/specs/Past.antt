@@ -8,7 +8,9 @@ use Rattle.clock.specs.declared.judging.Judgement.TheVariants.{Take}
 use Rattle.house_io.specs.Moments.{Moments, Since}
 use Rattle.report_journal.specs.Format.{IsUnformed}
 use Rattle.recovery.specs.Journaled.{Owner, owner_of, StandsForReports}
+use Rattle.clock_book.specs.declared.entries.Entry.{Entry}
 use Rattle.clock_book.specs.declared.origins.Origin.{Origin}
+use Rattle.clock_book.specs.DeskHistories.{IsMarkedBehind}
 
 -- whose journal the book's is
 abbrev pub owner_in : Origin → Owner
@@ -28,14 +30,14 @@ pub record IsNext (c : ClockHistory) (r : Report) : Type 0 where
   pub take : judgement_of c r ≡ Take
   pub fits : IsDemand c.terms.goods r.demand
 
--- The file stood for a front of the reports that begins with those at opening, or for such a front and one report more,
--- which the clock took next.
-pub record StoodFor (origin : Origin) (c : ClockHistory) (file : List ℕ) : Type 0 where
+-- The file stood for a front of the reports that begins with those at opening, or for such a front and one report more, which the clock
+-- took next: the history of the desk has a mark of it there, so it was offered then, and answered by a fault of the disk.
+pub record StoodFor (origin : Origin) (c : ClockHistory) (history : List Entry) (file : List ℕ) : Type 0 where
   pub count : ℕ
   pub least : origin.reports ≤ count
   pub most : count ≤ length c.reports
   pub stands : StandsForReports (owner_in origin) (take count c.reports) file
-      ⊎ ((r : Report) × IsNext (first_of count c) r × StandsForReports (owner_in origin) (take count c.reports ++ r ∷ []) file)
+      ⊎ ((r : Report) × IsNext (first_of count c) r × IsMarkedBehind history count r × StandsForReports (owner_in origin) (take count c.reports ++ r ∷ []) file)
 
 -- The file is what it was at the sync with which the opening began. Where it was unformed then, it may also be unformed in another
 -- way, or stand for no reports.
@@ -43,6 +45,6 @@ abbrev pub IsAsOpened : Owner → List ℕ → List ℕ → Type 0
 IsAsOpened owner read file = (file ≡ read) ⊎ (IsUnformed read × (IsUnformed file ⊎ StandsForReports owner [] file))
 
 -- at each moment since the opening was answered, and at each moment since its sync
-pub record KeepsPast (origin : Origin) (c : ClockHistory) (ms : Moments) : Type 0 where
-  pub answered : Since (StoodFor origin c) origin.answered ms
-  pub synced : Since (λ file. StoodFor origin c file ⊎ IsAsOpened (owner_in origin) origin.read file) origin.synced ms
+pub record KeepsPast (origin : Origin) (c : ClockHistory) (history : List Entry) (ms : Moments) : Type 0 where
+  pub answered : Since (StoodFor origin c history) origin.answered ms
+  pub synced : Since (λ file. StoodFor origin c history file ⊎ IsAsOpened (owner_in origin) origin.read file) origin.synced ms

@@ -9,6 +9,7 @@ ghost use Rattle.clock.specs.Judging.{judgement_of};
 ghost use Rattle.recovery.specs.Journaled.{StandsForReports};
 ghost use Rattle.clock_book.specs.Past.{owner_in, IsEither};
 
+use crate::entries::Note;
 use crate::noted::NotedClock;
 use crate::origins::Start;
 use crate::payloads::Payload;
@@ -53,12 +54,12 @@ impl<D: Disk> Model for ClockBook<D> {
 impl<D: Disk> ClockBook<D> {
     ghost use Rattle.clock_book.specs.Offers.{marked, IsMended, IsByGate};
 
-    /// Counts or drops the pending report, if there is one. Where the disk fails it is still pending, and a mark is made.
-    fn settle_pending(&mut self, alloc: Global) -> Result<(), Failed>
+    /// Counts or drops the pending report, if there is one. Where the disk fails it is still pending, and the offered report is marked.
+    fn settle_pending(&mut self, alloc: Global, offered: &Report) -> Result<(), Failed>
         ensures mended { OnOk result (IsMended self.old.state self.new.state) }
         ensures gate { OnOk result (IsTrue (D.tells self.new.disk)
             → IsByGate (owner_in self.old.origin) (D.moments self.old.disk).now.read self.old.state self.new.state) }
-        ensures failed { OnErr result (IsSome self.old.state.pending × (self.new.state ≡ marked self.old.state)) }
+        ensures failed { OnErr result (IsSome self.old.state.pending × (self.new.state ≡ marked self.old.state offered.now)) }
         ensures cause { HasCause (D.faults self.old.disk) (D.faults self.new.disk) result }
         ensures origin { self.new.origin ≡ self.old.origin }
         ensures tells { IsTrue (D.tells self.new.disk) → IsTrue (D.tells self.old.disk) }
@@ -68,7 +69,7 @@ impl<D: Disk> ClockBook<D> {
         let _kept = self.journal.count();
         match self.journal.mend() {
             Err(_) => {
-                self.noted.mark();
+                self.noted.mark(offered);
                 Err(Failed)
             }
             Ok(Mended::Nothing) => Ok(()),
@@ -78,7 +79,7 @@ impl<D: Disk> ClockBook<D> {
             }
             Ok(Mended::Counted) => {
                 let pending = self.pending.take();
-                self.noted.take(alloc, pending.unwrap(), true);
+                self.noted.take(alloc, pending.unwrap(), Note::Counted);
                 Ok(())
             }
         }
@@ -106,13 +107,13 @@ impl<D: Disk> ClockBook<D> {
         self.payload.fill(self.start.terms(), &report);
         match self.journal.append(alloc, self.payload.as_slice()) {
             Ok(_) => {
-                self.noted.take(alloc, report, false);
+                self.noted.take(alloc, report, Note::Offered);
                 Offered::Taken
             }
             Err(JournalFault::Full(needed)) => Offered::Full(needed),
             Err(JournalFault::DiskFault) => {
+                self.noted.mark(&report);
                 self.pending = Some(report);
-                self.noted.mark();
                 Offered::DiskFault
             }
             Err(JournalFault::NotMended) => unreachable!(),
@@ -157,7 +158,7 @@ impl<D: Disk> ClockBook<D> {
         ensures moments { IsTrue (D.tells self.new.disk)
             → OfferLeaves (owner_in self.old.origin) self.old.state report result self.new.state (D.moments self.old.disk) (D.moments self.new.disk) }
     {
-        match self.settle_pending(alloc) {
+        match self.settle_pending(alloc, &report) {
             Err(Failed) => Offered::DiskFault,
             Ok(()) => self.judge_and_append(alloc, report),
         }

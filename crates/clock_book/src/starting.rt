@@ -78,10 +78,7 @@ fn read_noted<D: Disk>(
     let empty = Clock::with_room(alloc, terms, clock, most, quantities)?;
     match read_into(alloc, disk, empty, terms, clock, digest) {
         Err(fault) => Err(fault),
-        Ok((taken, scan)) => match NotedClock::new(alloc, taken, most) {
-            Err(NoMemory) => Err(OpenFault::NoMemory),
-            Ok(noted) => Ok((noted, scan)),
-        },
+        Ok((taken, scan)) => Ok((NotedClock::new(taken), scan)),
     }
 }
 

@@ -1,5 +1,5 @@
 -- An offer to a book in the words of its history alone.
-use Rattle.std.proofs.Common.{◌≡◌, ⊎_elim, ◌-◌, ◌^◌, ◌≤◌, Bool, true, false, nat_lt, cond, List, [], ◌∷◌, ◌++◌, length, Option, Some, None, refl, sym, ◌∙◌, ap, subst, arith, append-nil, append_assoc, length-append}
+use Rattle.std.proofs.Common.{◌≡◌, ⊎_elim, ◌≤◌, List, [], ◌∷◌, ◌++◌, length, Option, Some, None, refl, sym, ◌∙◌, ap, subst, arith, append-nil, append_assoc, length-append}
 use Rattle.std.specs.Prelude.{IfSome}
 use Rattle.lot_base.specs.declared.limits.TheConstants.{GREATEST_FILE}
 use Rattle.demand_set.specs.declared.reports.Report.{Report}
@@ -13,7 +13,7 @@ use Rattle.recovery.specs.Journaled.{Owner}
 use Rattle.clock_book.specs.Opening.{history_of}
 use Rattle.clock_book.specs.declared.entries.Entry.{Entry}
 use Rattle.clock_book.specs.declared.entries.Entry.TheVariants as entry
-use Rattle.clock_book.specs.DeskHistories.{marks_in, with_mark, EndsInMark}
+use Rattle.clock_book.specs.DeskHistories.{IsInDoubt}
 use Rattle.clock_book.specs.Books.{BookState}
 use Rattle.clock_book.specs.Offers.{record_end, IsOffer, Answers, counted, marked, with_pending}
 use Rattle.clock_book.proofs.Histories.{reports-append}
@@ -39,7 +39,7 @@ appends-from owner (answers.Refused judgement) mid new h r same clock is =
     (judged-there mid.clock (clock_in owner h) r judgement clock is.0, is.1, is.2, ap (λ (s : BookState). s.history) is.3 ∙ same)
 appends-from owner (answers.Full needed) mid new h r same clock is =
     (judged-there mid.clock (clock_in owner h) r judged.Take clock is.0, is.1 ∙ ap (λ (k : ClockHistory). record_end owner k.reports r) clock, is.2, ap (λ (s : BookState). s.history) is.3 ∙ same)
-appends-from owner answers.DiskFault mid new h r same clock is = ap (λ (s : BookState). s.history) is.1 ∙ ap with_mark same
+appends-from owner answers.DiskFault mid new h r same clock is = ap (λ (s : BookState). s.history) is.1 ∙ ap (λ l. l ++ entry.Mark r ∷ []) same
 appends-from owner answers.NoMemory mid new h r same clock is = absurd is
 
 clock-counted : (owner : Owner) (old : BookState) (q : Report) → old.clock ≡ clock_in owner old.history → with_report old.clock q ≡ clock_in owner (old.history ++ entry.Counted q ∷ [])
@@ -47,7 +47,7 @@ clock-counted owner old q e =
     ap (λ (k : ClockHistory). with_report k q) e
     ∙ ap (history_of owner) (sym (reports-append old.history (entry.Counted q ∷ [])))
 
-module _ (owner : Owner) (old new : BookState) (r : Report) (answer : Offered) (clock : old.clock ≡ clock_in owner old.history) (after : IfSome old.pending (λ q. EndsInMark old.history)) where
+module _ (owner : Owner) (old new : BookState) (r : Report) (answer : Offered) (clock : old.clock ≡ clock_in owner old.history) (doubt : IfSome old.pending (IsInDoubt old.history)) where
   none-counted : (mid : BookState) → mid ≡ with_pending None old → Answers owner answer mid r new → IsHistoryOffer owner old.history r answer new.history
   none-counted mid e is = record {
     counted = [];
@@ -58,40 +58,33 @@ module _ (owner : Owner) (old new : BookState) (r : Report) (answer : Offered) (
 
   one-counted : (mid : BookState) (q : Report) → old.pending ≡ Some q → mid ≡ counted old q → Answers owner answer mid r new → IsHistoryOffer owner old.history r answer new.history
   one-counted mid q some e is =
-      let P : Option Report → Type 0 = λ o. IfSome o (λ x. EndsInMark old.history) in
+      let P : Option Report → Type 0 = λ o. IfSome o (IsInDoubt old.history) in
       record {
         counted = entry.Counted q ∷ [];
-        is_counted = subst P some after;
+        is_counted = subst P some doubt;
         appends = appends-from owner answer mid new (old.history ++ entry.Counted q ∷ []) r (ap (λ (s : BookState). s.history) e)
             (ap (λ (s : BookState). s.clock) e ∙ clock-counted owner old q clock) is;
       }
 
-  not-mended : answer ≡ answers.DiskFault → new ≡ marked old → IsHistoryOffer owner old.history r answer new.history
+  not-mended : answer ≡ answers.DiskFault → new ≡ marked old r → IsHistoryOffer owner old.history r answer new.history
   not-mended fault e =
       let P : Offered → Type 0 = λ a. Appends owner a (old.history ++ []) r new.history in
       record {
         counted = [];
         is_counted = tt;
-        appends = subst P (sym fault) (ap (λ (s : BookState). s.history) e ∙ ap with_mark (sym (append-nil old.history)));
+        appends = subst P (sym fault) (ap (λ (s : BookState). s.history) e ∙ ap (λ l. l ++ entry.Mark r ∷ []) (sym (append-nil old.history)));
       }
 
   pub history-offer : IsOffer owner old r answer new → IsHistoryOffer owner old.history r answer new.history
   history-offer is = ⊎_elim (λ failed. not-mended failed.0 failed.2) (λ answered. ⊎_elim (λ none. none-counted answered.0 none answered.2) (λ one. one-counted answered.0 one.0 one.1 one.2 answered.2) answered.1) is
 
 -- no more than two entries are appended
-pub marks-on : (h : List Entry) → (more : List Entry) × (with_mark h ≡ h ++ more) × (length more ≤ 1)
-marks-on h = by (nat_lt (marks_in h) (2 ^ 64 - 1))
-  where
-    by : (b : Bool) → (more : List Entry) × (cond b (h ++ entry.Mark ∷ []) h ≡ h ++ more) × (length more ≤ 1)
-    by true = (entry.Mark ∷ [], refl, omega arith)
-    by false = ([], sym (append-nil h), omega arith)
-
 appended-on : (owner : Owner) (answer : Offered) (h after : List Entry) (r : Report) → Appends owner answer h r after → (more : List Entry) × (after ≡ h ++ more) × (length more ≤ 1)
 appended-on owner answers.Taken h after r is = (entry.Offered r ∷ [], is.2, omega arith)
 appended-on owner answers.Again h after r is = ([], is.1 ∙ sym (append-nil h), omega arith)
 appended-on owner (answers.Refused j) h after r is = ([], is.3 ∙ sym (append-nil h), omega arith)
 appended-on owner (answers.Full n) h after r is = ([], is.3 ∙ sym (append-nil h), omega arith)
-appended-on owner answers.DiskFault h after r is = let m = marks-on h in (m.0, is ∙ m.1, m.2)
+appended-on owner answers.DiskFault h after r is = (entry.Mark r ∷ [], is, omega arith)
 appended-on owner answers.NoMemory h after r is = absurd is
 
 counted-few : (h counted : List Entry) → IsCounted h counted → length counted ≤ 1
@@ -99,7 +92,7 @@ counted-few h [] is = omega arith
 counted-few h (entry.Counted q ∷ []) is = omega arith
 counted-few h (entry.Counted q ∷ e ∷ es) is = absurd is
 counted-few h (entry.Offered q ∷ es) is = absurd is
-counted-few h (entry.Mark ∷ es) is = absurd is
+counted-few h (entry.Mark q ∷ es) is = absurd is
 
 pub goes-on : (owner : Owner) (h after : List Entry) (r : Report) (answer : Offered) → IsHistoryOffer owner h r answer after → GoesOn h after
 goes-on owner h after r answer is =

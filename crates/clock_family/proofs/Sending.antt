@@ -15,13 +15,14 @@ use Rattle.clock_family.specs.contracts.houses.House.TheInside as inside_house
 use Rattle.clock_family.specs.contracts.houses.HousePass as house_pass
 use Rattle.clock_family.specs.contracts.houses.HousePass.TheInside as inside_pass
 use Rattle.clock_family.specs.contracts.house_books.HouseBookBook.TheImpl as impl
+use Rattle.http_server.proofs.log.Log.TheSendSync as logs
 use Rattle.turn_desk.specs.contracts.desk.Pass as pass
 use Rattle.turn_desk.specs.contracts.desk.Desk as desk
 use Rattle.turn_desk.proofs.desk.Desk.TheSendSync as desks
 use Rattle.turn_desk.proofs.desk.Pass.TheSendSync as passes
 
 pub clock_book-send : (D : RattleType) (G : Ghosts D.Denot) → IsSend D → IsSend (clock_book.the_row D G)
-clock_book-send D G s = search (sendable, crosses) depth 60 fits 200000
+clock_book-send D G s = search (sendable, crosses, logs.the_send) depth 60 fits 200000
 
 pub book-send : (D : RattleType) (G : Ghosts D.Denot) → IsSend D → IsSend (book.the_row D G)
 book-send D G s = let b = clock_book-send D G s in search (sendable, crosses) depth 40

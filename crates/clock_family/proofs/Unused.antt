@@ -10,12 +10,13 @@ use Rattle.house_io.specs.Moments.{Moments, Leaves}
 use Rattle.recovery.specs.Journaled.{Owner, owner_of}
 use Rattle.clock_book.specs.Opening.{history_of}
 use Rattle.clock_book.specs.Opened.{Opens}
-use Rattle.clock_book.specs.DeskHistories.{reports_in, marks_in, EndsInMark}
+use Rattle.clock_book.specs.DeskHistories.{reports_in, marks_in, IsInDoubt}
 use Rattle.clock_book.specs.Past.{owner_in, IsEither, KeepsPast}
 use Rattle.clock_book.specs.Books.{BookOf, BookState, IsKept}
 use Rattle.clock_book.specs.declared.entries.Entry.{Entry}
-use Rattle.clock_book.specs.declared.entries.Entry.TheVariants.{Offered, Counted, Mark}
+use Rattle.clock_book.specs.declared.entries.Entry.TheVariants.{Offered, Mark}
 use Rattle.clock_book.specs.declared.origins.Origin.{Origin}
+use Rattle.clock_book.proofs.Histories.{reports-opened, marks-opened, marks-append}
 use Rattle.turn_desk.specs.Histories.{one_if, between, total, times_at}
 use Rattle.turn_desk.specs.Passes.{Known, Closes}
 use Rattle.clock_family.specs.Opening.{LaidOf, IsGivenBack, AreGivenBack, WasOpened}
@@ -52,11 +53,11 @@ module _ {D : Type 0} (tells : D → Bool) (moments : D → Moments) where
   given-back b faults origin history disk kept same alike is =
       let clock : b.state.clock ≡ clock_in (owner_in b.origin) b.state.history = (λ i. record { terms = kept.terms i; number = kept.number i; reports = sym kept.reports i }) in
       let Stands : List Report → Type 0 = λ rs. Leaves (IsEither (owner_in b.origin) rs b.state.pending) (moments b.disk).now in
-      let Past : ClockHistory → Type 0 = λ c. KeepsPast b.origin c (moments b.disk) in
+      let Past : ClockHistory → Type 0 = λ c. KeepsPast b.origin c b.state.history (moments b.disk) in
       let here : IsGivenBack tells moments b.origin b.state.history b.disk = record {
         pending = b.state.pending;
         told = kept.first;
-        after = kept.after;
+        doubt = kept.doubt;
         stands = λ t. subst Stands (sym kept.reports) (kept.stands t);
         past = λ t. subst Past clock (kept.past t);
       } in
@@ -115,46 +116,34 @@ module _ {D : Type 0} (tells : D → Bool) (moments : D → Moments) (all : List
         e ∙ ap reverse taken.behind ∙ reverse-append rest (reverse taken.front) ∙ ap (λ z. z ++ reverse rest) (reverse-reverse taken.front),
       )
 
-reports-offered : (rs : List Report) → reports_in (map Offered rs) ≡ rs
-reports-offered [] = refl
-reports-offered (r ∷ rs) = ap (λ l. r ∷ l) (reports-offered rs)
+-- where each report is noted as offered, none is in doubt
+none-marked : (rs : List Report) (r : Report) → IsInDoubt (map Offered rs) r → ⊥
+none-marked rs r doubt =
+    let none = sym (ap marks_in doubt.is) ∙ marks-opened rs in
+    let some = marks-append doubt.before (Mark r ∷ doubt.behind) in
+    omega (arith, none, some)
 
--- reports that are noted as offered have no mark behind them
-no-marks : (rs : List Report) → marks_in (map Offered rs) ≡ 0
-no-marks [] = refl
-no-marks (r ∷ rs) = no-marks rs
-
-marks-last : (before : List Entry) → 1 ≤ marks_in (before ++ Mark ∷ [])
-marks-last [] = omega arith
-marks-last (Offered r ∷ before) = marks-last before
-marks-last (Counted r ∷ before) = marks-last before
-marks-last (Mark ∷ before) = omega arith
-
-no-end : (rs : List Report) → EndsInMark (map Offered rs) → ⊥
-no-end rs (inl (before, is)) = let none = sym (ap marks_in is) ∙ no-marks rs in let some = marks-last before in omega (arith, none, some)
-no-end rs (inr full) = let none = no-marks rs in omega (arith, none, full)
-
-none-in-doubt : (rs : List Report) (pending : Option Report) → IfSome pending (λ r. EndsInMark (map Offered rs)) → pending ≡ None
-none-in-doubt rs None after = refl
-none-in-doubt rs (Some r) after = absurd (no-end rs after)
+none-in-doubt : (rs : List Report) (pending : Option Report) → IfSome pending (IsInDoubt (map Offered rs)) → pending ≡ None
+none-in-doubt rs None doubt = refl
+none-in-doubt rs (Some r) doubt = absurd (none-marked rs r doubt)
 
 module _ {D : Type 0} (tells : D → Bool) (moments : D → Moments) (faults : D → ℕ) where
   pub was-opened : (owner : Owner) (old : D) (b : BookOf D) (new : D) → Opens tells moments faults owner old b → IsGivenBack tells moments b.origin b.state.history new → WasOpened tells moments faults owner old new
   was-opened owner old b new opens back =
       let of = opens.origin in
-      let reports : reports_in b.state.history ≡ b.state.clock.reports = ap (λ (s : BookState). reports_in s.history) opens.state ∙ reports-offered b.state.clock.reports in
+      let reports : reports_in b.state.history ≡ b.state.clock.reports = ap (λ (s : BookState). reports_in s.history) opens.state ∙ reports-opened b.state.clock.reports in
       let same : owner_in b.origin ≡ owner = (λ j. owner_of (of.terms_are j) (of.clock_is j) (of.digest_is j)) in
       let clock : clock_in (owner_in b.origin) b.state.history ≡ b.state.clock = (λ j. history_of (same j) (reports j)) ∙ sym opens.history.is in
-      let Ends : List Entry → Type 0 = λ h. IfSome back.pending (λ r. EndsInMark h) in
+      let Doubt : List Entry → Type 0 = λ h. IfSome back.pending (IsInDoubt h) in
       let history : b.state.history ≡ map Offered b.state.clock.reports = ap (λ (s : BookState). s.history) opens.state in
-      let none : back.pending ≡ None = none-in-doubt b.state.clock.reports back.pending (subst Ends history back.after) in
+      let none : back.pending ≡ None = none-in-doubt b.state.clock.reports back.pending (subst Doubt history back.doubt) in
       let Stands : List Report → Type 0 = λ rs. Leaves (IsEither (owner_in b.origin) rs None) (moments new).now in
-      let Doubt : Option Report → Type 0 = λ o. Leaves (IsEither (owner_in b.origin) (reports_in b.state.history) o) (moments new).now in
-      let Past : ClockHistory → Type 0 = λ c. KeepsPast b.origin c (moments new) in
+      let Either : Option Report → Type 0 = λ o. Leaves (IsEither (owner_in b.origin) (reports_in b.state.history) o) (moments new).now in
+      let Past : ClockHistory → Type 0 = λ c. KeepsPast b.origin c b.state.history (moments new) in
       record {
         first = b;
         opens = opens;
         told = λ t. subst IsTrue opens.told_is (back.told t);
-        stands = λ t. subst Stands reports (subst Doubt none (back.stands t));
+        stands = λ t. subst Stands reports (subst Either none (back.stands t));
         past = λ t. subst Past clock (back.past t);
       }

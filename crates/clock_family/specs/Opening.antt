@@ -6,7 +6,7 @@ use Rattle.demand_set.specs.declared.reports.Report.{Report}
 use Rattle.house_io.specs.Moments.{Moments, Leaves}
 use Rattle.recovery.specs.Journaled.{Owner, owner_of, StandsForReports}
 use Rattle.clock_book.specs.Books.{BookOf}
-use Rattle.clock_book.specs.DeskHistories.{reports_in, EndsInMark}
+use Rattle.clock_book.specs.DeskHistories.{reports_in, IsInDoubt}
 use Rattle.clock_book.specs.Opened.{Opens, IsUnopened}
 use Rattle.clock_book.specs.declared.faults.OpenFault.{OpenFault}
 use Rattle.clock_book.specs.Past.{owner_in, IsEither, KeepsPast}
@@ -36,14 +36,14 @@ pub record AreLaid {D : Type 0} (tells : D → Bool) (moments : D → Moments) (
 pub record IsUnused {D : Type 0} (l : LaidOf D) : Type 0 where
   pub made_nothing : AllByRecursion (λ (p : Known Entry Origin). p.own ≡ []) l.passes
 
--- The disk of a book of this history, given back: it stands for the reports of the history, or for these and the one that is in doubt,
--- and one is in doubt only where the history ends in a mark.
+-- The disk of a book of this history, given back: it stands for the reports of the history, or for these and the one that is pending,
+-- which is in doubt by the history.
 pub record IsGivenBack {D : Type 0} (tells : D → Bool) (moments : D → Moments) (origin : Origin) (history : List Entry) (disk : D) : Type 0 where
   pub pending : Option Report
   pub told : IsTrue (tells disk) → IsTrue origin.told
-  pub after : IfSome pending (λ r. EndsInMark history)
+  pub doubt : IfSome pending (IsInDoubt history)
   pub stands : IsTrue (tells disk) → Leaves (IsEither (owner_in origin) (reports_in history) pending) (moments disk).now
-  pub past : IsTrue (tells disk) → KeepsPast origin (clock_in (owner_in origin) history) (moments disk)
+  pub past : IsTrue (tells disk) → KeepsPast origin (clock_in (owner_in origin) history) history (moments disk)
 
 -- the disks of the books on these desks, in order
 abbrev pub AreGivenBack : {D : Type 0} → (D → Bool) → (D → Moments) → List (LaidOf D) → List D → Type 0
@@ -58,7 +58,7 @@ pub record WasOpened {D : Type 0} (tells : D → Bool) (moments : D → Moments)
   pub opens : Opens tells moments faults owner old first
   pub told : IsTrue (tells new) → IsTrue (tells first.disk)
   pub stands : IsTrue (tells new) → Leaves (StandsForReports (owner_in first.origin) first.state.clock.reports) (moments new).now
-  pub past : IsTrue (tells new) → KeepsPast first.origin first.state.clock (moments new)
+  pub past : IsTrue (tells new) → KeepsPast first.origin first.state.clock first.state.history (moments new)
 
 -- Why no house was opened: the clock of this number is the first whose book is not opened. The disks come back in order: those of
 -- smaller clocks as their books left them, and those of greater clocks were not touched.

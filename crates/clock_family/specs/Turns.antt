@@ -14,7 +14,7 @@ use Rattle.recovery.specs.Journaled.{Owner, owner_of}
 use Rattle.clock_book.specs.declared.entries.Entry.{Entry}
 use Rattle.clock_book.specs.declared.entries.Entry.TheVariants as entry
 use Rattle.clock_book.specs.declared.origins.Origin.{Origin}
-use Rattle.clock_book.specs.DeskHistories.{reports_in, with_mark, EndsInMark}
+use Rattle.clock_book.specs.DeskHistories.{reports_in, IsInDoubt}
 use Rattle.clock_book.specs.Opening.{history_of}
 use Rattle.clock_book.specs.Past.{owner_in}
 use Rattle.clock_book.specs.Offers.{record_end}
@@ -25,10 +25,10 @@ use Rattle.turn_desk.specs.Passes.{Opened, Known, at_turn, after_giving}
 abbrev pub clock_in : Owner → List Entry → ClockHistory
 clock_in owner history = history_of owner (reports_in history)
 
--- At most one report is counted first, and that only behind a mark.
+-- At most one report is counted first, and that only where it is in doubt.
 abbrev pub IsCounted : List Entry → List Entry → Type 0
 IsCounted history [] = Unit {0}
-IsCounted history (entry.Counted q ∷ []) = EndsInMark history
+IsCounted history (entry.Counted q ∷ []) = IsInDoubt history q
 IsCounted history _ = ⊥
 
 -- What each answer appends to the history in which it is judged, and when it comes. Want of memory is never answered.
@@ -40,10 +40,10 @@ Appends owner (answers.Refused judgement) history r after =
     (judgement_of (clock_in owner history) r ≡ judgement) × (judgement ≢ judged.Take) × (judgement ≢ judged.Again) × (after ≡ history)
 Appends owner (answers.Full needed) history r after =
     (judgement_of (clock_in owner history) r ≡ judged.Take) × (needed ≡ record_end owner (reports_in history) r) × (GREATEST_FILE < needed) × (after ≡ history)
-Appends owner answers.DiskFault history r after = after ≡ with_mark history
+Appends owner answers.DiskFault history r after = after ≡ history ++ entry.Mark r ∷ []
 Appends owner answers.NoMemory history r after = ⊥
 
--- An offer: a report that was in doubt may be counted, and then an answer follows.
+-- An offer: a report that is in doubt may be counted, and then an answer follows.
 pub record IsHistoryOffer (owner : Owner) (before : List Entry) (r : Report) (answer : Offered) (after : List Entry) : Type 0 where
   pub counted : List Entry
   pub is_counted : IsCounted before counted

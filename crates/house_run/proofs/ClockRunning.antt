@@ -1,6 +1,5 @@
 -- What a house that was opened and closed comes to at a clock and at its journal.
-use Rattle.std.proofs.Common.{◌≡◌, ◌∙◌, ℕ, Bool, IsTrue, List, [], ◌∷◌, map, refl, sym, ap, subst, None}
-use Rattle.demand_set.specs.declared.reports.Report.{Report}
+use Rattle.std.proofs.Common.{◌≡◌, ◌∙◌, ℕ, Bool, IsTrue, map, sym, ap, subst, None}
 use Rattle.house_io.specs.Moments.{Leaves, Moments}
 use Rattle.clock.specs.Reports.{ClockHistory}
 use Rattle.recovery.specs.Journaled.{Owner, owner_of}
@@ -11,12 +10,9 @@ use Rattle.clock_book.specs.Opening.{StandsForHistory, history_of}
 use Rattle.clock_book.specs.Past.{IsEither, owner_in}
 use Rattle.clock_book.specs.declared.entries.Entry.TheVariants.{Offered}
 use Rattle.clock_book.specs.declared.origins.Origin.{Origin}
+use Rattle.clock_book.proofs.Histories.{reports-opened as reports-offered}
 use Rattle.clock_family.specs.Opening.{WasOpened}
 use Rattle.house_run.specs.ClockRuns.{ClockRun, IsClockRun, IsJournalRun}
-
-reports-offered : (reports : List Report) → reports_in (map Offered reports) ≡ reports
-reports-offered [] = refl
-reports-offered (r ∷ reports) = ap (λ l. r ∷ l) (reports-offered reports)
 
 -- the run of a book that was opened as the first and closed as the second
 abbrev pub run_of : {D : Type 0} → BookOf D → BookOf D → ClockRun
@@ -56,7 +52,7 @@ module _ {D : Type 0} (tells : D → Bool) (moments : D → Moments) (faults : D
         };
         reports = kept.reports;
         next = kept.next;
-        after = kept.after;
+        doubt = kept.doubt;
       }
 
   -- where the disk tells at the closing, it told at the opening
@@ -87,7 +83,7 @@ module _ {D : Type 0} (tells : D → Bool) (moments : D → Moments) (faults : D
     history = was.opens.history;
     reports = reports-opened old was.first was.opens;
     next = tt;
-    after = tt;
+    doubt = tt;
   }
 
   pub was-journal : (old new : D) (was : WasOpened tells moments faults owner old new) → IsTrue (tells new) → IsJournalRun owner (run_of was.first (back_of was.first new)) (moments old) (moments new)

@@ -1,15 +1,13 @@
 -- Doors and books are given back one after another.
-use Rattle.std.proofs.Common.{◌≡◌, ◌∙◌, ◌<◌, ◌≤◌, ◌+◌, ◌-◌, ◌++◌, ℕ, Bool, true, false, IsTrue, List, [], ◌∷◌, length, map, reverse, Option, Some, None, arith, refl, sym, ap, subst, append_assoc, length-append}
-use Rattle.std.specs.Prelude.{min}
+use Rattle.std.proofs.Common.{◌≡◌, ◌∙◌, ◌≤◌, ◌-◌, ◌++◌, ℕ, Bool, IsTrue, List, [], ◌∷◌, length, map, reverse, Option, Some, None, arith, refl, sym, ap, subst, append_assoc, length-append}
 use Rattle.std.specs.List.{AllByRecursion}
 use Rattle.std.proofs.lemmas.List.{append-nil, map-append, reverse-append}
-use Rattle.house_io.specs.Faults.{Rose, raised_by}
+use Rattle.house_io.specs.Faults.{raised_by}
 use Rattle.house_io.specs.Moments.{Moments}
 use Rattle.house_io.specs.Nets.{NetLists, TakesDoor}
 use Rattle.house_io.specs.Told.{IfTold}
-use Rattle.clock.specs.Reports.{ClockHistory, ClockOf, histories}
+use Rattle.clock.specs.Reports.{ClockOf, histories}
 use Rattle.clock_book.specs.Books.{BookOf, IsKept}
-use Rattle.house_serve.specs.declared.ends.SessionEnd.{SessionEnd}
 use Rattle.house_run.specs.GivingBack.{TakesAll, raised_by_all}
 use Rattle.house_run.proofs.JournalSteps.{all-more}
 

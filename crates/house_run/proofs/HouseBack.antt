@@ -19,7 +19,6 @@ use Rattle.clock_family.proofs.Unused.{same-history}
 use Rattle.clock_family.specs.Houses.{AreClosed, HouseOf, HousePassOf, IsNewPass, column}
 use Rattle.clock_family.specs.declared.house_books.HouseBook.{HouseBook}
 use Rattle.turn_desk.specs.Passes.{Known, Opened}
-use Rattle.clock.specs.Reports.{ClockHistory}
 use Rattle.clock_book.specs.declared.entries.Entry.{Entry}
 use Rattle.clock_book.specs.declared.origins.Origin.{Origin}
 use Rattle.house_serve.specs.Houses.{DoorRun, IsRun, IsServed}
@@ -28,7 +27,6 @@ use Rattle.house_run.specs.GivingBack.{TakesAll, raised_by_all}
 use Rattle.house_run.specs.ClockRuns.{NoneFailed}
 use Rattle.house_run.specs.Hosting.{BooksBack, DoorsServed, HouseEnd, HouseOutcome, HouseServed, HouseUnused, LeavesNet, LogsOutcome, ServedAnswer, net_end}
 use Rattle.house_run.specs.declared.ends.Ended.{Ended}
-use Rattle.house_run.specs.declared.ends.Ended.TheVariants as how
 use Rattle.house_run.specs.declared.hosting.Hosted.{Hosted}
 use Rattle.house_run.proofs.GivingSteps.{map-map, raised-later, raised-none, told-then}
 

@@ -1,5 +1,5 @@
 -- From the disks of a house's journals to these disks again.
-use Rattle.std.proofs.Common.{◌≡◌, ◌≢◌, ◌∙◌, ◌<◌, ◌≤◌, ◌+◌, ℕ, zero, suc, Bool, true, false, IsTrue, List, [], ◌∷◌, length, map, get_or, Option, Result, Ok, Err, arith, inl, inr, refl, sym, ap, subst}
+use Rattle.std.proofs.Common.{◌≡◌, ◌∙◌, ◌<◌, ◌≤◌, ◌-◌, ◌^◌, min, ℕ, zero, suc, Bool, IsTrue, List, [], ◌∷◌, length, map, get_or, Option, Result, Ok, Err, arith, inl, inr, refl, sym, ap, subst}
 use Rattle.std.specs.List.{AllByRecursion, flat_map}
 use Rattle.std.specs.Prelude.{◌⊎◌}
 use Rattle.std.proofs.lemmas.Bool.{cases_lt}
@@ -11,12 +11,10 @@ use Rattle.house_io.specs.Links.{LinkBytes}
 use Rattle.house_io.specs.Moments.{Moments}
 use Rattle.house_io.specs.Nets.{NetLists}
 use Rattle.auction_file.specs.declared.listing.Auction.{Auction}
-use Rattle.clock.specs.Reports.{ClockHistory, histories}
+use Rattle.clock.specs.Reports.{ClockHistory}
 use Rattle.recovery.specs.Journaled.{Owner, owner_of}
 use Rattle.clock_book.specs.Books.{BookOf, IsKept}
 use Rattle.clock_book.specs.DeskHistories.{marks_in}
-use Rattle.clock_book.specs.declared.entries.Entry.{Entry}
-use Rattle.clock_book.specs.declared.origins.Origin.{Origin}
 use Rattle.clock_book.specs.Opened.{Opens}
 use Rattle.clock_book.specs.declared.faults.OpenFault.{OpenFault}
 use Rattle.clock_book.specs.declared.faults.OpenFault.TheVariants as why
@@ -24,13 +22,12 @@ use Rattle.clock_family.specs.Houses.{HouseOf, HousePassOf, IsNewPass, IsOpened}
 use Rattle.clock_family.specs.Opening.{IsNotOpen}
 use Rattle.clock_family.specs.Turns.{IsOf}
 use Rattle.clock_family.specs.declared.house_books.HouseBook.{HouseBook}
-use Rattle.turn_desk.specs.Passes.{Known, Opened}
+use Rattle.turn_desk.specs.Passes.{Opened}
 use Rattle.house_serve.specs.Houses.{DoorRun, Joins, turns_of}
 use Rattle.house_run.specs.ClockRuns.{AreNewPasses, BeginNew, ClockRun, IsClockRun, IsJournalRun, IsNewPassAt}
 use Rattle.house_run.specs.Hosting.{BooksBack, HostEnd, HostOutcome, HouseEnd, HouseNotServed, HouseOutcome, HouseServed, IsHosted, IsUnhosted, LeavesDisk, LeavesNet, ServedAnswer}
 use Rattle.house_run.specs.Status.{end_at}
 use Rattle.house_run.specs.declared.ends.Ended.{Ended}
-use Rattle.house_run.specs.declared.ends.Ended.TheVariants as how
 use Rattle.house_run.specs.declared.hosting.Hosted.{Hosted}
 use Rattle.house_run.proofs.DiskSteps.{some-of}
 use Rattle.house_run.proofs.GivingSteps.{told-same}
@@ -70,7 +67,7 @@ module _ {D : Type 0} (tells : D → Bool) (moments : D → Moments) (faults : D
     book : BookOf D
     run_is : (c : ClockRun) → get_or (runs_in desks books) k c ≡ run_of (get_or desks k desk).book.book (get_or books k book)
     clock : IsClockRun (owner_of terms k digest) (run_of (get_or desks k desk).book.book (get_or books k book))
-    marks : (d : D) → marks_in (get_or books k book).state.history ≤ faults (get_or disks k d)
+    marks : (d : D) → min (marks_in (get_or books k book).state.history) (2 ^ 64 - 1) ≤ faults (get_or disks k d)
     journal : (d : D) → IsTrue (tells (get_or disks k d)) → IsJournalRun (owner_of terms k digest) (run_of (get_or desks k desk).book.book (get_or books k book)) (moments (get_or old k d)) (moments (get_or disks k d))
 
   ran-at : (old disks : List D) (house : HouseOf D) (books : List (BookOf D)) → length house.desks ≡ length old
@@ -95,7 +92,7 @@ module _ {D : Type 0} (tells : D → Bool) (moments : D → Moments) (faults : D
         clock = clock-run tells moments faults (owner_of terms k digest) (get_or old k x) first closed (opens k x desk below) same kept;
         marks = λ d.
             let is : get_or disks k d ≡ closed.disk = ap (λ l. get_or l k d) back.disks_are ∙ get_or-map (λ (b : BookOf D). b.disk) books k book d inside in
-            subst (λ (y : D). marks_in closed.state.history ≤ faults y) (sym is) kept.marks;
+            subst (λ (y : D). min (marks_in closed.state.history) (2 ^ 64 - 1) ≤ faults y) (sym is) kept.marks;
         journal = λ d told.
             let is : get_or disks k d ≡ closed.disk = ap (λ l. get_or l k d) back.disks_are ∙ get_or-map (λ (b : BookOf D). b.disk) books k book d inside in
             let J : D → Type 0 = λ y. IsJournalRun (owner_of terms k digest) (run_of first closed) (moments (get_or old k d)) (moments y) in
@@ -182,7 +179,7 @@ module _ {D R L M : Type 0} (tells : D → Bool) (moments : D → Moments) (disk
             subst (λ (run : ClockRun). IsJournalRun (owner_of auction.terms k auction.digest) run (moments (get_or old k d)) (moments (get_or disks k d))) (sym (r.run_is c)) (r.journal d told_now);
         marks = λ k c d below.
             let r = at k (omega arith) in
-            subst (λ (run : ClockRun). marks_in run.closed.history ≤ disk_faults (get_or disks k d)) (sym (r.run_is c)) (r.marks d);
+            subst (λ (run : ClockRun). min (marks_in run.closed.history) (2 ^ 64 - 1) ≤ disk_faults (get_or disks k d)) (sym (r.run_is c)) (r.marks d);
         runs = served.runs;
         new = begin-all tells moments disk_faults auction.terms auction.digest count old disks house passes books served.runs opened back (subst (AllByRecursion (IsNewPass house)) served.passes_are opened.new);
         ran = served.ran;

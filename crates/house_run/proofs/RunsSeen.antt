@@ -7,11 +7,8 @@ use Rattle.house_io.specs.Links.{LinkBytes}
 use Rattle.house_io.specs.Told.{IfTold}
 use Rattle.auction_file.specs.declared.listing.Auction.{Auction}
 use Rattle.clock_family.specs.Houses.{HousePassOf}
-use Rattle.session.specs.declared.halls.Asked.{Asked}
-use Rattle.session.specs.Turns.{Turn}
 use Rattle.house_serve.specs.Doors.{AreVisits, Come, DoorTells, Visit}
 use Rattle.house_serve.specs.Houses.{DoorRun, IsRun, PassAllows, turns_of}
-use Rattle.house_serve.specs.declared.ends.SessionEnd.{SessionEnd}
 use Rattle.house_run.specs.DoorsSeen.{DoorSeen, LinkSeen, door_seen, link_seen, links_seen}
 
 pub told-by : {A B : Type 0} (f : A → B) (P : A → A → Type 0) (Q : B → B → Type 0) (before after : Option A) → ((x y : A) → P x y → Q (f x) (f y)) → IfTold before after P → IfTold (option_map f before) (option_map f after) Q

@@ -1,32 +1,28 @@
 -- The command serve: the auction is read, and then served on its journals.
-use Rattle.std.proofs.Common.{◌≡◌, ◌≢◌, ◌∙◌, ◌<◌, ◌≤◌, ◌+◌, ◌++◌, ℕ, List, [], ◌∷◌, length, map, get_or, Option, Some, None, Result, Ok, Err, Vec, Global, arith, inl, inr, refl, sym, ap, subst}
+use Rattle.std.proofs.Common.{◌≡◌, ◌∙◌, ◌+◌, ℕ, List, map, Option, Some, None, Ok, Err, arith, inl, inr, refl, sym, ap, subst}
 use Rattle.std.specs.Prelude.{◌⊎◌}
 use Rattle.clock.specs.Reports.{histories}
-use Rattle.house_io.specs.Faults.{Rose}
-use Rattle.house_io.specs.Shelves.{NamedFile, IfTells, IfWasTold, ChangesNone, file_of, moments_at, with_name}
+use Rattle.house_io.specs.Shelves.{NamedFile, IfTells, IfWasTold, ChangesNone, file_of, with_name}
 use Rattle.auction_file.specs.AuctionFile.{Listing}
 use Rattle.auction_file.specs.Listing.{listing_of}
 use Rattle.auction_file.specs.declared.listing.Auction.{Auction}
-use Rattle.house_run.specs.Causes.{FailedAt, Tells}
+use Rattle.house_run.specs.Causes.{FailedAt}
 use Rattle.house_serve.specs.Houses.{DoorRun}
 use Rattle.house_run.specs.ClockRuns.{ClockRun, NoneFailed}
 use Rattle.house_run.specs.DoorsSeen.{DoorSeen, LinkSeen}
 use Rattle.house_run.specs.Hosting.{IsNetEnd}
-use Rattle.command_line.specs.Commands.{Serve}
 use Rattle.house_run.specs.Disks.{IsJournalBelow, KeepsOthers}
-use Rattle.house_run.specs.Ends.{JobAnswer}
 use Rattle.house_run.specs.Found.{as_found, found, told_first}
-use Rattle.house_run.specs.Frame.{RisesAmong}
 use Rattle.house_run.specs.Journals.{IsFirstRefused}
-use Rattle.house_run.specs.Needs.{IsJournal, first_journals, journal_name, with_names}
+use Rattle.house_run.specs.Needs.{first_journals, journal_name, with_names}
 use Rattle.command_line.specs.Parts.{Serving}
 use Rattle.house_run.specs.NetEnds.{Ends, NetFrame}
 use Rattle.house_run.specs.Nets.{NetSeen, IsNetUntouched}
-use Rattle.house_run.specs.Seen.{Outside, ShelfSeen, IsAuctionAt, content}
+use Rattle.house_run.specs.Seen.{Outside, ShelfSeen, IsAuctionAt}
 use Rattle.house_run.specs.ServeCommand.{FailedSo, ServeDone, ServeFrame, ServedThen, serve_needs}
 use Rattle.house_run.specs.ServeTexts.{serve_text}
 use Rattle.house_run.specs.Serving.{AuctionNotServed, AuctionServed, JournalsServed, KeepsJournals, NotServing, ServesJournals}
-use Rattle.house_run.specs.Steps.{EndsAtAuction, EndsSo, OnlyReads}
+use Rattle.house_run.specs.Steps.{EndsAtAuction, OnlyReads}
 use Rattle.house_run.specs.declared.ends.Ended.{Ended}
 use Rattle.house_run.specs.declared.ends.Ended.TheVariants as how
 use Rattle.house_run.specs.declared.hosting.Hosted.{Hosted}

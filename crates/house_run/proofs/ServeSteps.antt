@@ -1,12 +1,12 @@
 -- The journals of an auction are opened, the auction is served, and they are given back.
-use Rattle.std.proofs.Common.{◌≡◌, ◌≢◌, ◌∙◌, ◌<◌, ◌≤◌, ◌+◌, ◌++◌, ℕ, zero, suc, Bool, false, IsTrue, List, [], ◌∷◌, length, map, take, drop, get_or, Option, Some, None, Result, Ok, Err, arith, inl, inr, refl, sym, ap, subst, option_map, unwrap_or}
+use Rattle.std.proofs.Common.{◌≡◌, ◌∙◌, ◌<◌, ◌≤◌, ◌+◌, ◌-◌, ◌^◌, ◌++◌, min, ℕ, Bool, IsTrue, List, [], ◌∷◌, length, map, take, get_or, Option, Some, None, Result, Ok, Err, arith, inl, inr, refl, sym, ap, subst, option_map, unwrap_or}
 use Rattle.std.specs.Prelude.{◌⊎◌, IfSome}
-use Rattle.std.specs.List.{AllByRecursion, flat_map}
+use Rattle.std.specs.List.{AllByRecursion}
 use Rattle.std.proofs.lemmas.Bool.{cases_lt}
 use Rattle.std.proofs.lemmas.List.Elements.{All-from_recursion}
 use Rattle.std.proofs.lemmas.List.{drop-map, length-map, map-append, take-map}
 use Rattle.house_io.specs.Doors.{DoorLinks, IsEmptyDoor}
-use Rattle.house_io.specs.Faults.{Rose, raised_by}
+use Rattle.house_io.specs.Faults.{Rose}
 use Rattle.house_io.specs.Links.{LinkBytes}
 use Rattle.house_io.specs.Moments.{Moments, opened}
 use Rattle.house_io.specs.Nets.{NetLists}
@@ -21,10 +21,10 @@ use Rattle.clock_book.specs.Opening.{IsOpening, ReadsClock, StandsForHistory}
 use Rattle.clock_family.specs.Opening.{IsNotOpen}
 use Rattle.clock_book.specs.declared.faults.OpenFault.{OpenFault}
 use Rattle.clock_book.specs.declared.faults.OpenFault.TheVariants as why
-use Rattle.house_serve.specs.Houses.{DoorRun, IsRun, Joins, turns_of}
+use Rattle.house_serve.specs.Houses.{DoorRun, Joins}
 use Rattle.house_run.specs.Causes.{FailedAt}
-use Rattle.house_run.specs.ClockRuns.{BeginNew, ClockRun, IsClockRun, IsJournalRun, LeavesJournal, NoneFailed}
-use Rattle.house_run.specs.Disks.{AreGivenBack, AreNotOpen, AreOpen, IsJournalBelow, IsNotOpened, KeepsMoments, KeepsOthers}
+use Rattle.house_run.specs.ClockRuns.{BeginNew, ClockRun, IsJournalRun, LeavesJournal, NoneFailed}
+use Rattle.house_run.specs.Disks.{AreGivenBack, AreNotOpen, AreOpen, IsJournalBelow, IsNotOpened, KeepsMoments}
 use Rattle.house_run.specs.DoorsSeen.{DoorSeen, LinkSeen, door_seen, link_seen, links_seen}
 use Rattle.house_run.specs.Frame.{RisesAmong}
 use Rattle.house_run.specs.Found.{told_first}
@@ -34,7 +34,7 @@ use Rattle.house_run.specs.Needs.{first_journals, journal_name, with_names}
 use Rattle.command_line.specs.Parts.{Serving}
 use Rattle.house_run.specs.Nets.{NetSeen, NetView, IsNetUntouched, net_view}
 use Rattle.house_run.specs.Seen.{ShelfSeen, content}
-use Rattle.house_run.specs.Serving.{AuctionServed, ClocksRan, DoorsServing, JoinAll, JournalsNotServed, JournalsServed, KeepsJournals, LeavesAll, LeavesNetAt, NotServing, ServesAt, ServesJournals}
+use Rattle.house_run.specs.Serving.{DoorsServing, JournalsNotServed, JournalsServed, KeepsJournals, LeavesNetAt, NotServing, ServesAt, ServesJournals}
 use Rattle.house_run.specs.Status.{end_at}
 use Rattle.house_run.specs.declared.ends.Ended.{Ended}
 use Rattle.house_run.specs.declared.ends.Ended.TheVariants as how
@@ -228,7 +228,7 @@ module _ {D : Type 0} (tells : D → Bool) (moments : D → Moments) (faults : D
 
   -- where a disk has a fault the count of its journal rose
   pub journal-failed : (k : ℕ) (d : D) (marks : ℕ) → k < length old → length disks ≡ length old → AreOpen tells moments faults journals old (between shelf.files_before files shelf.faults_before counts shelf.opened_before names)
-      → AreGivenBack tells moments faults journals disks (between files shelf.files counts shelf.faults names shelf.opened) → marks ≤ faults (get_or disks k d) → (marks ≡ 0) ⊎ FailedAt shelf (journal_name journals k)
+      → AreGivenBack tells moments faults journals disks (between files shelf.files counts shelf.faults names shelf.opened) → min marks (2 ^ 64 - 1) ≤ faults (get_or disks k d) → (marks ≡ 0) ⊎ FailedAt shelf (journal_name journals k)
   journal-failed k d marks below same are given few = of (cases_lt 0 marks)
     where
       of : (0 < marks) ⊎ (marks ≤ 0) → (marks ≡ 0) ⊎ FailedAt shelf (journal_name journals k)

@@ -17,11 +17,11 @@ use Rattle.bidder_agent.specs.Talks.{Agrees, HasCauseOf, Part}
 use Rattle.bidder_agent.specs.declared.agents.AgentEnd.{AgentEnd}
 use Rattle.bidder_agent.specs.declared.agents.AgentEnd.TheVariants as agent
 use Rattle.bidder_agent.specs.declared.agents.Seen.{Seen}
-use Rattle.house_run.specs.BidCommand.{BidFrame, Talked, bid_needs, look_line}
+use Rattle.house_run.specs.BidCommand.{BidFrame, bid_needs, look_line}
 use Rattle.house_run.specs.Frame.{Frame}
 use Rattle.command_line.specs.Parts.{IsPlayable, Bidding}
 use Rattle.command_line.specs.Commands.{Bid}
-use Rattle.house_run.specs.Dialling.{IsDialled, IsUndialled, LeavesTalk, PlaysIn, TalksOn, ended_by, part_in}
+use Rattle.house_run.specs.Dialling.{IsDialled, LeavesTalk, PlaysIn, TalksOn, ended_by, part_in}
 use Rattle.house_run.specs.Ends.{JobAnswer}
 use Rattle.house_run.specs.NetEnds.{Ends, NetFrame}
 use Rattle.house_run.specs.Nets.{NetSeen, NetView, net_view}

@@ -5,7 +5,7 @@ use Rattle.auction_file.specs.declared.faults.AuctionFault.{AuctionFault}
 use Rattle.auction_file.specs.declared.faults.AuctionFault.TheVariants as refused
 use Rattle.house_run.specs.Causes.{IsBadAuction}
 use Rattle.house_run.specs.Commands.{IsDone, needs_of}
-use Rattle.command_line.specs.Commands.{Bid, Check, Command, Fold, IsReady, Make, Serve, Settle, Spells, Standing, Trial}
+use Rattle.command_line.specs.Commands.{Command, Spells}
 use Rattle.house_run.specs.Ends.{CommandEnds, CommandFrame, JobAnswer, RunEnds, ShelfAnswer, Wrote, WroteLine, as_seen}
 use Rattle.house_run.specs.NetEnds.{Ends, NetFrame}
 use Rattle.house_run.specs.Needs.{Needs}

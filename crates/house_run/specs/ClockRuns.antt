@@ -5,7 +5,7 @@ use Rattle.house_io.specs.Moments.{Leaves, Moments, synced_at}
 use Rattle.lot_base.specs.declared.auction_terms.Terms.{Terms}
 use Rattle.recovery.specs.Journaled.{Owner, owner_of}
 use Rattle.clock_book.specs.Books.{BookState}
-use Rattle.clock_book.specs.DeskHistories.{EndsInMark, reports_in}
+use Rattle.clock_book.specs.DeskHistories.{IsInDoubt, reports_in}
 use Rattle.clock_book.specs.Opened.{LeftUnopened}
 use Rattle.clock_book.specs.Opening.{IsHistoryOf, StandsForHistory, history_of}
 use Rattle.clock_book.specs.Past.{IsEither, IsNext, KeepsPast, owner_in}
@@ -22,15 +22,15 @@ pub record ClockRun : Type 0 where
   pub opening : List Entry
   pub closed : BookState
 
--- The book is the owner's. At the opening each report was noted as offered, and the history at the closing is a legal one. A report is pending
--- only where the history ends in a mark, and the clock would take it next.
+-- The book is the owner's. At the opening each report was noted as offered, and the history at the closing is a legal one. A report that is
+-- pending is in doubt by the history of the desk, and the clock would take it next.
 pub record IsClockRun (owner : Owner) (run : ClockRun) : Type 0 where
   pub owner_is : owner_in run.origin ≡ owner
   pub opening_is : run.opening ≡ map Offered (reports_in run.opening)
   pub history : IsHistoryOf owner run.closed.clock
   pub reports : reports_in run.closed.history ≡ run.closed.clock.reports
   pub next : IfSome run.closed.pending (IsNext run.closed.clock)
-  pub after : IfSome run.closed.pending (λ r. EndsInMark run.closed.history)
+  pub doubt : IfSome run.closed.pending (IsInDoubt run.closed.history)
 
 -- A new pass of the clock's desk: it is of a book of this owner, has seen the history at the opening, and has made nothing.
 pub record IsNewPassAt (owner : Owner) (run : ClockRun) (pass : Known Entry Origin) : Type 0 where
@@ -58,7 +58,7 @@ pub record IsJournalRun (owner : Owner) (run : ClockRun) (before after : Moments
   pub stood : StandsForHistory owner (history_of owner (reports_in run.opening)) before.now.read
   pub read_is : run.origin.read ≡ before.now.read
   pub synced_is : run.origin.synced ≡ length (synced_at before).past
-  pub past : KeepsPast run.origin run.closed.clock after
+  pub past : KeepsPast run.origin run.closed.clock run.closed.history after
   pub stands : Leaves (IsEither owner run.closed.clock.reports run.closed.pending) after.now
 
 -- The book was closed as it was opened. As the history at an opening has no mark, no report is pending.

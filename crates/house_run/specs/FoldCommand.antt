@@ -1,12 +1,11 @@
 -- The command `fold SUPPLY BIDDERS CEILING LOG`: one clock over a log.
-use Rattle.std.specs.Prelude.{◌≡◌, ℕ, List, [], ◌∷◌, Some, codes, decimal}
+use Rattle.std.specs.Prelude.{◌≡◌, ℕ, List, Some}
 use Rattle.lot_base.specs.declared.auction_terms.Terms.{Terms}
 use Rattle.clock.specs.Reports.{ClockHistory}
 use Rattle.report_log.specs.Logs.{IsLogOf, log_limit}
 use Rattle.house_run.specs.Needs.{Needs, nothing_needed}
 use Rattle.house_run.specs.Seen.{ShelfSeen, IsRead}
 use Rattle.house_run.specs.Texts.{standing_of}
-use Rattle.command_line.specs.Words.{IsPlainWord, comma_list}
 
 abbrev pub fold_needs : Terms → List ℕ → Needs
 fold_needs terms log = record nothing_needed { log = Some (record { terms = terms; name = log }) }

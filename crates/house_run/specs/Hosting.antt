@@ -1,5 +1,5 @@
 -- What a house comes to that is opened on the disks of its journals, served at doors on a net, and closed.
-use Rattle.std.specs.Prelude.{◌≡◌, ◌≤◌, ◌<◌, ◌⊎◌, ◌++◌, ℕ, Bool, false, List, length, map, take, drop, slice_index_or, IsTrue, Option, Result, Ok, Err, vec_capacity}
+use Rattle.std.specs.Prelude.{◌≡◌, ◌≤◌, ◌<◌, ◌⊎◌, ◌++◌, ◌-◌, ◌^◌, min, ℕ, Bool, false, List, length, map, take, drop, slice_index_or, IsTrue, Option, Result, Ok, Err, vec_capacity}
 use Rattle.std.specs.List.{AllByRecursion, flat_map}
 use Rattle.house_io.specs.Doors.{DoorLinks, IsEmptyDoor}
 use Rattle.house_io.specs.Faults.{Rose}
@@ -159,7 +159,7 @@ module _ {D R L M : Type 0} (tells : D → Bool) (moments : D → Moments) (disk
     pub clocks_are : (k : ℕ) (c : ClockRun) → k < length clocks → IsClockRun (owner_of auction.terms k auction.digest) (slice_index_or clocks k c)
     pub journals_are : (k : ℕ) (c : ClockRun) (d : D) → k < length clocks → IsTrue (tells (slice_index_or disks k d))
         → IsJournalRun (owner_of auction.terms k auction.digest) (slice_index_or clocks k c) (moments (slice_index_or old k d)) (moments (slice_index_or disks k d))
-    pub marks : (k : ℕ) (c : ClockRun) (d : D) → k < length clocks → marks_in (slice_index_or clocks k c).closed.history ≤ disk_faults (slice_index_or disks k d)
+    pub marks : (k : ℕ) (c : ClockRun) (d : D) → k < length clocks → min (marks_in (slice_index_or clocks k c).closed.history) (2 ^ 64 - 1) ≤ disk_faults (slice_index_or disks k d)
     pub runs : List (DoorRun R M)
     pub new : BeginNew auction.terms auction.digest clocks runs
     pub ran : DoorsRan {L = L} told faults link_told link_faults auction count sessions runs told_before told_after

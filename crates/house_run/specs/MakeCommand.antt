@@ -4,7 +4,7 @@
 --
 -- T is the sum of the steps of all clocks, M the sum of all payments, and H the SHA-256 (FIPS 180-4) of the outcome's plain text in
 -- lowercase hexadecimal digits.
-use Rattle.std.specs.Prelude.{◌≡◌, ◌<◌, ◌+◌, ◌^◌, ℕ, ℤ, pos, ◌+ℤ◌, List, [], ◌∷◌, Some, codes, decimal}
+use Rattle.std.specs.Prelude.{◌≡◌, ◌+◌, ℕ, ℤ, pos, ◌+ℤ◌, List, [], ◌∷◌, Some, codes, decimal}
 use Rattle.std.specs.Fmt.{signed_decimal}
 use Rattle.sha2.specs.Sha256.{sha256}
 use Rattle.hex.specs.Hex.{encode_lower}
@@ -15,7 +15,6 @@ use Rattle.settlement.specs.declared.outcome.Outcome.{Outcome}
 use Rattle.outcome_text.specs.Lines.{line}
 use Rattle.outcome_text.specs.Plain.{plain_text}
 use Rattle.trial.specs.Making.{IsMade}
-use Rattle.command_line.specs.Arguments.{AreArguments, IsNumberOption}
 use Rattle.house_run.specs.Markets.{TriesAs}
 use Rattle.house_run.specs.Needs.{Needs, nothing_needed}
 

@@ -1,8 +1,7 @@
 -- The command `settle AUCTION JOURNALS [--json]`: what the clocks of an auction settle.
-use Rattle.std.specs.Prelude.{◌≡◌, ℕ, Bool, true, List, [], ◌∷◌, Some, codes}
+use Rattle.std.specs.Prelude.{◌≡◌, ℕ, Bool, true, List, Some}
 use Rattle.settlement.specs.declared.outcome.Outcome.{Outcome}
 use Rattle.settlement.specs.declared.outcome.Settlement.TheVariants.{Settled}
-use Rattle.command_line.specs.Arguments.{AreArguments, HasFlag}
 use Rattle.house_run.specs.Needs.{Needs, nothing_needed}
 use Rattle.house_run.specs.Outcomes.{SettlesAs, text_of_outcome}
 use Rattle.house_run.specs.Seen.{ShelfSeen}

@@ -1,5 +1,5 @@
 -- The command `standing AUCTION JOURNALS`: how each clock of an auction stands.
-use Rattle.std.specs.Prelude.{◌≡◌, ℕ, List, [], ◌∷◌, Some, codes}
+use Rattle.std.specs.Prelude.{◌≡◌, ℕ, List, Some}
 use Rattle.std.specs.List.{flat_map}
 use Rattle.lot_base.specs.declared.auction_terms.Terms.{Terms}
 use Rattle.clock.specs.Reports.{ClockHistory}
@@ -7,7 +7,6 @@ use Rattle.house_run.specs.Journals.{AreHistories}
 use Rattle.house_run.specs.Needs.{Needs, nothing_needed}
 use Rattle.house_run.specs.Seen.{ShelfSeen}
 use Rattle.house_run.specs.Texts.{standing_of}
-use Rattle.command_line.specs.Words.{IsPlainWord}
 
 abbrev pub standing_needs : List ℕ → List ℕ → Needs
 standing_needs auction journals = record nothing_needed { auction = Some auction; journals = Some journals }

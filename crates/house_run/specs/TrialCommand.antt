@@ -1,10 +1,9 @@
 -- The command `trial AUCTION VALUES [--workers N]`: what the clocks of an auction settle where each bidder reports what it demands by its valuation.
 -- The number of workers changes nothing of it.
-use Rattle.std.specs.Prelude.{◌≡◌, ℕ, List, [], ◌∷◌, Some, codes}
+use Rattle.std.specs.Prelude.{◌≡◌, ℕ, List, Some}
 use Rattle.lot_base.specs.declared.auction_terms.Terms.{Terms}
 use Rattle.settlement.specs.declared.outcome.Outcome.{Outcome}
 use Rattle.outcome_text.specs.Plain.{plain_text}
-use Rattle.command_line.specs.Arguments.{AreArguments, IsNumberOption}
 use Rattle.house_run.specs.Markets.{IsMarketAt, TriesAs}
 use Rattle.house_run.specs.Needs.{Needs, nothing_needed}
 use Rattle.house_run.specs.Seen.{ShelfSeen}

@@ -1,5 +1,5 @@
 -- The sessions of a door lead its pass on by their turns.
-use Rattle.std.proofs.Common.{◌≡◌, ◌⊎◌, inl, inr, ℕ, List, [], ◌∷◌, ◌++◌, Option, Some, None, refl, sym, ◌∙◌, subst, append_assoc}
+use Rattle.std.proofs.Common.{inl, inr, ℕ, List, [], ◌∷◌, ◌++◌, Option, Some, None, sym, subst}
 use Rattle.std.specs.List.{flat_map}
 use Rattle.house_io.specs.Links.{LinkBytes}
 use Rattle.auction_file.specs.declared.listing.Auction.{Auction}

@@ -1,5 +1,5 @@
 -- The doors of a house that was served and closed.
-use Rattle.std.proofs.Common.{◌≡◌, ℕ, zero, suc, ◌+◌, ◌<◌, ◌≤◌, List, [], ◌∷◌, length, map, get_or, refl, sym, ◌∙◌, ap, subst, arith}
+use Rattle.std.proofs.Common.{◌≡◌, ℕ, ◌<◌, List, [], ◌∷◌, length, map, get_or, ◌∙◌, subst, arith}
 use Rattle.std.specs.List.{AllByRecursion}
 use Rattle.house_io.specs.Links.{LinkBytes}
 use Rattle.house_io.specs.Doors.{DoorLinks}
@@ -9,7 +9,7 @@ use Rattle.clock_book.specs.Books.{BookOf}
 use Rattle.clock_book.specs.declared.entries.Entry.{Entry}
 use Rattle.clock_book.specs.declared.origins.Origin.{Origin}
 use Rattle.turn_desk.specs.Passes.{Known, Opened, Closes}
-use Rattle.clock_family.specs.Houses.{HouseOf, HousePassOf, IsNewPass, AreAllOf, AreClosed, still, column}
+use Rattle.clock_family.specs.Houses.{HouseOf, HousePassOf, IsNewPass, AreAllOf, AreClosed, still}
 use Rattle.clock_family.specs.declared.house_books.HouseBook.{HouseBook}
 use Rattle.house_serve.specs.Houses.{DoorRun, IsRun, Joins}
 use Rattle.house_serve.proofs.Leading.{seen_at, own_at}

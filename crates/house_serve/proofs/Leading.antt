@@ -1,29 +1,28 @@
 -- What the turns of a door come to at one clock.
-use Rattle.std.proofs.Common.{◌≡◌, ◌⊎◌, inl, inr, ⊎_elim, ℕ, zero, suc, ◌+◌, ◌-◌, ◌^◌, ◌<◌, ◌≤◌, Bool, true, false, nat_eq, nat_lt, cond, ◌&&◌, List, [], ◌∷◌, ◌++◌, length, map, take, drop, get_or, Option, Some, None, refl, sym, ◌∙◌, ap, subst, arith, append_assoc, append-nil, length-append}
+use Rattle.std.proofs.Common.{◌≡◌, ◌⊎◌, inl, inr, ⊎_elim, ℕ, zero, suc, ◌+◌, ◌-◌, Bool, true, false, nat_eq, cond, List, [], ◌∷◌, ◌++◌, length, map, take, drop, get_or, Option, Some, None, refl, sym, ◌∙◌, ap, subst, arith, append_assoc, append-nil, length-append}
 use Rattle.std.specs.Prelude.{find, option_map, Contains, slice_index_or}
 use Rattle.std.specs.List.{AllByRecursion, flat_map}
-use Rattle.std.proofs.lemmas.Bool.{cases_eq, ne_eqb, eq-eqb, eqb-true, ltb-true, and_parts}
-use Rattle.std.proofs.lemmas.Bool.Decides.{nat_tests}
+use Rattle.std.proofs.lemmas.Bool.{cases_eq, ne_eqb, eq-eqb, eqb-true, and_parts}
 use Rattle.std.proofs.lemmas.List.{drop_at}
 use Rattle.std.proofs.Math.Seq.{take-append_seam}
 use Rattle.std.proofs.lemmas.List.Elements.{Contains-append_left, Contains-append_right, Contains-push}
 use Rattle.demand_set.specs.declared.reports.Report.{Report}
-use Rattle.clock.specs.Reports.{ClockHistory, demand_in, is_named}
+use Rattle.clock.specs.Reports.{demand_in, is_named}
 use Rattle.clock.specs.Judging.{IsJudgement, IsInRound, judgement_of}
 use Rattle.clock.specs.declared.clocks.Look.{Look}
 use Rattle.clock.specs.declared.judging.Judgement.TheVariants as judged
 use Rattle.clock.specs.declared.judging.Offered.{Offered}
 use Rattle.clock.specs.declared.judging.Offered.TheVariants as said
 use Rattle.clock.proofs.Judges.{judgement-is}
-use Rattle.clock_book.specs.DeskHistories.{marks_in, reports_in, with_mark, EndsInMark}
+use Rattle.clock_book.specs.DeskHistories.{reports_in, IsInDoubt}
 use Rattle.clock_book.specs.Past.{owner_in}
 use Rattle.clock_book.specs.declared.entries.Entry.{Entry}
 use Rattle.clock_book.specs.declared.entries.Entry.TheVariants as entry
 use Rattle.clock_book.specs.declared.origins.Origin.{Origin}
-use Rattle.clock_book.proofs.Histories.{reports-append, marks-append}
+use Rattle.clock_book.proofs.Histories.{reports-append}
 use Rattle.turn_desk.specs.Histories.{StartsWith, placed}
-use Rattle.turn_desk.specs.Passes.{Known, at_turn, after_giving}
-use Rattle.clock_family.specs.Turns.{IsCounted, Appends, IsHistoryOffer, PassOffers, PassLooks, OffersAt, LooksAt, OthersStay, clock_in}
+use Rattle.turn_desk.specs.Passes.{Known}
+use Rattle.clock_family.specs.Turns.{IsCounted, PassOffers, PassLooks, clock_in}
 use Rattle.clock_family.specs.Houses.{HousePassOf, still}
 use Rattle.session.specs.declared.halls.Asked.{Asked}
 use Rattle.session.specs.declared.halls.Asked.TheVariants as asked
@@ -34,28 +33,28 @@ use Rattle.house_serve.specs.Houses.{PassAllows, seen_of, mark_place, mark_place
 abbrev pub own_of : HousePassOf → ℕ → List (ℕ × Entry)
 own_of p clock = slice_index_or (map (λ q. q.own) p.passes) clock []
 
--- the places of own entries: those of marks, and those of reports that are noted as offered
-abbrev pub mark_in : ℕ → Entry → List ℕ
+-- own entries that are marks, and those that are reports noted as offered, each as a report at its place
+abbrev pub mark_in : ℕ → Entry → List (ℕ × Report)
 mark_in place (entry.Offered r) = []
 mark_in place (entry.Counted r) = []
-mark_in place entry.Mark = place ∷ []
+mark_in place (entry.Mark r) = (place, r) ∷ []
 
-abbrev pub offered_in : ℕ → Entry → List ℕ
-offered_in place (entry.Offered r) = place ∷ []
+abbrev pub offered_in : ℕ → Entry → List (ℕ × Report)
+offered_in place (entry.Offered r) = (place, r) ∷ []
 offered_in place (entry.Counted r) = []
-offered_in place entry.Mark = []
+offered_in place (entry.Mark r) = []
 
-abbrev pub marks_own : List (ℕ × Entry) → List ℕ
+abbrev pub marks_own : List (ℕ × Entry) → List (ℕ × Report)
 marks_own own = flat_map (λ (e : ℕ × Entry). mark_in e.0 e.1) own
 
-abbrev pub offers_own : List (ℕ × Entry) → List ℕ
+abbrev pub offers_own : List (ℕ × Entry) → List (ℕ × Report)
 offers_own own = flat_map (λ (e : ℕ × Entry). offered_in e.0 e.1) own
 
--- an own entry that is a report noted as counted: the history before it ends with a mark
+-- an own entry that is a report noted as counted: it was in doubt by the history before it
 abbrev pub IsBehind : List Entry → ℕ × Entry → Type 0
 IsBehind closed (place, entry.Offered r) = Unit {0}
-IsBehind closed (place, entry.Counted r) = EndsInMark (take place closed)
-IsBehind closed (place, entry.Mark) = Unit {0}
+IsBehind closed (place, entry.Counted r) = IsInDoubt (take place closed) r
+IsBehind closed (place, entry.Mark r) = Unit {0}
 
 abbrev pub AreBehind : List Entry → List (ℕ × Entry) → Type 0
 AreBehind closed own = AllByRecursion (IsBehind closed) own
@@ -64,7 +63,7 @@ AreBehind closed own = AllByRecursion (IsBehind closed) own
 abbrev IsPlain : Entry → Type 0
 IsPlain (entry.Offered r) = Unit {0}
 IsPlain (entry.Counted r) = ⊥
-IsPlain entry.Mark = Unit {0}
+IsPlain (entry.Mark r) = Unit {0}
 
 pub all-append : {A : Type 0} (P : A → Type 0) (xs ys : List A) → AllByRecursion P xs → AllByRecursion P ys → AllByRecursion P (xs ++ ys)
 all-append P [] ys px py = py
@@ -120,35 +119,28 @@ again_held origin history r e =
     let is : IsInRound (clock_in (owner_in origin) history) r × (demand_in (reports_in history) r.round r.bidder ≡ Some r.demand) = subst (IsJudgement (clock_in (owner_in origin) history) r) e (judgement-is (clock_in (owner_in origin) history) r) in
     named (reports_in history) r is.1
 
-marked : (h : List Entry) → ((with_mark h ≡ h ++ entry.Mark ∷ [])) ⊎ ((with_mark h ≡ h) × (2 ^ 64 - 1 ≤ marks_in h))
-marked h = by (nat_lt (marks_in h) (2 ^ 64 - 1)) refl
-  where
-    by : (b : Bool) → nat_lt (marks_in h) (2 ^ 64 - 1) ≡ b → (cond b (h ++ entry.Mark ∷ []) h ≡ h ++ entry.Mark ∷ []) ⊎ ((cond b (h ++ entry.Mark ∷ []) h ≡ h) × (2 ^ 64 - 1 ≤ marks_in h))
-    by true e = inl refl
-    by false e = inr (refl, grind (arith, nat_tests))
-
 few_counted : (history counted : List Entry) → IsCounted history counted → (counted ≡ []) ⊎ ((q : Report) × (counted ≡ entry.Counted q ∷ []))
 few_counted history [] h = inl refl
 few_counted history (entry.Counted q ∷ []) h = inr (q, refl)
 few_counted history (entry.Counted q ∷ e ∷ es) h = absurd h
 few_counted history (entry.Offered q ∷ es) h = absurd h
-few_counted history (entry.Mark ∷ es) h = absurd h
+few_counted history (entry.Mark q ∷ es) h = absurd h
 
 plain_behind : (closed : List Entry) (place : ℕ) (added : List Entry) → AllByRecursion IsPlain added → AreBehind closed (placed place added)
 plain_behind closed place [] plain = tt
 plain_behind closed place (entry.Offered r ∷ added) plain = (tt, plain_behind closed (place + 1) added plain.1)
 plain_behind closed place (entry.Counted r ∷ added) plain = absurd plain.0
-plain_behind closed place (entry.Mark ∷ added) plain = (tt, plain_behind closed (place + 1) added plain.1)
+plain_behind closed place (entry.Mark r ∷ added) plain = (tt, plain_behind closed (place + 1) added plain.1)
 
--- an offer counts a report only behind a mark, and what it appends behind that is not counted
+-- an offer counts a report only where it is in doubt, and what it appends behind that is not counted
 counted_behind : (closed history counted added : List Entry) → IsCounted history counted → AllByRecursion IsPlain added → StartsWith closed history → AreBehind closed (placed (length history) (counted ++ added))
 counted_behind closed history [] added is plain goes = plain_behind closed (length history) added plain
 counted_behind closed history (entry.Counted q ∷ []) added is plain goes =
     let front : take (length history) closed ≡ history = ap (take (length history)) goes.1 ∙ take-append_seam history goes.0 in
-    (subst (λ (l : List Entry). EndsInMark l) (sym front) is, plain_behind closed (length history + 1) added plain)
+    (subst (λ (l : List Entry). IsInDoubt l q) (sym front) is, plain_behind closed (length history + 1) added plain)
 counted_behind closed history (entry.Counted q ∷ e ∷ es) added is plain goes = absurd is
 counted_behind closed history (entry.Offered q ∷ es) added is plain goes = absurd is
-counted_behind closed history (entry.Mark ∷ es) added is plain goes = absurd is
+counted_behind closed history (entry.Mark q ∷ es) added is plain goes = absurd is
 
 -- the entries that an offer appends, behind the one that it may count
 appended : (place : ℕ) (counted added : List Entry) → (counted ≡ []) ⊎ ((q : Report) × (counted ≡ entry.Counted q ∷ []))
@@ -162,22 +154,22 @@ appended place counted added (inr h) =
     let P : List Entry → Type 0 = λ p. (marks_own (placed place (p ++ added)) ≡ marks_own (placed (place + length p) added)) × (offers_own (placed place (p ++ added)) ≡ offers_own (placed (place + length p) added)) in
     subst P (sym h.1) (refl, refl)
 
--- the place of the last entry, if it is one of a mark or of a report that is noted as offered
-abbrev mark_by : ℕ → Offered → List ℕ
-mark_by place said.Taken = []
-mark_by place said.Again = []
-mark_by place (said.Refused judgement) = []
-mark_by place (said.Full needed) = []
-mark_by place said.DiskFault = place ∷ []
-mark_by place said.NoMemory = []
+-- the report of an offer at the place of the last entry, if that is a mark of it, or the report noted as offered
+abbrev mark_by : ℕ → Report → Offered → List (ℕ × Report)
+mark_by place r said.Taken = []
+mark_by place r said.Again = []
+mark_by place r (said.Refused judgement) = []
+mark_by place r (said.Full needed) = []
+mark_by place r said.DiskFault = (place, r) ∷ []
+mark_by place r said.NoMemory = []
 
-abbrev taken_by : ℕ → Offered → List ℕ
-taken_by place said.Taken = place ∷ []
-taken_by place said.Again = []
-taken_by place (said.Refused judgement) = []
-taken_by place (said.Full needed) = []
-taken_by place said.DiskFault = []
-taken_by place said.NoMemory = []
+abbrev taken_by : ℕ → Report → Offered → List (ℕ × Report)
+taken_by place r said.Taken = (place, r) ∷ []
+taken_by place r said.Again = []
+taken_by place r (said.Refused judgement) = []
+taken_by place r (said.Full needed) = []
+taken_by place r said.DiskFault = []
+taken_by place r said.NoMemory = []
 
 abbrev HeldBy : List Entry → Report → Offered → Type 0
 HeldBy closed r said.Taken = Holds r closed
@@ -228,15 +220,15 @@ record Offers (closed : List Entry) (r : Report) (answer : Offered) (old new : K
   pub entries : List (ℕ × Entry)
   pub starts : StartsWith new.seen old.seen
   pub own : new.own ≡ old.own ++ entries
-  pub marks : marks_in closed < 2 ^ 64 - 1 → StartsWith closed new.seen → marks_own entries ≡ mark_by (length new.seen - 1) answer
-  pub offers : offers_own entries ≡ taken_by (length new.seen - 1) answer
+  pub marks : marks_own entries ≡ mark_by (length new.seen - 1) r answer
+  pub offers : offers_own entries ≡ taken_by (length new.seen - 1) r answer
   pub held : StartsWith closed new.seen → HeldBy closed r answer
   pub behind : StartsWith closed new.seen → AreBehind closed entries
 
 module _ (closed : List Entry) (r : Report) where
   -- an offer that appended nothing behind what may have been counted
-  nothing : (answer : Offered) (old new : Known Entry Origin) → Grown [] old new → mark_by (length new.seen - 1) answer ≡ [] → taken_by (length new.seen - 1) answer ≡ [] → (StartsWith closed new.seen → HeldBy closed r answer) → Offers closed r answer old new
-  nothing answer old new g no_mark no_offer held = record { entries = g.entries; starts = g.starts; own = g.own; marks = λ few goes. g.marks ∙ sym no_mark; offers = g.offers ∙ sym no_offer; held = held; behind = g.behind closed }
+  nothing : (answer : Offered) (old new : Known Entry Origin) → Grown [] old new → mark_by (length new.seen - 1) r answer ≡ [] → taken_by (length new.seen - 1) r answer ≡ [] → (StartsWith closed new.seen → HeldBy closed r answer) → Offers closed r answer old new
+  nothing answer old new g no_mark no_offer held = record { entries = g.entries; starts = g.starts; own = g.own; marks = g.marks ∙ sym no_mark; offers = g.offers ∙ sym no_offer; held = held; behind = g.behind closed }
 
   offers_by : (answer : Offered) (old new : Known Entry Origin) → PassOffers r answer old new → Offers closed r answer old new
   offers_by said.Taken old new h =
@@ -248,8 +240,8 @@ module _ (closed : List Entry) (r : Report) where
         entries = g.entries;
         starts = g.starts;
         own = g.own;
-        marks = λ few goes. g.marks;
-        offers = g.offers ∙ ap (λ (k : ℕ). k ∷ []) n;
+        marks = g.marks;
+        offers = g.offers ∙ ap (λ (k : ℕ). (k, r) ∷ []) n;
         held = λ goes. held_on r (point ++ entry.Offered r ∷ []) closed (held_new r point) (subst (λ (l : List Entry). StartsWith closed l) (seen_is r said.Taken old new h ∙ is) goes);
         behind = g.behind closed;
       }
@@ -264,47 +256,33 @@ module _ (closed : List Entry) (r : Report) where
   offers_by (said.Full needed) old new h =
       let point = h.before ++ h.offers.counted in
       nothing (said.Full needed) old new (grown r (said.Full needed) old new h [] tt (h.offers.appends.3 ∙ sym (append-nil point))) refl refl (λ goes. tt)
-  offers_by said.DiskFault old new h = by (marked (h.before ++ h.offers.counted))
-    where
-      point : List Entry
-      point = h.before ++ h.offers.counted
-
-      by : ((with_mark point ≡ point ++ entry.Mark ∷ [])) ⊎ ((with_mark point ≡ point) × (2 ^ 64 - 1 ≤ marks_in point)) → Offers closed r said.DiskFault old new
-      by (inl e) =
-          let g = grown r said.DiskFault old new h (entry.Mark ∷ []) (tt, tt) (h.offers.appends ∙ e) in
-          let n : g.place ≡ length new.seen - 1 = (let s = g.size in omega (arith, s)) in
-          record { entries = g.entries; starts = g.starts; own = g.own; marks = λ few goes. g.marks ∙ ap (λ (k : ℕ). k ∷ []) n; offers = g.offers; held = λ goes. tt; behind = g.behind closed }
-      by (inr e) =
-          let g = grown r said.DiskFault old new h [] tt (h.offers.appends ∙ e.0 ∙ sym (append-nil point)) in
-          let is : new.seen ≡ point = seen_is r said.DiskFault old new h ∙ h.offers.appends ∙ e.0 in
-          record {
-            entries = g.entries;
-            starts = g.starts;
-            own = g.own;
-            marks = λ few goes. absurd (let a = ap marks_in (goes.1 ∙ ap (λ (l : List Entry). l ++ goes.0) is) in let b = marks-append point goes.0 in let m = e.1 in omega (arith, a, b, m, few));
-            offers = g.offers;
-            held = λ goes. tt;
-            behind = g.behind closed;
-          }
+  offers_by said.DiskFault old new h =
+      let g = grown r said.DiskFault old new h (entry.Mark r ∷ []) (tt, tt) h.offers.appends in
+      let n : g.place ≡ length new.seen - 1 = (let s = g.size in omega (arith, s)) in
+      record { entries = g.entries; starts = g.starts; own = g.own; marks = g.marks ∙ ap (λ (k : ℕ). (k, r) ∷ []) n; offers = g.offers; held = λ goes. tt; behind = g.behind closed }
   offers_by said.NoMemory old new h = absurd h.offers.appends
 
-hit : (c clock n : ℕ) → c ≡ clock → cond (nat_eq c clock) (n ∷ []) [] ≡ n ∷ []
-hit c clock n e = ap (λ (b : Bool). cond b (n ∷ []) []) (eq-eqb c clock e)
+hit : {A : Type 0} (c clock : ℕ) (x : A) → c ≡ clock → cond (nat_eq c clock) (x ∷ []) [] ≡ x ∷ []
+hit c clock x e = ap (λ (b : Bool). cond b (x ∷ []) []) (eq-eqb c clock e)
 
-miss : (c clock n : ℕ) → (c ≡ clock → ⊥) → cond (nat_eq c clock) (n ∷ []) [] ≡ []
-miss c clock n e = ap (λ (b : Bool). cond b (n ∷ []) []) (ne_eqb c clock e)
+miss : {A : Type 0} (c clock : ℕ) (x : A) → (c ≡ clock → ⊥) → cond (nat_eq c clock) (x ∷ []) [] ≡ []
+miss c clock x e = ap (λ (b : Bool). cond b (x ∷ []) []) (ne_eqb c clock e)
 
--- the places of an offer to this clock
-mark_here : (clock : ℕ) (now : HousePassOf) (bidder round : ℕ) (demand : List (List ℕ)) (answer : Offered) → mark_place clock now (Some (asked.Offer clock bidder round demand answer)) ≡ mark_by (length (seen_of now clock) - 1) answer
+-- what was asked in an offer to this clock
+mark_here : (clock : ℕ) (now : HousePassOf) (bidder round : ℕ) (demand : List (List ℕ)) (answer : Offered) → mark_place clock now (Some (asked.Offer clock bidder round demand answer)) ≡ mark_by (length (seen_of now clock) - 1) (record { bidder = bidder; round = round; demand = demand }) answer
 mark_here clock now bidder round demand said.Taken = refl
 mark_here clock now bidder round demand said.Again = refl
 mark_here clock now bidder round demand (said.Refused judgement) = refl
 mark_here clock now bidder round demand (said.Full needed) = refl
-mark_here clock now bidder round demand said.DiskFault = hit clock clock (length (seen_of now clock) - 1) refl
+mark_here clock now bidder round demand said.DiskFault =
+    let r : Report = record { bidder = bidder; round = round; demand = demand } in
+    hit clock clock (length (seen_of now clock) - 1, r) refl
 mark_here clock now bidder round demand said.NoMemory = refl
 
-taken_here : (clock : ℕ) (now : HousePassOf) (bidder round : ℕ) (demand : List (List ℕ)) (answer : Offered) → taken_place clock now (Some (asked.Offer clock bidder round demand answer)) ≡ taken_by (length (seen_of now clock) - 1) answer
-taken_here clock now bidder round demand said.Taken = hit clock clock (length (seen_of now clock) - 1) refl
+taken_here : (clock : ℕ) (now : HousePassOf) (bidder round : ℕ) (demand : List (List ℕ)) (answer : Offered) → taken_place clock now (Some (asked.Offer clock bidder round demand answer)) ≡ taken_by (length (seen_of now clock) - 1) (record { bidder = bidder; round = round; demand = demand }) answer
+taken_here clock now bidder round demand said.Taken =
+    let r : Report = record { bidder = bidder; round = round; demand = demand } in
+    hit clock clock (length (seen_of now clock) - 1, r) refl
 taken_here clock now bidder round demand said.Again = refl
 taken_here clock now bidder round demand (said.Refused judgement) = refl
 taken_here clock now bidder round demand (said.Full needed) = refl
@@ -325,11 +303,15 @@ mark_else c clock now bidder round demand said.Taken other = refl
 mark_else c clock now bidder round demand said.Again other = refl
 mark_else c clock now bidder round demand (said.Refused judgement) other = refl
 mark_else c clock now bidder round demand (said.Full needed) other = refl
-mark_else c clock now bidder round demand said.DiskFault other = miss c clock (length (seen_of now clock) - 1) other
+mark_else c clock now bidder round demand said.DiskFault other =
+    let r : Report = record { bidder = bidder; round = round; demand = demand } in
+    miss c clock (length (seen_of now clock) - 1, r) other
 mark_else c clock now bidder round demand said.NoMemory other = refl
 
 taken_else : (c clock : ℕ) (now : HousePassOf) (bidder round : ℕ) (demand : List (List ℕ)) (answer : Offered) → (c ≡ clock → ⊥) → taken_place clock now (Some (asked.Offer c bidder round demand answer)) ≡ []
-taken_else c clock now bidder round demand said.Taken other = miss c clock (length (seen_of now clock) - 1) other
+taken_else c clock now bidder round demand said.Taken other =
+    let r : Report = record { bidder = bidder; round = round; demand = demand } in
+    miss c clock (length (seen_of now clock) - 1, r) other
 taken_else c clock now bidder round demand said.Again other = refl
 taken_else c clock now bidder round demand (said.Refused judgement) other = refl
 taken_else c clock now bidder round demand (said.Full needed) other = refl
@@ -348,13 +330,13 @@ marks_on : (xs ys : List (ℕ × Entry)) → marks_own (xs ++ ys) ≡ marks_own 
 marks_on [] ys = refl
 marks_on ((k, entry.Offered r) ∷ xs) ys = marks_on xs ys
 marks_on ((k, entry.Counted r) ∷ xs) ys = marks_on xs ys
-marks_on ((k, entry.Mark) ∷ xs) ys = ap (λ (l : List ℕ). k ∷ l) (marks_on xs ys)
+marks_on ((k, entry.Mark r) ∷ xs) ys = ap (λ (l : List (ℕ × Report)). (k, r) ∷ l) (marks_on xs ys)
 
 offers_on : (xs ys : List (ℕ × Entry)) → offers_own (xs ++ ys) ≡ offers_own xs ++ offers_own ys
 offers_on [] ys = refl
-offers_on ((k, entry.Offered r) ∷ xs) ys = ap (λ (l : List ℕ). k ∷ l) (offers_on xs ys)
+offers_on ((k, entry.Offered r) ∷ xs) ys = ap (λ (l : List (ℕ × Report)). (k, r) ∷ l) (offers_on xs ys)
 offers_on ((k, entry.Counted r) ∷ xs) ys = offers_on xs ys
-offers_on ((k, entry.Mark) ∷ xs) ys = offers_on xs ys
+offers_on ((k, entry.Mark r) ∷ xs) ys = offers_on xs ys
 
 module _ (blank : Known Entry Origin) (clock : ℕ) (closed : List Entry) where
   -- the pass of this clock
@@ -372,7 +354,7 @@ module _ (blank : Known Entry Origin) (clock : ℕ) (closed : List Entry) where
     pub seen : StartsWith (seen_of now clock) (seen_of before clock)
     pub new : List (ℕ × Entry)
     pub own : own_of now clock ≡ own_of before clock ++ new
-    pub marks : marks_in closed < 2 ^ 64 - 1 → StartsWith closed (seen_of now clock) → marks_own new ≡ mark_place clock now a
+    pub marks : marks_own new ≡ mark_place clock now a
     pub takens : offers_own new ≡ taken_place clock now a
     pub held : StartsWith closed (seen_of now clock) → IsHeld clock closed a
     pub behind : StartsWith closed (seen_of now clock) → AreBehind closed new
@@ -382,7 +364,7 @@ module _ (blank : Known Entry Origin) (clock : ℕ) (closed : List Entry) where
     seen = starts_same (seen_of before clock) (seen_of now clock) seen;
     new = [];
     own = own ∙ sym (append-nil (own_of before clock));
-    marks = λ few goes. sym no_mark;
+    marks = sym no_mark;
     takens = sym no_taken;
     held = λ goes. held;
     behind = λ goes. tt;
@@ -411,7 +393,7 @@ module _ (blank : Known Entry Origin) (clock : ℕ) (closed : List Entry) where
         seen = starts_at before now (h.goes_on.0, seen ∙ h.goes_on.1);
         new = [];
         own = own_on before now [] (ap (λ (q : Known Entry Origin). q.own) h.same ∙ sym (append-nil (pass_of before).own));
-        marks = λ few goes. refl;
+        marks = refl;
         takens = refl;
         held = λ goes. tt;
         behind = λ goes. tt;
@@ -426,8 +408,8 @@ module _ (blank : Known Entry Origin) (clock : ℕ) (closed : List Entry) where
         seen = starts_at before now o.starts;
         new = o.entries;
         own = own_on before now o.entries o.own;
-        marks = λ few goes. o.marks few (goes_at now goes) ∙ ap (λ (k : ℕ). mark_by k answer) (sym size) ∙ sym (mark_here clock now bidder round demand answer);
-        takens = o.offers ∙ ap (λ (k : ℕ). taken_by k answer) (sym size) ∙ sym (taken_here clock now bidder round demand answer);
+        marks = o.marks ∙ ap (λ (k : ℕ). mark_by k r answer) (sym size) ∙ sym (mark_here clock now bidder round demand answer);
+        takens = o.offers ∙ ap (λ (k : ℕ). taken_by k r answer) (sym size) ∙ sym (taken_here clock now bidder round demand answer);
         held = λ goes. held_here clock closed bidder round demand answer (o.held (goes_at now goes));
         behind = λ goes. o.behind (goes_at now goes);
       }
@@ -457,7 +439,7 @@ module _ (blank : Known Entry Origin) (clock : ℕ) (closed : List Entry) where
     pub new : List (ℕ × Entry)
     pub own : own_of after clock ≡ own_of before clock ++ new
     pub points : StartsWith closed (seen_of after clock) → AllByRecursion (λ (t : Turn HousePassOf). StartsWith (seen_of t.now clock) (seen_of before clock) × StartsWith closed (seen_of t.now clock)) ts
-    pub marks : marks_in closed < 2 ^ 64 - 1 → StartsWith closed (seen_of after clock) → marks_own new ≡ mark_places clock ts
+    pub marks : marks_own new ≡ mark_places clock ts
     pub takens : offers_own new ≡ taken_places clock ts
     pub held : StartsWith closed (seen_of after clock) → AllByRecursion (λ (t : Turn HousePassOf). IsHeld clock closed t.asked) ts
     pub behind : StartsWith closed (seen_of after clock) → AreBehind closed new
@@ -473,7 +455,7 @@ module _ (blank : Known Entry Origin) (clock : ℕ) (closed : List Entry) where
     new = [];
     own = ap (λ (p : HousePassOf). own_of p clock) h ∙ sym (append-nil (own_of before clock));
     points = λ goes. tt;
-    marks = λ few goes. refl;
+    marks = refl;
     takens = refl;
     held = λ goes. tt;
     behind = λ goes. tt;
@@ -487,7 +469,7 @@ module _ (blank : Known Entry Origin) (clock : ℕ) (closed : List Entry) where
         new = a.new ++ b.new;
         own = b.own ∙ ap (λ (l : List (ℕ × Entry)). l ++ b.new) a.own ∙ append_assoc (own_of before clock) a.new b.new;
         points = λ goes. ((a.seen, on goes), earlier ts (seen_of before clock) (seen_of t.now clock) a.seen (b.points goes));
-        marks = λ few goes. marks_on a.new b.new ∙ (λ i. a.marks few (on goes) i ++ b.marks few goes i);
+        marks = marks_on a.new b.new ∙ (λ i. a.marks i ++ b.marks i);
         takens = offers_on a.new b.new ∙ (λ i. a.takens i ++ b.takens i);
         held = λ goes. (a.held (on goes), b.held goes);
         behind = λ goes. all-append (IsBehind closed) a.new b.new (a.behind (on goes)) (b.behind goes);

@@ -1,6 +1,6 @@
 -- What all doors of a house did, each with a pass of the house, and what it comes to at each clock. An entry of a clock's desk history
--- is a report, noted as offered or as counted, or a mark, which stands for one answer of a disk's fault.
-use Rattle.std.specs.Prelude.{◌≡◌, ◌≢◌, ◌≤◌, ◌<◌, ◌^◌, ℕ, ◌+◌, ◌-◌, ◌==◌, true, false, List, [], ◌∷◌, length, map, take, Option, Some, None, slice_get, slice_index_or, if◌then◌else◌, Contains}
+-- is a report, noted as offered or as counted, or a mark of one, which stands for one answer of a disk's fault to its offer.
+use Rattle.std.specs.Prelude.{◌≡◌, ◌≤◌, ◌<◌, ℕ, ◌+◌, ◌-◌, ◌==◌, true, false, List, [], ◌∷◌, length, map, take, Option, Some, None, slice_get, slice_index_or, if◌then◌else◌, Contains}
 use Rattle.std.specs.List.{AllByRecursion, flat_map}
 use Rattle.demand_set.specs.declared.reports.Report.{Report}
 use Rattle.clock.specs.declared.judging.Offered.TheVariants as said
@@ -10,7 +10,7 @@ use Rattle.house_io.specs.Links.{LinkBytes}
 use Rattle.house_io.specs.Doors.{DoorLinks}
 use Rattle.auction_file.specs.declared.listing.Auction.{Auction}
 use Rattle.clock_book.specs.Books.{BookOf}
-use Rattle.clock_book.specs.DeskHistories.{marks_in, reports_in, EndsInMark}
+use Rattle.clock_book.specs.DeskHistories.{reports_in, IsInDoubt}
 use Rattle.clock_book.specs.declared.entries.Entry.{Entry}
 use Rattle.clock_book.specs.declared.entries.Entry.TheVariants as entry
 use Rattle.turn_desk.specs.Histories.{StartsWith}
@@ -32,35 +32,30 @@ PassAllows before asked after = SeatAllows before.passes asked after.passes
 abbrev pub seen_of : HousePassOf → ℕ → List Entry
 seen_of p clock = slice_index_or (map (λ q. q.seen) p.passes) clock []
 
--- The last place of what a pass has seen, where this was asked in its turn: an offer to this clock that was answered Taken, or one that
--- was answered by a fault of the disk.
-abbrev pub taken_place : ℕ → HousePassOf → Option Asked → List ℕ
+-- The report of what was asked in a turn, with the last place of what the pass has seen then, where it was an offer to this clock that was
+-- answered Taken, or one that was answered by a fault of the disk.
+abbrev pub taken_place : ℕ → HousePassOf → Option Asked → List (ℕ × Report)
 taken_place clock now None = []
 taken_place clock now (Some (asked.Look c look)) = []
-taken_place clock now (Some (asked.Offer c bidder round demand said.Taken)) = if c == clock then (length (seen_of now clock) - 1) ∷ [] else []
+taken_place clock now (Some (asked.Offer c bidder round demand said.Taken)) = if c == clock then (length (seen_of now clock) - 1, record { bidder = bidder; round = round; demand = demand }) ∷ [] else []
 taken_place clock now (Some (asked.Offer c bidder round demand answer)) = []
 
-abbrev pub mark_place : ℕ → HousePassOf → Option Asked → List ℕ
+abbrev pub mark_place : ℕ → HousePassOf → Option Asked → List (ℕ × Report)
 mark_place clock now None = []
 mark_place clock now (Some (asked.Look c look)) = []
-mark_place clock now (Some (asked.Offer c bidder round demand said.DiskFault)) = if c == clock then (length (seen_of now clock) - 1) ∷ [] else []
+mark_place clock now (Some (asked.Offer c bidder round demand said.DiskFault)) = if c == clock then (length (seen_of now clock) - 1, record { bidder = bidder; round = round; demand = demand }) ∷ [] else []
 mark_place clock now (Some (asked.Offer c bidder round demand answer)) = []
 
-abbrev pub taken_places : ℕ → List (Turn HousePassOf) → List ℕ
+abbrev pub taken_places : ℕ → List (Turn HousePassOf) → List (ℕ × Report)
 taken_places clock turns = flat_map (λ (t : Turn HousePassOf). taken_place clock t.now t.asked) turns
 
-abbrev pub mark_places : ℕ → List (Turn HousePassOf) → List ℕ
+abbrev pub mark_places : ℕ → List (Turn HousePassOf) → List (ℕ × Report)
 mark_places clock turns = flat_map (λ (t : Turn HousePassOf). mark_place clock t.now t.asked) turns
 
--- no number stands twice
-abbrev pub AreDistinct : List ℕ → Type 0
-AreDistinct [] = Unit {0}
-AreDistinct (n ∷ ns) = AllByRecursion (λ m. m ≢ n) ns × AreDistinct ns
-
--- how often a number stands in a list
-abbrev pub times : ℕ → List ℕ → ℕ
-times n [] = 0
-times n (m ∷ ms) = (if m == n then 1 else 0) + times n ms
+-- how often a place stands in a list
+abbrev pub times : ℕ → List (ℕ × Report) → ℕ
+times k [] = 0
+times k ((n, r) ∷ more) = (if n == k then 1 else 0) + times k more
 
 -- a report of the history, noted as offered or as counted
 abbrev pub Holds : Report → List Entry → Type 0
@@ -79,14 +74,16 @@ pub record Joins (opening closed : List Entry) (turns : List (Turn HousePassOf))
   pub opened : StartsWith closed opening
   -- each point at which the clock was asked was a front of the one history, and began with the opening
   pub points : AllByRecursion (λ (t : Turn HousePassOf). StartsWith (seen_of t.now clock) opening × StartsWith closed (seen_of t.now clock)) turns
-  -- each answer of a disk's fault has a mark of its own that was added here, while marks can be counted
-  pub marks : marks_in closed < 2 ^ 64 - 1 → AreDistinct (mark_places clock turns)
-  pub marked : marks_in closed < 2 ^ 64 - 1 → AllByRecursion (λ k. (length opening ≤ k) × (slice_get closed k ≡ Some entry.Mark)) (mark_places clock turns)
-  -- each report that was added here and is noted as offered stands for just one turn that was answered Taken
+  -- each offer that was answered Taken added its report, noted as offered, and each report that was added here and is noted so is that of just
+  -- one of these offers
+  pub took : AllByRecursion (λ (e : ℕ × Report). (length opening ≤ e.0) × (slice_get closed e.0 ≡ Some (entry.Offered e.1))) (taken_places clock turns)
   pub taken : (k : ℕ) (r : Report) → length opening ≤ k → slice_get closed k ≡ Some (entry.Offered r) → times k (taken_places clock turns) ≡ 1
-  -- each report that was added here and is noted as counted was in doubt: the history before it ends with a mark, while marks can be
-  -- counted
-  pub counted : (k : ℕ) (r : Report) → length opening ≤ k → slice_get closed k ≡ Some (entry.Counted r) → EndsInMark (take k closed)
+  -- each offer that was answered by a fault of the disk added a mark of its report, and each mark that was added here is that of just one of
+  -- these offers
+  pub marked : AllByRecursion (λ (e : ℕ × Report). (length opening ≤ e.0) × (slice_get closed e.0 ≡ Some (entry.Mark e.1))) (mark_places clock turns)
+  pub faulted : (k : ℕ) (r : Report) → length opening ≤ k → slice_get closed k ≡ Some (entry.Mark r) → times k (mark_places clock turns) ≡ 1
+  -- each report that was added here and is noted as counted was in doubt: the history before it has a mark of it, and no report since
+  pub counted : (k : ℕ) (r : Report) → length opening ≤ k → slice_get closed k ≡ Some (entry.Counted r) → IsInDoubt (take k closed) r
   -- what was answered Taken or Again is in the history
   pub held : AllByRecursion (λ (t : Turn HousePassOf). IsHeld clock closed t.asked) turns
 

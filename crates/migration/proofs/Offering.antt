@@ -1,7 +1,7 @@
 -- Reports that are offered to one book, and to the books of all clocks.
-use Rattle.std.proofs.Common.{◌≡◌, ◌⊎◌, inl, inr, ⊎_elim, ◌<◌, ◌≤◌, ℕ, ◌+◌, Bool, IsTrue, List, [], ◌∷◌, ◌++◌, length, get_or, set, slice_get, Some, Ok, Err, refl, sym, ◌∙◌, ap, subst, arith}
+use Rattle.std.proofs.Common.{◌≡◌, ◌⊎◌, inl, inr, ⊎_elim, ◌<◌, ◌≤◌, ℕ, ◌+◌, Bool, IsTrue, List, [], ◌∷◌, ◌++◌, length, get_or, set, slice_get, Option, Some, Ok, Err, refl, sym, ◌∙◌, ap, subst, arith}
 use Rattle.std.proofs.lemmas.Bool.{cases_lt, cases_eq}
-use Rattle.std.proofs.lemmas.List.{get_or-set_same, get_or-set_other, length-set, length-take-le}
+use Rattle.std.proofs.lemmas.List.{get_or-set_same, get_or-set_other, length-set, length-take-le, take_all}
 use Rattle.std.proofs.lemmas.Option.{slice_get_within}
 use Rattle.demand_set.specs.declared.reports.Report.{Report}
 use Rattle.house_io.specs.Moments.{Moments, Leaves, AtEach}
@@ -10,7 +10,7 @@ use Rattle.clock.specs.Reports.{ClockHistory}
 use Rattle.clock.specs.declared.judging.Offered.{Offered}
 use Rattle.clock.specs.declared.judging.Offered.TheVariants as answers
 use Rattle.recovery.specs.Journaled.{Owner, StandsForReports}
-use Rattle.clock_book.specs.Past.{owner_in}
+use Rattle.clock_book.specs.Past.{owner_in, IsEither}
 use Rattle.clock_book.specs.Books.{BookOf, BookState}
 use Rattle.clock_book.specs.Offers.{IsOffer, Answers, OfferLeaves}
 use Rattle.clock_book.specs.declared.origins.Origin.{Origin}
@@ -50,6 +50,15 @@ module _ {D : Type 0} (tells : D → Bool) (moments : D → Moments) (faults : D
           alike = subst (λ (o : Origin). AreAlike source.terms o.terms) (sym origin) has.alike;
           number = has.number ∙ sym (ap (λ (o : Origin). o.clock) origin);
         }
+
+  -- a book that has all reports stands for them
+  pub stands-whole : (n : ℕ) (old b : BookOf D) (ms : Moments) → HasFirst source n b → b.origin ≡ old.origin → length source.reports ≤ n → Leaves (IsEither (owner_in b.origin) b.state.clock.reports b.state.pending) ms.now
+      → Leaves (StandsForReports (owner_in old.origin) source.reports) ms.now
+  stands-whole n old b ms has origin all stands =
+      let P : Option Report → Type 0 = λ o. Leaves (IsEither (owner_in b.origin) b.state.clock.reports o) ms.now in
+      let Q : List Report → Type 0 = λ reports. Leaves (StandsForReports (owner_in b.origin) reports) ms.now in
+      let R : Origin → Type 0 = λ o. Leaves (StandsForReports (owner_in o) source.reports) ms.now in
+      subst R origin (subst Q (has.reports ∙ take_all n source.reports all) (subst P has.settled stands))
 
   -- one report more, after those that were offered before it
   pub goes-further : (old mid new : BookOf D) → length old.state.clock.reports ≤ length mid.state.clock.reports → GoesOn tells moments source old mid → GoesOn tells moments source mid new → GoesOn tells moments source old new

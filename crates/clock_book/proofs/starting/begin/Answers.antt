@@ -6,8 +6,8 @@ use Rattle.recovery.specs.Journaled.{owner_of}
 use Rattle.clock_book.specs.declared.origins.Origin.{Origin}
 use Rattle.clock_book.specs.Past.{IsAsOpened}
 use Rattle.clock_book.specs.Books.{HasRoom, quantities_in, most_quantities}
-use Rattle.clock_book.specs.DeskHistories.{marks_in}
-use Rattle.clock_book.proofs.Histories.{marks-opened}
+use Rattle.clock_book.specs.DeskHistories.{reports_in, marks_in}
+use Rattle.clock_book.proofs.Histories.{reports-opened, marks-opened}
 use Rattle.clock_book.proofs.Begun.{not-begun, begun}
 use Rattle.clock_book.proofs.starting.begin.Goals as goal
 
@@ -41,7 +41,7 @@ invariant_of-result g c =
       records_are = subst (λ (t : Terms). most_reports t n.clock.number ≤ length n.clock.reports + (k.spare + 0)) (sym terms) (subst (λ (x : ℕ). most_reports owner.terms x ≤ length n.clock.reports + (k.spare + 0)) (sym number) (omega (arith, c.most_reports-most.ensures.value, c.in-Ok-roomy_journal.ensures.roomy)));
     } in
     begun k (IsTrue (g.D.Disk.tells k.disk)) (g.D.Disk.moments c.args.disk) (g.D.Disk.moments k.disk) (g.D.Disk.faults k.disk) n origin terms number noted.found.are
-    (c.count-reports.ensures.value ∙ ap (λ h. length h.reports) c.clock.ensures.value) laid.end laid.pending (ap marks_in noted.offered ∙ marks-opened n.clock.reports) room laid.contents
+    (c.count-reports.ensures.value ∙ ap (λ h. length h.reports) c.clock.ensures.value) laid.end laid.pending (ap reports_in noted.offered ∙ reports-opened n.clock.reports) (ap marks_in noted.offered ∙ marks-opened n.clock.reports) room laid.contents
     (λ t. (c.count-kept.ensures.kept t).stands) (λ t. ap (λ j. length (g.D.Disk.moments j.disk).past) c.of.ensures) (λ t. ap (λ d. length (g.D.Disk.moments d).past) seen)
     (λ t. subst R (sym (ap (λ d. (g.D.Disk.moments d).now.read) seen)) (laid.leaves t))
     (λ t. subst IsTrue (sym (ap (λ j. g.D.Disk.tells j.disk) c.of.ensures)) t)

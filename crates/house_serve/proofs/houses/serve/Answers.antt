@@ -1,8 +1,8 @@
-use Rattle.std.proofs.Common.{rules, ◌≡◌, ◌∙◌, ◌≤◌, ℕ, length, map, drop, sym, ap, subst, List, vec_len, vec_capacity}
+use Rattle.std.proofs.Common.{◌≡◌, ◌∙◌, ◌≤◌, length, map, drop, sym, ap, subst, List, vec_len, vec_capacity}
 use Rattle.std.proofs.lemmas.List.{take_at}
 use Rattle.clock_family.specs.Houses.{AreAllOf, AreClosed, HousePassOf}
 use Rattle.clock_family.specs.Turns.{AreOf}
-use Rattle.house_serve.specs.Counters.{WasServed, log_of}
+use Rattle.house_serve.specs.Counters.{log_of}
 use Rattle.house_serve.proofs.Running.{zipped, all_after, served}
 use Rattle.house_serve.proofs.Seating.{all_at, of_house}
 use Rattle.house_serve.proofs.houses.serve.Goals as goal

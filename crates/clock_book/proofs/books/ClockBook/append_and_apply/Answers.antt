@@ -56,7 +56,7 @@ invariant_of-self g c =
     let zero : kept_for b.pending ≡ 0 = ap kept_for none in
     rw none (one-more j k (IsTrue (g.D.Disk.tells j.disk)) (IsTrue (g.D.Disk.tells k.disk)) (g.D.Disk.moments j.disk) (g.D.Disk.moments k.disk) (g.D.Disk.faults j.disk) (g.D.Disk.faults k.disk) b.noted b.pending b.start c.self.invariant c.append.ensures.tells (omega (arith, c.in-Ok.ensures.faults)) c.take.new.self r (entry.Offered r) next answer.2
     (answer.1.end ∙ ap (λ p. j.end + 5 + length p) pay) (omega (arith, answer.3, zero)) (λ t. (c.in-Ok.ensures.end t).0 ∙ ap (with_one_more j.contents) pay) call
-    c.take.ensures.clock c.take.ensures.history refl c.take.ensures.reports c.take.ensures.quantities)
+    c.take.ensures.clock c.take.ensures.history refl refl c.take.ensures.reports c.take.ensures.quantities)
 
 pub invariant_of-self-in-Err-DiskFault : goal.invariant_of-self-in-Err-DiskFault
 invariant_of-self-in-Err-DiskFault g c =

@@ -26,7 +26,7 @@ invariant_of-self g c =
     let some = some-pending payload b.pending j.pending c.self.invariant.in_doubt failed.some in
     let doubt : j.pending ≡ Some (payload some.0) = c.self.invariant.in_doubt ∙ ap (option_map payload) some.1 in
     mend-failed j k (IsTrue (g.D.Disk.tells j.disk)) (IsTrue (g.D.Disk.tells k.disk)) (g.D.Disk.moments j.disk) (g.D.Disk.moments k.disk) (g.D.Disk.faults j.disk) (g.D.Disk.faults k.disk)
-    b.noted b.pending b.start c.self.invariant c.mend.ensures.tells failed.later c.mark.new.self some.0 some.1 failed.pending failed.keeps.end failed.spare (λ t. c.in-Err.ensures.end t) failed.rose
+    b.noted b.pending b.start c.self.invariant c.mend.ensures.tells failed.later c.mark.new.self some.0 c.args.offered.now some.1 failed.pending failed.keeps.end failed.spare (λ t. c.in-Err.ensures.end t) failed.rose
     (λ t. (c.mend.ensures.moments t).stand (payload some.0) doubt) c.mark.ensures.clock c.mark.ensures.history c.mark.ensures.reports c.mark.ensures.quantities
 
 pub invariant_of-self-in-Ok-Dropped : goal.invariant_of-self-in-Ok-Dropped
@@ -63,7 +63,7 @@ invariant_of-self-in-Ok-Counted g c =
     rw c.take-pending.ensures.after (one-more j k (IsTrue (g.D.Disk.tells j.disk)) (IsTrue (g.D.Disk.tells k.disk)) (g.D.Disk.moments j.disk) (g.D.Disk.moments k.disk) (g.D.Disk.faults j.disk) (g.D.Disk.faults k.disk)
     b.noted b.pending b.start c.self.invariant c.mend.ensures.tells (omega (arith, steady)) c.take.new.self q (entry.Counted q) waits.next answer.1 answer.0.end (omega (arith, answer.2, kept))
     (λ t. (rw (was, doubt) at (c.mend.ensures.end t)).0.0) (λ t. (c.mend.ensures.moments t).stand (payload q) doubt)
-    c.take.ensures.clock c.take.ensures.history refl c.take.ensures.reports c.take.ensures.quantities)
+    c.take.ensures.clock c.take.ensures.history refl refl c.take.ensures.reports c.take.ensures.quantities)
 
 pub returns-in-Err-clause-moments : goal.returns-in-Err-clause-moments
 returns-in-Err-clause-moments g c =

@@ -17,7 +17,7 @@ returns-clause-history g c =
     let kept = c.clock-kept.ensures.kept in
     let b = c.args.self.now.book in
     history-offer (owner_in b.origin) b.state c.offer.new.self.state (record { bidder = c.args.bidder; round = c.args.round; demand = c.args.demand }) c.offer.result
-    (λ i. record { terms = kept.terms i; number = kept.number i; reports = sym kept.reports i }) kept.after c.offer.ensures.answer
+    (λ i. record { terms = kept.terms i; number = kept.number i; reports = sym kept.reports i }) kept.doubt c.offer.ensures.answer
 
 pub returns-clause-goes_on : goal.returns-clause-goes_on
 returns-clause-goes_on g c =
@@ -26,4 +26,4 @@ returns-clause-goes_on g c =
     let r : Report = record { bidder = c.args.bidder; round = c.args.round; demand = c.args.demand } in
     goes-on (owner_in b.origin) b.state.history c.offer.new.self.state.history r c.offer.result
     (history-offer (owner_in b.origin) b.state c.offer.new.self.state r c.offer.result
-    (λ i. record { terms = kept.terms i; number = kept.number i; reports = sym kept.reports i }) kept.after c.offer.ensures.answer)
+    (λ i. record { terms = kept.terms i; number = kept.number i; reports = sym kept.reports i }) kept.doubt c.offer.ensures.answer)
