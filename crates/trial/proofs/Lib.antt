@@ -9,4 +9,3 @@ pub mod Made
 pub mod Risen
 pub mod Leading
 pub mod Leaping
-pub mod Checking

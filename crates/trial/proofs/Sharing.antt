@@ -1,62 +1,95 @@
 -- Clocks that several workers ran, put together.
-use Rattle.std.proofs.Common.{◌≡◌, ◌<◌, ◌≤◌, ℕ, zero, suc, ◌+◌, ◌*◌, ◌/◌, List, [], ◌∷◌, ◌++◌, length, map, get_or, Option, Some, refl, sym, ◌∙◌, ap, arith, subst}
+use Rattle.std.proofs.Common.{◌≡◌, ◌<◌, ◌≤◌, ℕ, zero, suc, ◌+◌, ◌-◌, List, [], ◌∷◌, ◌++◌, length, map, get_or, set, Option, None, Some, refl, sym, ◌∙◌, ap, arith, subst, ⊎_elim}
 use Rattle.std.specs.Prelude.{IfSome, ℤ}
 use Rattle.std.specs.List.{AllByRecursion, AllZip, range_with_len}
-use Rattle.std.proofs.Math.Nat.{div-add-mod', mul-add, mul-le-mul, le_refl}
-use Rattle.std.proofs.lemmas.List.{length-append}
-use Rattle.std.proofs.lemmas.Nat.{mod_below}
+use Rattle.std.proofs.lemmas.Bool.{cases_eq, cases_lt}
+use Rattle.std.proofs.lemmas.List.{length-append, length-set, get_or-set_same, get_or-set_other, get_or_append_left, get_or_push}
+use Rattle.lot_base.specs.Economy.{IsStrongSubstitutes}
 use Rattle.lot_base.specs.declared.auction_terms.Terms.{Terms}
 use Rattle.clock.specs.Reports.{ClockHistory, ClockOf, histories}
+use Rattle.exchange_check.specs.Verdicts.{IsRight}
+use Rattle.exchange_check.specs.declared.verdict.Verdict.{Verdict}
 use Rattle.settlement.specs.Found.{IsFoundOf}
 use Rattle.settlement.specs.declared.outcome.ClockRow.{ClockRow}
 use Rattle.settlement.proofs.Histories.{histories-push}
 use Rattle.settlement.proofs.Zips.{zip-push}
 use Rattle.trial.specs.Trials.{IsTrialHistory, IsTrial}
 use Rattle.trial.specs.Rounds.{IsTrialOf}
-use Rattle.trial.specs.declared.workers.Part.{Part}
+use Rattle.trial.specs.Workers.{IsToldOf, IsVerdictOn, IsPieceOf, AreTold, AreRight}
+use Rattle.trial.specs.declared.workers.Piece.{Piece}
+use Rattle.trial.specs.declared.workers.Piece.TheVariants.{Clock, Bidder}
 use Rattle.trial.specs.declared.workers.Told.{Told}
-use Rattle.trial.specs.Workers.{IsToldOf, IsPartOf, AreOfWorker, AreToldFrom, AreToldUpTo, light_workers, share_start}
 use Rattle.trial.proofs.Finding.{all-both}
 
--- some worker has a clock less than the others
-pub light-some : (clocks workers : ℕ) → 1 ≤ workers → 1 ≤ light_workers clocks workers
-light-some clocks workers some = let l = mod_below clocks workers some in omega arith
+-- what stands at each place of a list of slots, one of which is filled or emptied
+pub slots-set : {X : Type 0} (P : ℕ → X → Type 0) (slots : List (Option X)) (n : ℕ) (v : Option X) → n < length slots → IfSome v (P n) → ((k : ℕ) (d : Option X) → k < length slots → IfSome (get_or slots k d) (P k))
+    → (k : ℕ) (d : Option X) → k < length (set slots n v) → IfSome (get_or (set slots n v) k d) (P k)
+slots-set {X} P slots n v within here each k d below =
+    let inside : k < length slots = (let l = length-set slots n v in omega (arith, l, below)) in
+    ⊎_elim
+    (λ (same : k ≡ n).
+    let at : get_or (set slots n v) k d ≡ v = ap (λ i. get_or (set slots n v) i d) same ∙ get_or-set_same slots n v d within in
+    subst (λ (o : Option X). IfSome o (P k)) (sym at) (subst (λ (i : ℕ). IfSome v (P i)) (sym same) here))
+    (λ other. subst (λ (o : Option X). IfSome o (P k)) (sym (get_or-set_other slots n k v d other)) (each k d inside))
+    (cases_eq k n)
 
--- the shares begin with clock 0, rise, and end behind the last clock
-pub first-start : (clocks workers : ℕ) → share_start clocks workers 0 ≡ 0
-first-start clocks workers = let e : clocks / workers * 0 ≡ 0 = omega arith in omega arith
+-- one empty slot more
+pub slots-push : {X : Type 0} (P : ℕ → X → Type 0) (slots next : List (Option X)) → next ≡ slots ++ None ∷ [] → ((k : ℕ) (d : Option X) → k < length slots → IfSome (get_or slots k d) (P k)) → (k : ℕ) (d : Option X) → k < length next → IfSome (get_or next k d) (P k)
+slots-push {X} P slots next is each k d below =
+    let long = ap length is in
+    let more = length-append slots (None ∷ []) in
+    ⊎_elim
+    (λ (less : k < length slots). subst (λ (o : Option X). IfSome o (P k)) (sym (ap (λ l. get_or l k d) is ∙ get_or_append_left slots (None ∷ []) d k less)) (each k d less))
+    (λ (rest : length slots ≤ k). subst (λ (o : Option X). IfSome o (P k)) (sym (ap (λ l. get_or l k d) is ∙ get_or_push slots None d k (let e : length slots ≡ k = omega (arith, below, long, more, rest) in e))) tt)
+    (cases_lt k (length slots))
 
-pub last-start : (clocks workers : ℕ) → 1 ≤ workers → share_start clocks workers workers ≡ clocks
-last-start clocks workers some =
-    let l = mod_below clocks workers some in
-    let e = div-add-mod' clocks workers in
-    omega arith
-
-pub start-rises : (clocks workers worker : ℕ) → share_start clocks workers worker ≤ share_start clocks workers (worker + 1)
-start-rises clocks workers worker = let e = mul-add (clocks / workers) worker 1 in omega arith
-
-pub start-within : (clocks workers worker : ℕ) → 1 ≤ workers → worker ≤ workers → share_start clocks workers worker ≤ clocks
-start-within clocks workers worker some most =
-    let few = mul-le-mul (le_refl (clocks / workers)) most in
-    let all = last-start clocks workers some in
-    omega arith
-
--- clocks behind others
-pub told-both : (terms : Terms) (u : ℕ → List ℕ → ℤ) (from to end : ℕ) (front back : List Told) → AreToldUpTo terms u from to front → AreToldUpTo terms u to end back → AreToldUpTo terms u from end (front ++ back)
-told-both terms u from to end front back these those = record {
-  count = (let l = length-append front back in let p = these.count in let q = those.count in omega arith);
-  each = behind from front these.each (subst (λ n. AreToldFrom terms u n back) (sym these.count) those.each);
-}
+-- the last of a list, and those before it
+all-last : {X : Type 0} (P : X → Type 0) (front all : List X) (x : X) → all ≡ front ++ x ∷ [] → AllByRecursion P all → AllByRecursion P front × P x
+all-last {X} P front all x is each = split front (subst (AllByRecursion P) is each)
   where
-    behind : (from : ℕ) (front : List Told) → AreToldFrom terms u from front → AreToldFrom terms u (from + length front) back → AreToldFrom terms u from (front ++ back)
-    behind from [] each rest = subst (λ n. AreToldFrom terms u n back) (let e : from + 0 ≡ from = omega arith in e) rest
-    behind from (t ∷ front) each rest =
-        (each.0, behind (from + 1) front each.1 (subst (λ n. AreToldFrom terms u n back) (let e : from + suc (length front) ≡ from + 1 + length front = omega arith in e) rest))
+    split : (front : List X) → AllByRecursion P (front ++ x ∷ []) → AllByRecursion P front × P x
+    split [] each = (tt, each.0)
+    split (y ∷ front) each = let rest = split front each.1 in ((each.0, rest.0), rest.1)
 
--- one clock more
-pub told-next : (terms : Terms) (u : ℕ → List ℕ → ℤ) (from to : ℕ) (told next : List Told) (t : Told) → AreToldUpTo terms u from to told → IsToldOf terms u to t → next ≡ told ++ t ∷ [] → AreToldUpTo terms u from (to + 1) next
-told-next terms u from to told next t before one is =
-    subst (AreToldUpTo terms u from (to + 1)) (sym is) (told-both terms u from to (to + 1) told (t ∷ []) before (record { count = refl; each = (one, tt) }))
+pub all-of_each : {X : Type 0} (P : X → Type 0) (xs : List X) → ((k : ℕ) (d : X) → k < length xs → P (get_or xs k d)) → AllByRecursion P xs
+all-of_each P [] each = tt
+all-of_each P (x ∷ xs) each = (each 0 x (omega arith), all-of_each P xs (λ k d below. each (suc k) d (omega (arith, below))))
+
+module _ (terms : Terms) (u : ℕ → List ℕ → ℤ) where
+  -- what stands at a clock's place, or a bidder's
+  pub told-set : (told : List (Option Told)) (number : ℕ) (v : Option Told) → number ≤ terms.bidders → IfSome v (IsToldOf terms u number) → AreTold terms u told → AreTold terms u (set told number v)
+  told-set told number v within here are = record { count = length-set told number v ∙ are.count; each = slots-set (IsToldOf terms u) told number v (let c = are.count in omega (arith, c, within)) here are.each }
+
+  pub told-at : (told : List (Option Told)) (number : ℕ) (v : Option Told) (other : Option Told) → v ≡ get_or told number other → number ≤ terms.bidders → AreTold terms u told → IfSome v (IsToldOf terms u number)
+  told-at told number v other is within are = subst (λ (o : Option Told). IfSome o (IsToldOf terms u number)) (sym is) (are.each number other (let c = are.count in omega (arith, c, within)))
+
+  pub verdict-set : (verdicts : List (Option Verdict)) (bidder : ℕ) (v : Verdict) → IsVerdictOn terms u bidder v → AreRight terms u verdicts → AreRight terms u (set verdicts (bidder - 1) (Some v))
+  verdict-set verdicts bidder v on are =
+      let back : bidder ≡ bidder - 1 + 1 = (let f = on.from_one in omega (arith, f)) in
+      let here : IsRight terms.goods (u (bidder - 1 + 1)) v = subst (λ (j : ℕ). IsRight terms.goods (u j) v) back on.right in
+      record {
+        count = length-set verdicts (bidder - 1) (Some v) ∙ are.count;
+        each = slots-set (λ (k : ℕ). IsRight terms.goods (u (k + 1))) verdicts (bidder - 1) (Some v) (let c = are.count in let f = on.from_one in let l = on.to_last in omega (arith, c, f, l)) here are.each;
+      }
+
+  -- the last piece of a worker, and those before it
+  module _ (front part : List Piece) (piece : Piece) (is : part ≡ front ++ piece ∷ []) (are : AllByRecursion (IsPieceOf terms u) part) where
+    pub clock-last : (number : ℕ) (told : Told) → piece ≡ Clock number told → IsPieceOf terms u (Clock number told)
+    clock-last number told same = subst (IsPieceOf terms u) same (all-last (IsPieceOf terms u) front part piece is are).1
+
+    pub bidder-last : (bidder : ℕ) (verdict : Verdict) → piece ≡ Bidder bidder verdict → IsVerdictOn terms u bidder verdict
+    bidder-last bidder verdict same = subst (IsPieceOf terms u) same (all-last (IsPieceOf terms u) front part piece is are).1
+
+    pub those-before : AllByRecursion (IsPieceOf terms u) front
+    those-before = (all-last (IsPieceOf terms u) front part piece is are).0
+
+  -- one bidder more for whom the goods are strong substitutes
+  pub substitutes-next : (place : ℕ) → ((j : ℕ) → 1 ≤ j → j ≤ place → IsStrongSubstitutes terms.goods (u j)) → IsStrongSubstitutes terms.goods (u (place + 1)) → (j : ℕ) → 1 ≤ j → j ≤ place + 1 → IsStrongSubstitutes terms.goods (u j)
+  substitutes-next place before here j low high =
+      ⊎_elim
+      (λ (same : j ≡ place + 1). subst (λ (n : ℕ). IsStrongSubstitutes terms.goods (u n)) (sym same) here)
+      (λ other. before j low (omega (arith, high, other)))
+      (cases_eq j (place + 1))
 
 -- the first so many clocks of a trial
 pub record AreInOrder (terms : Terms) (u : ℕ → List ℕ → ℤ) (count : ℕ) (clocks : List ClockHistory) : Type 0 where
@@ -98,17 +131,3 @@ rows-next clocks next rows more c row all found is more-is =
     let Y : List ClockHistory → Type 0 = λ hs. AllZip IsFoundOf hs more in
     let Z : List (Option ClockRow) → Type 0 = λ rs. AllZip IsFoundOf (histories clocks ++ c.history ∷ []) rs in
     subst Y (sym (ap histories is ∙ histories-push clocks c)) (subst Z (sym more-is) (zip-push IsFoundOf (histories clocks) rows c.history row all found))
-
--- a worker's part, where it is taken from the list
-pub part-at : {X : Type 0} (P : ℕ → X → Type 0) (front rest all : List X) (x : X) → ((i : ℕ) (d : X) → i < length all → P i (get_or all i d)) → front ++ x ∷ rest ≡ all → P (length front) x
-part-at {X} P front rest all x each is =
-    let within : length front < length all = (let l = length-append front (x ∷ rest) in let m = ap length is in omega arith) in
-    subst (P (length front)) (at-seam front) (subst (λ xs. P (length front) (get_or xs (length front) x)) (sym is) (each (length front) x within))
-  where
-    at-seam : (front : List X) → get_or (front ++ x ∷ rest) (length front) x ≡ x
-    at-seam [] = refl
-    at-seam (y ∷ front) = at-seam front
-
--- the clocks of a part that has them
-pub told-of : (terms : Terms) (u : ℕ → List ℕ → ℤ) (workers worker : ℕ) (part : Part) (told : _) → IsPartOf terms u workers worker part → part.told ≡ Some told → AreOfWorker terms u workers worker told.items
-told-of terms u workers worker part told known is = subst (λ o. IfSome o (λ told. AreOfWorker terms u workers worker told.items)) is known.told

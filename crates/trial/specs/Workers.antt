@@ -1,11 +1,16 @@
--- How workers share a trial: each has clocks that follow one another, and those who have one clock less than the others come first
--- and check the bidders.
-use Rattle.std.specs.Prelude.{◌≡◌, ◌<◌, ◌+◌, ◌-◌, ◌*◌, ◌/◌, ◌%◌, ℕ, List, [], ◌∷◌, length, ℤ, slice_index_or, IfSome}
+-- How workers share a trial: a piece of the work is a clock, run to its end, or the verdict on a bidder. Which worker did a piece is not
+-- said.
+use Rattle.std.specs.Prelude.{◌≡◌, ◌≤◌, ◌<◌, ◌+◌, ℕ, List, length, ℤ, slice_index_or, Option, IfSome, Vec}
+use Rattle.std.specs.Global.{Global}
+use Rattle.std.specs.List.{AllByRecursion}
 use Rattle.lot_base.specs.declared.auction_terms.Terms.{Terms}
+use Rattle.exchange_check.specs.Verdicts.{IsRight}
+use Rattle.exchange_check.specs.declared.verdict.Verdict.{Verdict}
 use Rattle.settlement.specs.Found.{IsFoundOf}
-use Rattle.trial.specs.Checking.{IsFirstOf, OfWorker}
 use Rattle.trial.specs.Rounds.{IsTrialOf}
-use Rattle.trial.specs.declared.workers.Part.{Part}
+use Rattle.trial.specs.declared.workers.Piece.{Piece}
+use Rattle.trial.specs.declared.workers.Piece.TheVariants.{Clock, Bidder}
+use Rattle.trial.specs.declared.workers.Placed.{Placed}
 use Rattle.trial.specs.declared.workers.Told.{Told}
 
 -- the clock of this number, run to its end, and its row
@@ -13,34 +18,30 @@ pub record IsToldOf (terms : Terms) (u : ℕ → List ℕ → ℤ) (number : ℕ
   pub clock_is : IsTrialOf terms u number t.clock.history
   pub row_is : IsFoundOf t.clock.history t.row
 
--- how many workers have a clock less than the others, or all where each has as many
-abbrev pub light_workers : ℕ → ℕ → ℕ
-light_workers clocks workers = workers - clocks % workers
+-- a bidder of the auction, and the verdict on it
+pub record IsVerdictOn (terms : Terms) (u : ℕ → List ℕ → ℤ) (bidder : ℕ) (verdict : Verdict) : Type 0 where
+  pub from_one : 1 ≤ bidder
+  pub to_last : bidder ≤ terms.bidders
+  pub right : IsRight terms.goods (u bidder) verdict
 
--- the first clock of a worker, and behind the last worker how many clocks there are
-abbrev pub share_start : ℕ → ℕ → ℕ → ℕ
-share_start clocks workers worker = clocks / workers * worker + (worker - light_workers clocks workers)
+abbrev pub IsPieceOf : Terms → (ℕ → List ℕ → ℤ) → Piece → Type 0
+IsPieceOf terms u (Clock number told) = (number ≤ terms.bidders) × IsToldOf terms u number told
+IsPieceOf terms u (Bidder bidder verdict) = IsVerdictOn terms u bidder verdict
 
--- clocks one after another, the first of this number
-abbrev pub AreToldFrom : Terms → (ℕ → List ℕ → ℤ) → ℕ → List Told → Type 0
-AreToldFrom terms u number [] = Unit {0}
-AreToldFrom terms u number (t ∷ ts) = IsToldOf terms u number t × AreToldFrom terms u (number + 1) ts
+-- what the workers did
+abbrev pub AreParts : Terms → (ℕ → List ℕ → ℤ) → List (Vec Piece Global) → Type 0
+AreParts terms u parts = (k : ℕ) (other : Vec Piece Global) → k < length parts → AllByRecursion (IsPieceOf terms u) (slice_index_or parts k other).items
 
--- the clocks from one number up to another, which is not among them
-pub record AreToldUpTo (terms : Terms) (u : ℕ → List ℕ → ℤ) (from to : ℕ) (told : List Told) : Type 0 where
-  pub count : from + length told ≡ to
-  pub each : AreToldFrom terms u from told
+-- a place for each clock, and what stands there is told of it
+pub record AreTold (terms : Terms) (u : ℕ → List ℕ → ℤ) (told : List (Option Told)) : Type 0 where
+  pub count : length told ≡ terms.bidders + 1
+  pub each : (number : ℕ) (other : Option Told) → number < length told → IfSome (slice_index_or told number other) (IsToldOf terms u number)
 
--- the clocks of a worker
-abbrev pub AreOfWorker : Terms → (ℕ → List ℕ → ℤ) → ℕ → ℕ → List Told → Type 0
-AreOfWorker terms u workers worker told =
-    AreToldUpTo terms u (share_start (terms.bidders + 1) workers worker) (share_start (terms.bidders + 1) workers (worker + 1)) told
+-- a place for each bidder, and the verdict that stands there is right
+pub record AreRight (terms : Terms) (u : ℕ → List ℕ → ℤ) (verdicts : List (Option Verdict)) : Type 0 where
+  pub count : length verdicts ≡ terms.bidders
+  pub each : (place : ℕ) (other : Option Verdict) → place < length verdicts → IfSome (slice_index_or verdicts place other) (IsRight terms.goods (u (place + 1)))
 
--- what a worker did: what it found among its bidders, and the clocks that it ran
-pub record IsPartOf (terms : Terms) (u : ℕ → List ℕ → ℤ) (workers worker : ℕ) (part : Part) : Type 0 where
-  pub found : IsFirstOf terms u (OfWorker (light_workers (terms.bidders + 1) workers) worker) part.broken
-  pub told : IfSome part.told (λ told. AreOfWorker terms u workers worker told.items)
-
--- what each worker did
-abbrev pub AreParts : Terms → (ℕ → List ℕ → ℤ) → ℕ → List Part → Type 0
-AreParts terms u workers parts = (worker : ℕ) (other : Part) → worker < workers → IsPartOf terms u workers worker (slice_index_or parts worker other)
+pub record ArePlaced (terms : Terms) (u : ℕ → List ℕ → ℤ) (placed : Placed) : Type 0 where
+  pub told : AreTold terms u placed.told.items
+  pub verdicts : AreRight terms u placed.verdicts.items

@@ -16,7 +16,6 @@ pub mod faults;
 pub mod laws;
 pub mod making;
 mod rounds;
-mod substitutes;
 mod workers;
 
 use clock::Clock;

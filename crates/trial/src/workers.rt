@@ -1,24 +1,26 @@
-//! The bidders and clocks of a trial, shared among workers.
-ghost use Rattle.std.specs.Prelude.{◌≡◌, ◌≤◌, ◌<◌, ◌+◌, ◌^◌, ℕ, length, slice_get, IfOk, IfErr, IfSome};
-ghost use Rattle.std.specs.List.{AllZip};
+//! The clocks and bidders of a trial, shared among workers.
+ghost use Rattle.std.specs.Prelude.{◌≡◌, ◌≢◌, ◌≤◌, ◌<◌, ◌+◌, ◌*◌, length, IfOk, IfErr, IfSome, OnOk};
+ghost use Rattle.std.specs.List.{AllByRecursion, AllZip};
 ghost use Rattle.lot_base.specs.Economy.{AllStrongSubstitutes};
 ghost use Rattle.clock.specs.Reports.{all_bidders, histories};
+ghost use Rattle.exchange_check.specs.Verdicts.{IsRight};
 ghost use Rattle.settlement.specs.Found.{IsFoundOf};
 ghost use Rattle.trial.specs.Bidding.{bidders_of};
-ghost use Rattle.trial.specs.Checking.{IsFirstOf, OfAll};
 ghost use Rattle.trial.specs.Refusals.{IsRefusal};
 ghost use Rattle.trial.specs.Rounds.{AreColumns};
 ghost use Rattle.trial.specs.Trials.{IsTrial};
-ghost use Rattle.trial.specs.Workers.{AreOfWorker, AreParts, AreToldUpTo, IsPartOf, IsToldOf, light_workers, share_start};
+ghost use Rattle.trial.specs.Workers.{IsPieceOf, AreParts, AreTold, AreRight, ArePlaced, IsToldOf};
 
 use crate::carrying::columns_of;
 use crate::faults::TrialFault;
 use crate::rounds::run_clock;
-use crate::substitutes::{Broken, check_share, earlier};
 use clock::Clock;
+use exchange_check::{Verdict, check};
 use lot_base::{NoMemory, Terms};
 use settlement::{ClockRow, row_of};
 use std::alloc::Global;
+use std::sync::atomic::AtomicU32;
+use std::sync::atomic::Ordering::SeqCst;
 use std::thread;
 use std::thread::Threads;
 use valuation::{Column, Valuation};
@@ -32,13 +34,22 @@ struct Told {
     row: Option<ClockRow>,
 }
 
-/// What a worker did.
+/// A piece of the work.
 #[derive(Drop)]
-struct Part {
-    /// The first of its bidders for whom the goods are no strong substitutes.
-    broken: Option<Broken>,
-    /// Its clocks, in the order of their numbers. None where they were not run: a bidder is broken, or there was no memory.
-    told: Option<Vec<Told>>,
+enum Piece {
+    /// The clock of this number.
+    Clock(u8, Told),
+    /// Whether the goods are strong substitutes for the bidder of this number.
+    Bidder(u8, Verdict),
+}
+
+/// The pieces of all workers, each at its place.
+#[derive(Drop)]
+struct Placed {
+    /// The clocks, clock 0 first. None where no worker ran it.
+    told: Vec<Option<Told>>,
+    /// The verdicts on the bidders, bidder 1 first. None where no worker checked it.
+    verdicts: Vec<Option<Verdict>>,
 }
 
 /// The clocks of a trial, and the row of each.
@@ -51,8 +62,11 @@ pub(crate) struct Run {
 }
 
 /// All clocks of a trial, in the order of their numbers, with the rows of each, or the first bidder for whom the goods are no strong
-/// substitutes. So many workers check the bidders and run the clocks, but no more than there are clocks. Where no thread can be made they
-/// work one after another.
+/// substitutes. So many workers run the clocks and check the bidders, but no more than there are clocks: each takes the next piece that
+/// no worker has taken. Where no thread can be made they work one after another.
+///
+/// More than one worker have a thread each, and the calling one has the call behind them, which does nothing: on a thread that went on
+/// working, the first thread that it made would wait for its processor, for some milliseconds on Linux, until another takes it over.
 pub(crate) fn run_workers<T: Threads + Sync>(
     rt: &T,
     alloc: Global,
@@ -61,118 +75,89 @@ pub(crate) fn run_workers<T: Threads + Sync>(
     workers: u32,
 ) -> Result<Run, TrialFault>
     requires count { length valuations.now ≡ terms.now.bidders }
-    requires workers { 1 ≤ workers }
     ensures substitutes { IfOk result (λ _. AllStrongSubstitutes terms.now.goods (bidders_of terms.now.goods valuations.now) (all_bidders terms.now.bidders)) }
     ensures trial { IfOk result (λ run. IsTrial terms.now (bidders_of terms.now.goods valuations.now) (histories run.clocks.items)) }
     ensures rows { IfOk result (λ run. AllZip IsFoundOf (histories run.clocks.items) run.rows.items) }
     ensures refused { IfErr result (IsRefusal terms.now (bidders_of terms.now.goods valuations.now)) }
 {
     let workers = (workers as usize).min(terms.bidders as usize + 1);
+    let calls = match workers {
+        1 => 1,
+        many => many + 1,
+    };
+    let next = AtomicU32::new(0);
     match thread::map_indices(
         rt,
         alloc,
-        workers,
-        &|worker| { work(alloc, terms, valuations, workers, worker) },
+        calls,
+        &|call| { part_of(alloc, terms, valuations, &next, call < workers) },
     ) {
-        Ok(parts) => conclude(alloc, terms, valuations, workers, parts),
+        Ok(parts) => conclude(alloc, terms, valuations, parts),
         Err(_) => Err(TrialFault::NoMemory),
     }
 }
 
-/// What the parts of all workers come to.
-fn conclude(
+/// What a call does: that of a worker its pieces, and the one behind them nothing.
+fn part_of(
     alloc: Global,
     terms: &Terms,
     valuations: &[Valuation],
-    workers: usize,
-    parts: Vec<Part>,
-) -> Result<Run, TrialFault>
-    requires workers { 1 ≤ workers }
-    requires count { length parts.items ≡ workers }
-    requires parts { AreParts terms.now (bidders_of terms.now.goods valuations.now) workers parts.items }
-    ensures substitutes { IfOk result (λ _. AllStrongSubstitutes terms.now.goods (bidders_of terms.now.goods valuations.now) (all_bidders terms.now.bidders)) }
-    ensures trial { IfOk result (λ run. IsTrial terms.now (bidders_of terms.now.goods valuations.now) (histories run.clocks.items)) }
-    ensures rows { IfOk result (λ run. AllZip IsFoundOf (histories run.clocks.items) run.rows.items) }
-    ensures refused { IfErr result (IsRefusal terms.now (bidders_of terms.now.goods valuations.now)) }
-{
-    match first_of(terms, valuations, workers, parts.as_slice()) {
-        None => match put_together(alloc, terms, valuations, workers, parts) {
-            Ok(run) => Ok(run),
-            Err(NoMemory) => Err(TrialFault::NoMemory),
-        },
-        Some(broken) => Err(TrialFault::NotSubstitutes {
-            bidder: broken.bidder,
-            x: broken.x,
-            y: broken.y,
-            good: broken.good,
-        }),
-    }
-}
-
-/// How many workers have a clock less than the others, or all where each has as many. These come first, and check the bidders.
-fn light_workers(clocks: usize, workers: usize) -> usize
-    requires workers { 1 ≤ workers }
-    ensures value { result ≡ light_workers clocks workers }
-    ensures some { 1 ≤ result }
-{
-    workers - clocks % workers
-}
-
-/// The number of a worker's first clock. Behind the last worker it is the number of clocks.
-fn share_start(clocks: usize, workers: usize, worker: usize) -> usize
-    requires clocks { clocks < 2 ^ 16 }
-    requires worker { worker < 2 ^ 32 }
-    requires workers { 1 ≤ workers }
-    ensures { result ≡ share_start clocks workers worker }
-{
-    clocks / workers * worker + worker.saturating_sub(light_workers(clocks, workers))
-}
-
-/// Checks the bidders of a worker, and runs its clocks where the goods are strong substitutes for each of them.
-fn work(
-    alloc: Global,
-    terms: &Terms,
-    valuations: &[Valuation],
-    workers: usize,
-    worker: usize,
-) -> Part
+    next: &AtomicU32,
+    works: bool,
+) -> Vec<Piece>
     requires count { length valuations.now ≡ terms.now.bidders }
-    requires workers { worker < workers }
-    requires few { workers < 2 ^ 32 }
-    ensures { IsPartOf terms.now (bidders_of terms.now.goods valuations.now) workers worker result }
+    ensures { AllByRecursion (IsPieceOf terms.now (bidders_of terms.now.goods valuations.now)) result.items }
 {
-    let light = light_workers(terms.bidders as usize + 1, workers);
-    let broken = check_share(terms, valuations, light, worker);
-    if broken.is_some() {
-        return Part { broken, told: None };
+    match works {
+        true => work(alloc, terms, valuations, next),
+        false => Vec::new(alloc),
     }
-    let told = run_share(alloc, terms, valuations, workers, worker).ok();
-    Part { broken, told }
 }
 
-/// The clocks that a worker runs, in the order of their numbers. Worker 0, who has the clock of all bidders, has no more clocks than another.
-fn run_share(
+/// The pieces that a worker did, until none was left or memory ran out.
+fn work(alloc: Global, terms: &Terms, valuations: &[Valuation], next: &AtomicU32) -> Vec<Piece>
+    requires count { length valuations.now ≡ terms.now.bidders }
+    ensures { AllByRecursion (IsPieceOf terms.now (bidders_of terms.now.goods valuations.now)) result.items }
+{
+    let mut pieces = Vec::new(alloc);
+    let Ok(columns) = columns_of(alloc, &terms.goods) else {
+        return pieces;
+    };
+    let count = terms.bidders as u32 * 2 + 1;
+    for _ in 0..count {
+        let number = next.fetch_add(1, SeqCst);
+        if number >= count {
+            return pieces;
+        }
+        let Ok(piece) = do_piece(alloc, terms, valuations, &columns, number as u8) else {
+            return pieces;
+        };
+        let Ok(()) = pieces.push(piece) else {
+            return pieces;
+        };
+    }
+    pieces
+}
+
+/// The piece of this number: clock after clock, and then bidder after bidder, so that the short ones come last.
+fn do_piece(
     alloc: Global,
     terms: &Terms,
     valuations: &[Valuation],
-    workers: usize,
-    worker: usize,
-) -> Result<Vec<Told>, NoMemory>
+    columns: &[Column],
+    number: u8,
+) -> Result<Piece, NoMemory>
+    requires columns { AreColumns terms.now.goods columns.now }
     requires count { length valuations.now ≡ terms.now.bidders }
-    requires workers { worker < workers }
-    requires few { workers < 2 ^ 32 }
-    ensures { IfOk result (λ told. AreOfWorker terms.now (bidders_of terms.now.goods valuations.now) workers worker told.items) }
+    requires number { number ≤ terms.now.bidders * 2 }
+    ensures { IfOk result (IsPieceOf terms.now (bidders_of terms.now.goods valuations.now)) }
 {
-    let columns = columns_of(alloc, &terms.goods)?;
-    let clocks = terms.bidders as usize + 1;
-    let first = share_start(clocks, workers, worker);
-    let end = share_start(clocks, workers, worker + 1);
-    let mut told = Vec::new(alloc);
-    for number in first..end {
-        let one = run_told(alloc, terms, valuations, &columns, number as u8)?;
-        told.push(one)?;
+    if number <= terms.bidders {
+        let told = run_told(alloc, terms, valuations, columns, number)?;
+        return Ok(Piece::Clock(number, told));
     }
-    Ok(told)
+    let bidder = number - terms.bidders;
+    Ok(Piece::Bidder(bidder, verdict_of(terms, valuations, bidder)))
 }
 
 /// The clock of this number and its row.
@@ -193,67 +178,147 @@ fn run_told(
     Ok(Told { clock, row })
 }
 
-/// The first bidder of all workers for whom the goods are no strong substitutes.
-fn first_of(
-    terms: &Terms,
-    valuations: &[Valuation],
-    workers: usize,
-    parts: &[Part],
-) -> Option<Broken>
-    requires workers { 1 ≤ workers }
-    requires count { length parts.now ≡ workers }
-    requires parts { AreParts terms.now (bidders_of terms.now.goods valuations.now) workers parts.now }
-    ensures { IsFirstOf terms.now (bidders_of terms.now.goods valuations.now) OfAll result }
+/// Whether the goods are strong substitutes for this bidder.
+fn verdict_of(terms: &Terms, valuations: &[Valuation], bidder: u8) -> Verdict
+    requires count { length valuations.now ≡ terms.now.bidders }
+    requires bidder { (1 ≤ bidder) × (bidder ≤ terms.now.bidders) }
+    ensures { IsRight terms.now.goods (bidders_of terms.now.goods valuations.now bidder) result }
 {
-    let mut first = None;
-    for worker in 0..parts.len() {
-        first = earlier(first, parts[worker].broken);
-    }
-    first
+    check(&terms.goods, &valuations[bidder as usize - 1])
 }
 
-/// The clocks of all workers, in the order of their numbers.
-fn put_together(
+/// What the pieces of all workers come to. What no worker did is done here.
+fn conclude(
     alloc: Global,
     terms: &Terms,
     valuations: &[Valuation],
-    workers: usize,
-    parts: Vec<Part>,
-) -> Result<Run, NoMemory>
-    requires workers { 1 ≤ workers }
-    requires count { length parts.items ≡ workers }
-    requires parts { AreParts terms.now (bidders_of terms.now.goods valuations.now) workers parts.items }
+    parts: Vec<Vec<Piece>>,
+) -> Result<Run, TrialFault>
+    requires count { length valuations.now ≡ terms.now.bidders }
+    requires parts { AreParts terms.now (bidders_of terms.now.goods valuations.now) parts.items }
+    ensures substitutes { IfOk result (λ _. AllStrongSubstitutes terms.now.goods (bidders_of terms.now.goods valuations.now) (all_bidders terms.now.bidders)) }
     ensures trial { IfOk result (λ run. IsTrial terms.now (bidders_of terms.now.goods valuations.now) (histories run.clocks.items)) }
     ensures rows { IfOk result (λ run. AllZip IsFoundOf (histories run.clocks.items) run.rows.items) }
+    ensures refused { IfErr result (IsRefusal terms.now (bidders_of terms.now.goods valuations.now)) }
 {
-    let mut all = Vec::new(alloc);
-    for part in parts {
-        let Part { broken: _, told } = part;
-        match told {
-            Some(mut clocks) => all.append(&mut clocks)?,
-            None => return Err(NoMemory),
-        }
+    let Ok(Placed { told, verdicts }) = place(alloc, terms, valuations, parts) else {
+        return Err(TrialFault::NoMemory);
+    };
+    match judge(terms, valuations, verdicts.as_slice()) {
+        Err(fault) => Err(fault),
+        Ok(()) => match in_order(alloc, terms, valuations, told) {
+            Err(NoMemory) => Err(TrialFault::NoMemory),
+            Ok(run) => Ok(run),
+        },
     }
-    in_order(alloc, terms, valuations, all)
 }
 
-/// The clocks of a trial and their rows, each by itself.
+/// The pieces of all workers, each at its place.
+fn place(
+    alloc: Global,
+    terms: &Terms,
+    valuations: &[Valuation],
+    mut parts: Vec<Vec<Piece>>,
+) -> Result<Placed, NoMemory>
+    requires parts { AreParts terms.now (bidders_of terms.now.goods valuations.now) parts.items }
+    ensures { IfOk result (ArePlaced terms.now (bidders_of terms.now.goods valuations.now)) }
+{
+    let mut told = Vec::new(alloc);
+    for _ in 0..terms.bidders + 1 {
+        told.push(None)?;
+    }
+    let mut verdicts = Vec::new(alloc);
+    for _ in 0..terms.bidders {
+        verdicts.push(None)?;
+    }
+    let mut placed = Placed { told, verdicts };
+    while let Some(part) = parts.pop() {
+        place_part(terms, valuations, part, &mut placed);
+    }
+    Ok(placed)
+}
+
+/// The pieces of one worker, each at its place.
+fn place_part(terms: &Terms, valuations: &[Valuation], mut part: Vec<Piece>, placed: &mut Placed)
+    requires part { AllByRecursion (IsPieceOf terms.now (bidders_of terms.now.goods valuations.now)) part.items }
+    requires placed { ArePlaced terms.now (bidders_of terms.now.goods valuations.now) placed.old }
+    ensures { ArePlaced terms.now (bidders_of terms.now.goods valuations.now) placed.new }
+{
+    while let Some(piece) = part.pop() {
+        match piece {
+            Piece::Clock(number, told) => placed.told[number as usize] = Some(told),
+            Piece::Bidder(number, verdict) => {
+                placed.verdicts[number as usize - 1] = Some(verdict);
+            }
+        }
+    }
+}
+
+/// The first bidder for whom the goods are no strong substitutes, as why there is no trial. A bidder without a verdict is checked here.
+fn judge(
+    terms: &Terms,
+    valuations: &[Valuation],
+    verdicts: &[Option<Verdict>],
+) -> Result<(), TrialFault>
+    requires count { length valuations.now ≡ terms.now.bidders }
+    requires verdicts { AreRight terms.now (bidders_of terms.now.goods valuations.now) verdicts.now }
+    ensures substitutes { OnOk result (AllStrongSubstitutes terms.now.goods (bidders_of terms.now.goods valuations.now) (all_bidders terms.now.bidders)) }
+    ensures refused { IfErr result (λ fault. (fault ≢ TrialFault.NoMemory) × IsRefusal terms.now (bidders_of terms.now.goods valuations.now) fault) }
+{
+    for place in 0..terms.bidders {
+        let bidder = place + 1;
+        let verdict = match verdicts[place as usize] {
+            Some(verdict) => verdict,
+            None => verdict_of(terms, valuations, bidder),
+        };
+        if let Verdict::Breaks { x, y, good } = verdict {
+            return Err(TrialFault::NotSubstitutes { bidder, x, y, good });
+        }
+    }
+    Ok(())
+}
+
+/// The clocks of a trial and their rows, each by itself. A clock that no worker ran is run here.
 fn in_order(
     alloc: Global,
     terms: &Terms,
     valuations: &[Valuation],
-    all: Vec<Told>,
+    mut told: Vec<Option<Told>>,
 ) -> Result<Run, NoMemory>
-    requires { AreToldUpTo terms.now (bidders_of terms.now.goods valuations.now) 0 (terms.now.bidders + 1) all.items }
+    requires count { length valuations.now ≡ terms.now.bidders }
+    requires told { AreTold terms.now (bidders_of terms.now.goods valuations.now) told.items }
     ensures trial { IfOk result (λ run. IsTrial terms.now (bidders_of terms.now.goods valuations.now) (histories run.clocks.items)) }
     ensures rows { IfOk result (λ run. AllZip IsFoundOf (histories run.clocks.items) run.rows.items) }
 {
     let mut clocks = Vec::new(alloc);
     let mut rows = Vec::new(alloc);
-    for told in all {
-        let Told { clock, row } = told;
-        clocks.push(clock)?;
-        rows.push(row)?;
+    for number in 0..terms.bidders + 1 {
+        let slot = told[number as usize].take();
+        let one = told_of(alloc, terms, valuations, slot, number)?;
+        clocks.push(one.clock)?;
+        rows.push(one.row)?;
     }
     Ok(Run { clocks, rows })
+}
+
+/// The clock of this number, which is run here where no worker ran it.
+fn told_of(
+    alloc: Global,
+    terms: &Terms,
+    valuations: &[Valuation],
+    slot: Option<Told>,
+    number: u8,
+) -> Result<Told, NoMemory>
+    requires count { length valuations.now ≡ terms.now.bidders }
+    requires number { number ≤ terms.now.bidders }
+    requires slot { IfSome slot (IsToldOf terms.now (bidders_of terms.now.goods valuations.now) number) }
+    ensures { IfOk result (IsToldOf terms.now (bidders_of terms.now.goods valuations.now) number) }
+{
+    match slot {
+        Some(told) => Ok(told),
+        None => {
+            let columns = columns_of(alloc, &terms.goods)?;
+            run_told(alloc, terms, valuations, &columns, number)
+        }
+    }
 }
