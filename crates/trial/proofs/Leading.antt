@@ -18,7 +18,7 @@ use Rattle.clock.proofs.Append.{absent-beyond}
 use Rattle.clock.proofs.Repeated.{step-same}
 use Rattle.clock.proofs.Path.{step-below}
 use Rattle.trial.specs.Trials.{true_report, round_reports, trial_reports}
-use Rattle.trial.specs.Rounds.{IsFresh, told, IsTurned, IsLed, IsCarried, AreCarried, IsStepped, AreStepped, AreColumns, surplus_at}
+use Rattle.trial.specs.Rounds.{IsFresh, told, IsTurned, IsLed, IsCarried, AreCarried, IsStepped, AreStepped, surplus_at}
 use Rattle.trial.proofs.Finding.{find-after}
 use Rattle.trial.proofs.Telling.{fresh-past, get-same}
 use Rattle.trial.proofs.Turning.{told-reports, never-full}
@@ -157,10 +157,9 @@ set-inside u before c terms found same is =
     let S : ℕ → Type 0 = λ n. n < 2 ^ length c.terms.goods in
     subst L same (subst S (sym is) (step-below c.terms.goods (members_of c) (λ j. demand c.terms.goods (u j) before)))
 
-pub column-here : (terms : Terms) (u : ℕ → List ℕ → ℤ) (steps : ℕ) (p : List ℕ) (surpluses : List Carried) (columns : List Column) (column : Column) (set place : ℕ) → AreColumns terms.goods columns → AreCarried terms u steps p surpluses → set < 2 ^ length terms.goods
-    → column ≡ get_or columns set column → place < length surpluses → IsColumn (surplus_at surpluses place).supply set column.units.items
-column-here terms u steps p surpluses columns column set place all are inside is here =
-    let C : Column → Type 0 = λ k. IsColumn terms.goods set k.units.items in
+pub column-here : (terms : Terms) (u : ℕ → List ℕ → ℤ) (steps : ℕ) (p : List ℕ) (surpluses : List Carried) (column : Column) (set place : ℕ) → IsColumn terms.goods set column.units.items → AreCarried terms u steps p surpluses → place < length surpluses
+    → IsColumn (surplus_at surpluses place).supply set column.units.items
+column-here terms u steps p surpluses column set place is are here =
     let G : List ℕ → Type 0 = λ g. IsColumn g set column.units.items in
     let over = (are.each place (let k = are.count in omega (arith, k, here))).over in
-    subst G (sym over) (subst C (sym is) (all.each set column (let k = all.count in omega (arith, k, inside))))
+    subst G (sym over) is

@@ -3,6 +3,7 @@ pub mod Telling
 pub mod Turning
 pub mod Prices
 pub mod Whole
+pub mod Slots
 pub mod Sharing
 pub mod Bidders
 pub mod Made

@@ -1,9 +1,9 @@
 -- Clocks that several workers ran, put together.
-use Rattle.std.proofs.Common.{◌≡◌, ◌<◌, ◌≤◌, ℕ, zero, suc, ◌+◌, ◌-◌, List, [], ◌∷◌, ◌++◌, length, map, get_or, set, Option, None, Some, refl, sym, ◌∙◌, ap, arith, subst, ⊎_elim}
+use Rattle.std.proofs.Common.{◌≡◌, ◌<◌, ◌≤◌, ℕ, zero, suc, ◌+◌, ◌-◌, List, [], ◌∷◌, ◌++◌, length, map, get_or, set, Option, Some, refl, sym, ◌∙◌, ap, arith, subst, ⊎_elim}
 use Rattle.std.specs.Prelude.{IfSome, ℤ}
 use Rattle.std.specs.List.{AllByRecursion, AllZip, range_with_len}
-use Rattle.std.proofs.lemmas.Bool.{cases_eq, cases_lt}
-use Rattle.std.proofs.lemmas.List.{length-append, length-set, get_or-set_same, get_or-set_other, get_or_append_left, get_or_push}
+use Rattle.std.proofs.lemmas.Bool.{cases_eq}
+use Rattle.std.proofs.lemmas.List.{length-set}
 use Rattle.lot_base.specs.Economy.{IsStrongSubstitutes}
 use Rattle.lot_base.specs.declared.auction_terms.Terms.{Terms}
 use Rattle.clock.specs.Reports.{ClockHistory, ClockOf, histories}
@@ -20,28 +20,7 @@ use Rattle.trial.specs.declared.workers.Piece.{Piece}
 use Rattle.trial.specs.declared.workers.Piece.TheVariants.{Clock, Bidder}
 use Rattle.trial.specs.declared.workers.Told.{Told}
 use Rattle.trial.proofs.Finding.{all-both}
-
--- what stands at each place of a list of slots, one of which is filled or emptied
-pub slots-set : {X : Type 0} (P : ℕ → X → Type 0) (slots : List (Option X)) (n : ℕ) (v : Option X) → n < length slots → IfSome v (P n) → ((k : ℕ) (d : Option X) → k < length slots → IfSome (get_or slots k d) (P k))
-    → (k : ℕ) (d : Option X) → k < length (set slots n v) → IfSome (get_or (set slots n v) k d) (P k)
-slots-set {X} P slots n v within here each k d below =
-    let inside : k < length slots = (let l = length-set slots n v in omega (arith, l, below)) in
-    ⊎_elim
-    (λ (same : k ≡ n).
-    let at : get_or (set slots n v) k d ≡ v = ap (λ i. get_or (set slots n v) i d) same ∙ get_or-set_same slots n v d within in
-    subst (λ (o : Option X). IfSome o (P k)) (sym at) (subst (λ (i : ℕ). IfSome v (P i)) (sym same) here))
-    (λ other. subst (λ (o : Option X). IfSome o (P k)) (sym (get_or-set_other slots n k v d other)) (each k d inside))
-    (cases_eq k n)
-
--- one empty slot more
-pub slots-push : {X : Type 0} (P : ℕ → X → Type 0) (slots next : List (Option X)) → next ≡ slots ++ None ∷ [] → ((k : ℕ) (d : Option X) → k < length slots → IfSome (get_or slots k d) (P k)) → (k : ℕ) (d : Option X) → k < length next → IfSome (get_or next k d) (P k)
-slots-push {X} P slots next is each k d below =
-    let long = ap length is in
-    let more = length-append slots (None ∷ []) in
-    ⊎_elim
-    (λ (less : k < length slots). subst (λ (o : Option X). IfSome o (P k)) (sym (ap (λ l. get_or l k d) is ∙ get_or_append_left slots (None ∷ []) d k less)) (each k d less))
-    (λ (rest : length slots ≤ k). subst (λ (o : Option X). IfSome o (P k)) (sym (ap (λ l. get_or l k d) is ∙ get_or_push slots None d k (let e : length slots ≡ k = omega (arith, below, long, more, rest) in e))) tt)
-    (cases_lt k (length slots))
+use Rattle.trial.proofs.Slots.{slots-set}
 
 -- the last of a list, and those before it
 all-last : {X : Type 0} (P : X → Type 0) (front all : List X) (x : X) → all ≡ front ++ x ∷ [] → AllByRecursion P all → AllByRecursion P front × P x

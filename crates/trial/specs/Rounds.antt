@@ -1,5 +1,5 @@
 -- A clock of a trial between two rounds and in one.
-use Rattle.std.specs.Prelude.{◌≡◌, ◌≢◌, ◌<◌, ◌≤◌, ◌+◌, ◌^◌, ℕ, ◌++◌, List, [], length, slice_index_or, ℤ}
+use Rattle.std.specs.Prelude.{◌≡◌, ◌≢◌, ◌<◌, ◌≤◌, ◌+◌, ◌^◌, ℕ, ◌++◌, List, [], length, slice_index_or, ℤ, Option, IfSome}
 use Rattle.std.specs.List.{AllByRecursion}
 use Rattle.lot_base.specs.declared.auction_terms.Terms.{Terms}
 use Rattle.lot_base.specs.declared.phases.Phase.TheVariants.{Running}
@@ -68,9 +68,9 @@ pub record IsSteady (set steps : ℕ) (s : Carried) : Type 0 where
   pub same : (v : List ℕ → ℤ) (p : List ℕ) → length p ≡ length s.supply → Carries s v p → demand s.supply v (raised_by steps set p) ≡ demand s.supply v p
 
 -- the column of each set of the goods, at the number of the set
-pub record AreColumns (goods : List ℕ) (columns : List Column) : Type 0 where
+pub record AreColumns (goods : List ℕ) (columns : List (Option Column)) : Type 0 where
   pub count : length columns ≡ 2 ^ length goods
-  pub each : (set : ℕ) (other : Column) → set < length columns → IsColumn goods set (slice_index_or columns set other).units.items
+  pub each : (set : ℕ) (other : Option Column) → set < length columns → IfSome (slice_index_or columns set other) (λ c. IsColumn goods set c.units.items)
 
 -- the history may have more rounds, all told
 pub record HasGone (u : ℕ → List ℕ → ℤ) (before after : ClockHistory) : Type 0 where

@@ -1,5 +1,5 @@
 //! The surpluses of all bidders, carried along while the prices of a clock rise.
-ghost use Rattle.std.specs.Prelude.{◌≡◌, ◌≢◌, ◌<◌, ◌≤◌, ◌+◌, ◌-◌, ◌^◌, ℕ, length, IfOk, OnOk};
+ghost use Rattle.std.specs.Prelude.{◌≡◌, ◌≢◌, ◌<◌, ◌≤◌, ◌+◌, ◌-◌, ◌^◌, ℕ, length, slice_set, Some, IfOk, IfSome, OnOk};
 ghost use Rattle.lot_base.specs.Goods.{raised};
 ghost use Rattle.valuation.specs.Carried.{IsColumn};
 ghost use Rattle.clock.specs.Standing.{steps_of, prices_of};
@@ -34,16 +34,39 @@ pub(crate) fn surpluses_at(
     Ok(surpluses)
 }
 
-/// The column of each set of the goods, at the number of the set.
-pub(crate) fn columns_of(alloc: Global, goods: &Goods) -> Result<Vec<Column>, NoMemory>
+/// A place for the column of each set of the goods, at the number of the set. A column is made when prices first rise on its set.
+pub(crate) fn no_columns(alloc: Global, goods: &Goods) -> Result<Vec<Option<Column>>, NoMemory>
     ensures { IfOk result (λ columns. AreColumns goods.now columns.items) }
 {
     let mut columns = Vec::new(alloc);
     for set in 0..goods.set_count() {
-        let column = column_of(alloc, goods, GoodSet(set))?;
-        columns.push(column)?;
+        columns.push(None)?;
     }
     Ok(columns)
+}
+
+/// The column of a set: the one that stands at its place, or else a new one.
+fn column_for(
+    alloc: Global,
+    goods: &Goods,
+    set: GoodSet,
+    slot: Option<Column>,
+) -> Result<Column, NoMemory>
+    requires { IfSome slot (λ c. IsColumn goods.now set.0 c.units.items) }
+    ensures { IfOk result (λ c. IsColumn goods.now set.0 c.units.items) }
+{
+    match slot {
+        Some(column) => Ok(column),
+        None => column_of(alloc, goods, set),
+    }
+}
+
+/// Puts a column back at its place.
+fn put_back(columns: &mut Vec<Option<Column>>, set: GoodSet, column: Column)
+    requires { set.0 < length columns.old.items }
+    ensures { columns.new.items ≡ slice_set columns.old.items set.0 (Some column) }
+{
+    columns[set.0 as usize] = Some(column);
 }
 
 /// Carries the surpluses on from the prices of the round before to the present ones. The rounds in which each member demands what it
@@ -53,25 +76,28 @@ pub(crate) fn lead(
     clock: &mut Clock,
     terms: &Terms,
     valuations: &[Valuation],
-    columns: &[Column],
+    columns: &mut Vec<Option<Column>>,
     surpluses: &mut [Surplus],
     before: &Prices,
 ) -> Result<(), NoMemory>
     requires terms { clock.old.history.terms ≡ terms.now }
-    requires columns { AreColumns terms.now.goods columns.now }
+    requires columns { AreColumns terms.now.goods columns.old.items }
     requires led { IsLed (bidders_of terms.now.goods valuations.now) before.now clock.old.history }
     requires carried { AreCarried terms.now (bidders_of terms.now.goods valuations.now) (steps_of clock.old.history - 1) before.now surpluses.old }
     ensures gone { OnOk result (HasGone (bidders_of terms.now.goods valuations.now) clock.old.history clock.new.history) }
     ensures carried { OnOk result (AreCarried terms.now (bidders_of terms.now.goods valuations.now) (steps_of clock.new.history) (prices_of clock.new.history) surpluses.new) }
+    ensures columns { AreColumns terms.now.goods columns.new.items }
 {
     let number = clock.number();
     let set = raised_between(before, &clock.look().prices);
-    let column = &columns[set.0 as usize];
-    let steady = least_steady(surpluses, number, set, column);
+    let slot = columns[set.0 as usize].take();
+    let column = column_for(alloc, &terms.goods, set, slot)?;
+    let steady = least_steady(surpluses, number, set, &column);
     match clock.repeat(alloc, steady) {
         Ok(added) => {
             let _steps = clock.steps();
-            step_all(surpluses, set, column, added + 1);
+            step_all(surpluses, set, &column, added + 1);
+            put_back(columns, set, column);
             Ok(())
         }
         Err(NoMemory) => Err(NoMemory),

@@ -22,13 +22,14 @@ pub(crate) fn run_clock(
     alloc: Global,
     terms: &Terms,
     valuations: &[Valuation],
-    columns: &[Column],
+    columns: &mut Vec<Option<Column>>,
     number: u8,
 ) -> Result<Clock, NoMemory>
-    requires columns { AreColumns terms.now.goods columns.now }
+    requires columns { AreColumns terms.now.goods columns.old.items }
     requires count { length valuations.now ≡ terms.now.bidders }
     requires number { number ≤ terms.now.bidders }
-    ensures { IfOk result (λ c. IsTrialOf terms.now (bidders_of terms.now.goods valuations.now) number c.history) }
+    ensures clock { IfOk result (λ c. IsTrialOf terms.now (bidders_of terms.now.goods valuations.now) number c.history) }
+    ensures columns { AreColumns terms.now.goods columns.new.items }
 {
     let mut clock = match Clock::new(alloc, terms, number) {
         Ok(clock) => clock,

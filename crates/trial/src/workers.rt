@@ -11,7 +11,7 @@ ghost use Rattle.trial.specs.Rounds.{AreColumns};
 ghost use Rattle.trial.specs.Trials.{IsTrial};
 ghost use Rattle.trial.specs.Workers.{IsPieceOf, AreParts, AreTold, AreRight, ArePlaced, IsToldOf};
 
-use crate::carrying::columns_of;
+use crate::carrying::no_columns;
 use crate::faults::TrialFault;
 use crate::rounds::run_clock;
 use clock::Clock;
@@ -120,7 +120,7 @@ fn work(alloc: Global, terms: &Terms, valuations: &[Valuation], next: &AtomicU32
     ensures { AllByRecursion (IsPieceOf terms.now (bidders_of terms.now.goods valuations.now)) result.items }
 {
     let mut pieces = Vec::new(alloc);
-    let Ok(columns) = columns_of(alloc, &terms.goods) else {
+    let Ok(mut columns) = no_columns(alloc, &terms.goods) else {
         return pieces;
     };
     let count = terms.bidders as u32 * 2 + 1;
@@ -129,7 +129,7 @@ fn work(alloc: Global, terms: &Terms, valuations: &[Valuation], next: &AtomicU32
         if number >= count {
             return pieces;
         }
-        let Ok(piece) = do_piece(alloc, terms, valuations, &columns, number as u8) else {
+        let Ok(piece) = do_piece(alloc, terms, valuations, &mut columns, number as u8) else {
             return pieces;
         };
         let Ok(()) = pieces.push(piece) else {
@@ -144,13 +144,14 @@ fn do_piece(
     alloc: Global,
     terms: &Terms,
     valuations: &[Valuation],
-    columns: &[Column],
+    columns: &mut Vec<Option<Column>>,
     number: u8,
 ) -> Result<Piece, NoMemory>
-    requires columns { AreColumns terms.now.goods columns.now }
+    requires columns { AreColumns terms.now.goods columns.old.items }
     requires count { length valuations.now ≡ terms.now.bidders }
     requires number { number ≤ terms.now.bidders * 2 }
-    ensures { IfOk result (IsPieceOf terms.now (bidders_of terms.now.goods valuations.now)) }
+    ensures piece { IfOk result (IsPieceOf terms.now (bidders_of terms.now.goods valuations.now)) }
+    ensures columns { AreColumns terms.now.goods columns.new.items }
 {
     if number <= terms.bidders {
         let told = run_told(alloc, terms, valuations, columns, number)?;
@@ -165,13 +166,14 @@ fn run_told(
     alloc: Global,
     terms: &Terms,
     valuations: &[Valuation],
-    columns: &[Column],
+    columns: &mut Vec<Option<Column>>,
     number: u8,
 ) -> Result<Told, NoMemory>
-    requires columns { AreColumns terms.now.goods columns.now }
+    requires columns { AreColumns terms.now.goods columns.old.items }
     requires count { length valuations.now ≡ terms.now.bidders }
     requires number { number ≤ terms.now.bidders }
-    ensures { IfOk result (λ told. IsToldOf terms.now (bidders_of terms.now.goods valuations.now) number told) }
+    ensures told { IfOk result (λ told. IsToldOf terms.now (bidders_of terms.now.goods valuations.now) number told) }
+    ensures columns { AreColumns terms.now.goods columns.new.items }
 {
     let clock = run_clock(alloc, terms, valuations, columns, number)?;
     let row = row_of(alloc, terms, &clock)?;
@@ -317,8 +319,8 @@ fn told_of(
     match slot {
         Some(told) => Ok(told),
         None => {
-            let columns = columns_of(alloc, &terms.goods)?;
-            run_told(alloc, terms, valuations, &columns, number)
+            let mut columns = no_columns(alloc, &terms.goods)?;
+            run_told(alloc, terms, valuations, &mut columns, number)
         }
     }
 }

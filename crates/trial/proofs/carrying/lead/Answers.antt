@@ -7,6 +7,8 @@ use Rattle.clock.specs.Standing.{steps_of, prices_of}
 use Rattle.trial.specs.Bidding.{bidders_of}
 use Rattle.trial.proofs.Leading.{carried-on, rose-on, set-inside, column-here}
 use Rattle.trial.proofs.Leaping.{gone-on, has-gone, few-more}
+use Rattle.trial.proofs.Slots.{column-at}
+use Rattle.std.proofs.lemmas.List.{length-set}
 use Rattle.trial.proofs.carrying.lead.Goals as goal
 
 pub step_all-requires-clause-few : goal.step_all-requires-clause-few
@@ -45,8 +47,20 @@ returns-in-Ok-clause-carried c =
     (c.requires.led.each_good ∙ ap (λ (t : Terms). length t.goods) c.requires.terms) (ap (λ k. raised_by k set before) one ∙ sym at.prices)
     (let s = c.requires.led.some_step in let m = c.in-Ok.ensures.steps in omega (arith, s, m))
 
-pub bounds-columns-set : goal.bounds-columns-set
-bounds-columns-set c =
+pub least_steady-steady-requires : goal.least_steady-steady-requires
+least_steady-steady-requires c =
+    let terms = c.args.terms.now in
+    let u = bidders_of terms.goods c.args.valuations.now in
+    λ place here. column-here terms u (steps_of c.args.clock.now.history - 1) c.args.before.now c.args.surpluses.now c.in_ok-column.column c.raised_between-set.result.0 place c.in_ok-column.ensures c.requires.carried here
+
+pub step_all-requires-clause-column : goal.step_all-requires-clause-column
+step_all-requires-clause-column c =
+    let terms = c.args.terms.now in
+    let u = bidders_of terms.goods c.args.valuations.now in
+    λ place here. column-here terms u (steps_of c.args.clock.now.history - 1) c.args.before.now c.args.surpluses.now c.in_ok-column.column c.raised_between-set.result.0 place c.in_ok-column.ensures c.requires.carried here
+
+pub index_mut-requires : goal.index_mut-requires
+index_mut-requires c =
     let terms = c.args.terms.now in
     let u = bidders_of terms.goods c.args.valuations.now in
     let old = c.args.clock.now.history in
@@ -54,20 +68,21 @@ bounds-columns-set c =
     let inside = set-inside u c.args.before.now old terms set c.requires.terms (rose-on u c.args.before.now c.look.result.prices old set c.requires.led c.look.ensures.prices c.raised_between-set.ensures) in
     omega (arith, inside, c.requires.columns.count)
 
-pub least_steady-steady-requires : goal.least_steady-steady-requires
-least_steady-steady-requires c =
+pub column_for-requires : goal.column_for-requires
+column_for-requires c =
     let terms = c.args.terms.now in
     let u = bidders_of terms.goods c.args.valuations.now in
     let old = c.args.clock.now.history in
     let set = c.raised_between-set.result.0 in
     let inside = set-inside u c.args.before.now old terms set c.requires.terms (rose-on u c.args.before.now c.look.result.prices old set c.requires.led c.look.ensures.prices c.raised_between-set.ensures) in
-    λ place here. column-here terms u (steps_of old - 1) c.args.before.now c.args.surpluses.now c.args.columns.now c.index-columns-set.result set place c.requires.columns c.requires.carried inside c.index-columns-set.is here
+    column-at terms.goods c.args.columns.now.items set c.take-slot.result _ (c.take-slot.ensures.value ∙ c.index_mut.ensures.value) inside c.requires.columns
 
-pub step_all-requires-clause-column : goal.step_all-requires-clause-column
-step_all-requires-clause-column c =
+pub put_back-requires : goal.put_back-requires
+put_back-requires c =
     let terms = c.args.terms.now in
     let u = bidders_of terms.goods c.args.valuations.now in
     let old = c.args.clock.now.history in
     let set = c.raised_between-set.result.0 in
     let inside = set-inside u c.args.before.now old terms set c.requires.terms (rose-on u c.args.before.now c.look.result.prices old set c.requires.led c.look.ensures.prices c.raised_between-set.ensures) in
-    λ place here. column-here terms u (steps_of old - 1) c.args.before.now c.args.surpluses.now c.args.columns.now c.index-columns-set.result set place c.requires.columns c.requires.carried inside c.index-columns-set.is here
+    let same = length-set c.args.columns.now.items set c.take-slot.new.self in
+    omega (arith, inside, same, c.requires.columns.count)

@@ -19,6 +19,7 @@ loop-turn-init c =
         fresh = fresh-new terms c.args.number u c.in-Ok.clock.history c.in-Ok.ensures;
         steps = omega arith;
       };
+      columns = c.requires.columns;
       carried = carried-more terms u 0 (steps_of c.in-Ok.clock.history) c.look-opening.result.prices (prices_of c.in-Ok.clock.history) c.in-Ok-surpluses_at.surpluses.items c.in-Ok-surpluses_at.ensures c.look-opening.ensures.prices (omega arith);
     }
 
@@ -57,7 +58,10 @@ returns-then-not-is_running c =
     let terms = c.args.terms.now in
     let u = bidders_of terms.goods c.args.valuations.now in
     let on = c.loop-turn.invariant.on in
-    whole-after terms c.args.number u c.loop-turn.clock.history c.tell_round.new.clock.history on.terms_are on.number_is on.fresh c.in-Ok-tell_round.ensures.told c.in-Ok-tell_round.ensures.turned c.is_running.ensures.legal (sym c.is_running.ensures.value ∙ c.if-not-is_running.true)
+    record {
+      clock = whole-after terms c.args.number u c.loop-turn.clock.history c.tell_round.new.clock.history on.terms_are on.number_is on.fresh c.in-Ok-tell_round.ensures.told c.in-Ok-tell_round.ensures.turned c.is_running.ensures.legal (sym c.is_running.ensures.value ∙ c.if-not-is_running.true);
+      columns = c.loop-turn.invariant.columns;
+    }
 
 pub loop-turn-preserved : goal.loop-turn-preserved
 loop-turn-preserved c =
@@ -71,6 +75,7 @@ loop-turn-preserved c =
     let on = on-after terms c.args.number u c.loop-turn.turn c.loop-turn.clock.history told c.loop-turn.invariant.on c.in-Ok-tell_round.ensures.told c.in-Ok-tell_round.ensures.turned (sym c.is_running.ensures.value ∙ c.if-not-is_running.false) in
     record {
       on = on-gone terms c.args.number u (c.loop-turn.turn + 1) told now on c.in-Ok-lead.ensures.gone;
+      columns = c.lead.ensures.columns;
       carried = subst A (sym (take_at c.lead.new.surpluses _ c.loop-turn.surpluses.len many)) carried;
     }
 
