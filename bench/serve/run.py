@@ -5,8 +5,8 @@
 
 PROGRAM is the built house_main. For 1, 4 and 13 active clocks and 4, 13 and 64 doors, each bidder reports round by round to the active
 clocks but its own and looks between, in each turn of the clocks once, with a pause of PAUSE microseconds (none where it is left out)
-between two turns; on 4 doors it comes for one report a session. The journals lie in a folder beside this file, so that they are on the
-disk of the repository; beside them bare pairs are measured, the two writes of a report, each with its fdatasync, by as many threads as
+between two turns; on 4 doors it comes for one report a session, for one second at most. The journals lie in a folder beside this file, so
+that they are on the disk of the repository; beside them bare pairs are measured, the two writes of a report, each with its fdatasync, by as many threads as
 there are active clocks; what SQLite commits, one report a transaction into one table, with a write-ahead log and full
 synchronisation, without any network; and a plain server that keeps its reports so (plain.rs), before the same bidders, where its
 library is there to build it.
@@ -25,6 +25,9 @@ from pathlib import Path
 from load import BIDDERS, write_auction
 
 PORT = 47_322
+
+# On few doors each report is a session, and a door of the house serves 10,000 of them at most.
+SHORT = 1
 HERE = Path(__file__).resolve().parent
 
 
@@ -51,6 +54,7 @@ def serve(words, bidder, folder, active, doors, seconds, pause):
     house = subprocess.Popen(words, cwd=folder, stdout=subprocess.DEVNULL)
     words = [str(bidder), str(PORT)]
     stay = str(int(doors > BIDDERS))
+    seconds = seconds if doors > BIDDERS else min(seconds, SHORT)
     bidders = [
         subprocess.Popen([*words, str(number), str(active), str(seconds), stay, str(pause)], stdout=subprocess.PIPE, text=True)
         for number in range(1, BIDDERS + 1)
