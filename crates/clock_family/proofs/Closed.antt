@@ -7,19 +7,18 @@ use Rattle.clock_book.specs.Books.{BookOf}
 use Rattle.clock_book.specs.declared.entries.Entry.{Entry}
 use Rattle.clock_book.specs.declared.origins.Origin.{Origin}
 use Rattle.turn_desk.specs.Passes.{Opened, Known, Closes}
-use Rattle.clock_family.specs.declared.house_books.HouseBook.{HouseBook}
 use Rattle.clock_family.specs.Houses.{HousePassOf, AreAllOf, AreClosed, column}
 use Rattle.clock_family.specs.Rows.{cells, fronts, rows_of}
 use Rattle.clock_family.proofs.Rows.{column-cells, cells-fronts}
 
 module _ {D : Type 0} where
   -- the desks from the n-th on were closed, and these are their books
-  pub record AreClosedFrom (n : ℕ) (desks : List (Opened (HouseBook D))) (passes : List HousePassOf) (books : List (BookOf D)) : Type 0 where
+  pub record AreClosedFrom (n : ℕ) (desks : List (Opened (BookOf D))) (passes : List HousePassOf) (books : List (BookOf D)) : Type 0 where
     pub count : n + length books ≡ length desks
-    pub each : (k : ℕ) (d : Opened (HouseBook D)) (b : BookOf D) → n ≤ k → k < length desks
-        → Closes (λ (book : BookOf D). book.state.history) (λ (book : BookOf D). book.origin) (get_or desks k d).book.book (column k passes) (get_or books (k - n) b)
+    pub each : (k : ℕ) (d : Opened (BookOf D)) (b : BookOf D) → n ≤ k → k < length desks
+        → Closes (λ (book : BookOf D). book.state.history) (λ (book : BookOf D). book.origin) (get_or desks k d).book (column k passes) (get_or books (k - n) b)
 
-module _ {D : Type 0} (desks : List (Opened (HouseBook D))) (passes : List HousePassOf) where
+module _ {D : Type 0} (desks : List (Opened (BookOf D))) (passes : List HousePassOf) where
   pub none-closed : (books : List (BookOf D)) → length books ≡ 0 → AreClosedFrom (length desks) desks passes (reverse books)
   none-closed books none = record {
     count = (let a = length-reverse books in omega (arith, none));
@@ -27,10 +26,10 @@ module _ {D : Type 0} (desks : List (Opened (HouseBook D))) (passes : List House
   }
 
   -- one desk more is closed
-  pub closed-more : (m : ℕ) (desk : Opened (HouseBook D)) (book : BookOf D) (books : List (BookOf D)) → AreClosedFrom (m + 1) desks passes books → ((d : Opened (HouseBook D)) → get_or desks m d ≡ desk)
-      → Closes (λ (b : BookOf D). b.state.history) (λ (b : BookOf D). b.origin) desk.book.book (column m passes) book → AreClosedFrom m desks passes (book ∷ books)
+  pub closed-more : (m : ℕ) (desk : Opened (BookOf D)) (book : BookOf D) (books : List (BookOf D)) → AreClosedFrom (m + 1) desks passes books → ((d : Opened (BookOf D)) → get_or desks m d ≡ desk)
+      → Closes (λ (b : BookOf D). b.state.history) (λ (b : BookOf D). b.origin) desk.book (column m passes) book → AreClosedFrom m desks passes (book ∷ books)
   closed-more m desk book books are here closes =
-      let Closed : Opened (HouseBook D) → ℕ → BookOf D → Type 0 = λ d k b. Closes (λ (x : BookOf D). x.state.history) (λ (x : BookOf D). x.origin) d.book.book (column k passes) b in
+      let Closed : Opened (BookOf D) → ℕ → BookOf D → Type 0 = λ d k b. Closes (λ (x : BookOf D). x.state.history) (λ (x : BookOf D). x.origin) d.book (column k passes) b in
       record {
         count = (let a = are.count in omega (arith, a));
         each = λ k d b from below. elim (cases_lt m k) [
@@ -46,7 +45,7 @@ module _ {D : Type 0} (desks : List (Opened (HouseBook D))) (passes : List House
 
   pub all-closed : (n : ℕ) (books : List (BookOf D)) → n ≡ 0 → AreClosedFrom n desks passes books → AreClosed desks passes books
   all-closed n books none are =
-      let Closed : ℕ → Opened (HouseBook D) → BookOf D → Type 0 = λ k d b. Closes (λ (x : BookOf D). x.state.history) (λ (x : BookOf D). x.origin) d.book.book (column k passes) b in
+      let Closed : ℕ → Opened (BookOf D) → BookOf D → Type 0 = λ k d b. Closes (λ (x : BookOf D). x.state.history) (λ (x : BookOf D). x.origin) d.book (column k passes) b in
       record {
         count = (let a = are.count in omega (arith, a, none));
         each = λ k d b below.
@@ -55,7 +54,7 @@ module _ {D : Type 0} (desks : List (Opened (HouseBook D))) (passes : List House
       }
 
   -- the last of the desks that are left
-  pub last-desk : (left done : List (Opened (HouseBook D))) (desk : Opened (HouseBook D)) (m : ℕ) → desks ≡ (left ++ desk ∷ []) ++ done → m ≡ length left → (d : Opened (HouseBook D)) → get_or desks m d ≡ desk
+  pub last-desk : (left done : List (Opened (BookOf D))) (desk : Opened (BookOf D)) (m : ℕ) → desks ≡ (left ++ desk ∷ []) ++ done → m ≡ length left → (d : Opened (BookOf D)) → get_or desks m d ≡ desk
   last-desk left done desk m is at d = ap (λ l. get_or l m d) (is ∙ append_assoc left (desk ∷ []) done) ∙ get_or_at left desk done d m (sym at)
 
 -- the column of rows that were cut behind it
@@ -84,10 +83,10 @@ same-rows passes p new here same = map-set_same (λ (x : HousePassOf). x.passes)
 pub same-column : (now passes : List HousePassOf) (k : ℕ) → rows_of now ≡ rows_of passes → column k now ≡ column k passes
 same-column now passes k same = column-cells k now ∙ ap (cells k) same ∙ sym (column-cells k passes)
 
-pub closed-alike : {D : Type 0} (desks : List (Opened (HouseBook D))) (now passes : List HousePassOf) (books : List (BookOf D)) → rows_of now ≡ rows_of passes → AreClosed desks now books → AreClosed desks passes books
+pub closed-alike : {D : Type 0} (desks : List (Opened (BookOf D))) (now passes : List HousePassOf) (books : List (BookOf D)) → rows_of now ≡ rows_of passes → AreClosed desks now books → AreClosed desks passes books
 closed-alike {D} desks now passes books same are = record {
   count = are.count;
   each = λ k d b below.
-      let Closed : List (Known Entry Origin) → Type 0 = λ ps. Closes (λ (x : BookOf D). x.state.history) (λ (x : BookOf D). x.origin) (get_or desks k d).book.book ps (get_or books k b) in
+      let Closed : List (Known Entry Origin) → Type 0 = λ ps. Closes (λ (x : BookOf D). x.state.history) (λ (x : BookOf D). x.origin) (get_or desks k d).book ps (get_or books k b) in
       subst Closed (same-column now passes k same) (are.each k d b below);
 }

@@ -9,7 +9,7 @@ use Rattle.clock_book.specs.Opened.{Opens}
 use Rattle.clock_book.specs.declared.entries.Entry.{Entry}
 use Rattle.clock_book.specs.declared.origins.Origin.{Origin}
 use Rattle.turn_desk.specs.Passes.{Opened, Known, AreNew, AreLater, AreAll}
-use Rattle.clock_family.specs.declared.house_books.HouseBook.{HouseBook}
+use Rattle.clock_book.specs.Books.{BookOf}
 use Rattle.clock_family.specs.Opening.{LaidOf, AreLaid, IsUnused}
 use Rattle.clock_family.specs.Houses.{HousePassOf, IsNewPass, IsOpened, room_in}
 use Rattle.clock_family.specs.Rows.{cells, rows_of, AreDealt}
@@ -72,7 +72,7 @@ new-count n desk history origin (p ∷ ps) are = sym are.0
 module _ {D : Type 0} (tells : D → Bool) (moments : D → Moments) (faults : D → ℕ) (terms : Terms) (digest : List ℕ) (count : ℕ) (disks : List D) (laid : List (LaidOf D)) (passes : List HousePassOf)
     (are : AreLaid tells moments faults terms digest count disks laid) (many : length laid ≡ length disks) (clocks : length disks ≡ terms.bidders + 1)
     (dealt : AreDealt laid (rows_of passes)) (count_is : length passes ≡ count) (room : room_in passes ≡ count) where
-  desk-at : (k : ℕ) (d : Opened (HouseBook D)) (l : LaidOf D) → k < length laid → get_or (map (λ (x : LaidOf D). x.desk) laid) k d ≡ (get_or laid k l).desk
+  desk-at : (k : ℕ) (d : Opened (BookOf D)) (l : LaidOf D) → k < length laid → get_or (map (λ (x : LaidOf D). x.desk) laid) k d ≡ (get_or laid k l).desk
   desk-at k d l below = get_or-map (λ (x : LaidOf D). x.desk) laid k l d below
 
   pass-at : (i k : ℕ) (p : HousePassOf) (q : Known Entry Origin) (l : LaidOf D) → i < length passes → k < length laid → get_or (get_or laid k l).passes i q ≡ get_or (get_or passes i p).passes k q
@@ -81,13 +81,13 @@ module _ {D : Type 0} (tells : D → Bool) (moments : D → Moments) (faults : D
       ap (λ ps. get_or ps i q) (sym (dealt.columns k l below)) ∙ cell-at (length laid) k (rows_of passes) i p.passes q dealt.long below (omega (arith, low, wide)) ∙ ap (λ (r : List (Known Entry Origin)). get_or r k q) (get_or-map (λ (x : HousePassOf). x.passes) passes i p p.passes low)
 
   fresh-at : (x : D) (i k : ℕ) (p : HousePassOf) (q : Known Entry Origin) (l : LaidOf D) → i < length passes → k < length laid
-      → IsFresh (get_or laid k l).desk (get_or laid k l).desk.book.book.state.history (get_or laid k l).desk.book.book.origin (get_or (get_or passes i p).passes k q)
+      → IsFresh (get_or laid k l).desk (get_or laid k l).desk.book.state.history (get_or laid k l).desk.book.origin (get_or (get_or passes i p).passes k q)
   fresh-at x i k p q l low below =
       let here = are.each k x l below in
       let m = get_or laid k l in
-      let long = new-count count m.desk m.desk.book.book.state.history m.desk.book.book.origin m.passes here.new in
-      let Fresh : Known Entry Origin → Type 0 = IsFresh m.desk m.desk.book.book.state.history m.desk.book.book.origin in
-      subst Fresh (pass-at i k p q l low below) (all-at Fresh m.passes i q (omega (arith, low, count_is, long)) (new-fresh count m.desk m.desk.book.book.state.history m.desk.book.book.origin m.passes here.new))
+      let long = new-count count m.desk m.desk.book.state.history m.desk.book.origin m.passes here.new in
+      let Fresh : Known Entry Origin → Type 0 = IsFresh m.desk m.desk.book.state.history m.desk.book.origin in
+      subst Fresh (pass-at i k p q l low below) (all-at Fresh m.passes i q (omega (arith, low, count_is, long)) (new-fresh count m.desk m.desk.book.state.history m.desk.book.origin m.passes here.new))
 
   pub house-opened : IsOpened tells moments faults terms digest count disks (record { terms = terms; digest = digest; desks = map (λ (x : LaidOf D). x.desk) laid }) passes
   house-opened =
@@ -101,7 +101,7 @@ module _ {D : Type 0} (tells : D → Bool) (moments : D → Moments) (faults : D
         digest_is = refl;
         clocks = wide ∙ many;
         books = λ k y d below.
-            let Is : Opened (HouseBook D) → Type 0 = λ z. Opens tells moments faults (owner_of terms k digest) (get_or disks k y) z.book.book in
+            let Is : Opened (BookOf D) → Type 0 = λ z. Opens tells moments faults (owner_of terms k digest) (get_or disks k y) z.book in
             subst Is (sym (desk-at k d l (omega (arith, below, many)))) (are.each k y l (omega (arith, below, many))).opens;
         count_is = count_is;
         new = all-from (IsNewPass (record { terms = terms; digest = digest; desks = desks })) passes (λ i p low.
@@ -111,25 +111,25 @@ module _ {D : Type 0} (tells : D → Bool) (moments : D → Moments) (faults : D
               of_house = record {
                 clocks = wide ∙ many ∙ clocks;
                 count = long ∙ sym wide;
-                desk = λ k d q below. (fresh-at x i k p q l low (omega (arith, below, long))).desk_is ∙ ap (λ (z : Opened (HouseBook D)). z.id) (sym (desk-at k d l (omega (arith, below, long))));
+                desk = λ k d q below. (fresh-at x i k p q l low (omega (arith, below, long))).desk_is ∙ ap (λ (z : Opened (BookOf D)). z.id) (sym (desk-at k d l (omega (arith, below, long))));
                 rest = λ k q below. (fresh-at x i k p q l low (omega (arith, below, long))).rests;
                 book = λ k q below.
                     let less : k < length laid = omega (arith, below, long) in
                     let of = (are.each k x l less).opens.origin in
-                    ((get_or laid k l).desk.book.book.origin, (fresh-at x i k p q l low less).origin_is, (λ j. owner_of (of.terms_are j) (of.clock_is j) (of.digest_is j)));
+                    ((get_or laid k l).desk.book.origin, (fresh-at x i k p q l low less).origin_is, (λ j. owner_of (of.terms_are j) (of.clock_is j) (of.digest_is j)));
               };
               seen = λ k d q below.
                   let less : k < length laid = omega (arith, below, wide) in
-                  (fresh-at x i k p q l low less).seen ∙ ap (λ (z : Opened (HouseBook D)). z.book.book.state.history) (sym (desk-at k d l less));
+                  (fresh-at x i k p q l low less).seen ∙ ap (λ (z : Opened (BookOf D)). z.book.state.history) (sym (desk-at k d l less));
               own = λ k q below. (fresh-at x i k p q l low (omega (arith, below, long))).own;
             });
         all = record {
           rows = (let Long : ℕ → Type 0 = λ n. AllByRecursion (λ (p : HousePassOf). length p.passes ≡ n) passes in subst Long (sym wide) rows);
           columns = λ k d below.
               let less : k < length laid = omega (arith, below, wide) in
-              let All : Opened (HouseBook D) → List (Known Entry Origin) → Type 0 = λ z ps. AreAll z.id ps in
+              let All : Opened (BookOf D) → List (Known Entry Origin) → Type 0 = λ z ps. AreAll z.id ps in
               let m = get_or laid k l in
-              subst (All (get_or desks k d)) (sym (column-cells k passes ∙ dealt.columns k l less)) (subst (λ (z : Opened (HouseBook D)). All z m.passes) (sym (desk-at k d l less)) (are.each k x l less).all);
+              subst (All (get_or desks k d)) (sym (column-cells k passes ∙ dealt.columns k l less)) (subst (λ (z : Opened (BookOf D)). All z m.passes) (sym (desk-at k d l less)) (are.each k x l less).all);
           room = room ∙ sym count_is;
         };
       }
@@ -138,7 +138,7 @@ pub laid-all : {D : Type 0} (tells : D → Bool) (moments : D → Moments) (faul
     → AreLaid tells moments faults terms digest count disks laid → 0 < length disks → n ≡ count → AllByRecursion (λ (l : LaidOf D). length l.passes ≡ n) laid
 laid-all {D} tells moments faults terms digest count disks laid n are some same = all-from (λ (l : LaidOf D). length l.passes ≡ n) laid (λ k l below.
     let m = get_or laid k l in
-    new-count count m.desk m.desk.book.book.state.history m.desk.book.book.origin m.passes (are.each k (some-of disks 0 some) l below).new ∙ sym same)
+    new-count count m.desk m.desk.book.state.history m.desk.book.origin m.passes (are.each k (some-of disks 0 some) l below).new ∙ sym same)
 
 fresh-unused : {B : Type 0} (desk : Opened B) (history : List Entry) (origin : Origin) (ps : List (Known Entry Origin)) → AllByRecursion (IsFresh desk history origin) ps → AllByRecursion (λ (p : Known Entry Origin). p.own ≡ []) ps
 fresh-unused desk history origin [] all = tt
@@ -148,5 +148,5 @@ pub laid-unused : {D : Type 0} (tells : D → Bool) (moments : D → Moments) (f
     → AreLaid tells moments faults terms digest count disks laid → 0 < length disks → AllByRecursion (IsUnused {D = D}) laid
 laid-unused {D} tells moments faults terms digest count disks laid are some = all-from (IsUnused {D = D}) laid (λ k l below.
     let m = get_or laid k l in
-    let b = m.desk.book.book in
+    let b = m.desk.book in
     record { made_nothing = fresh-unused m.desk b.state.history b.origin m.passes (new-fresh count m.desk b.state.history b.origin m.passes (are.each k (some-of disks 0 some) l below).new) })

@@ -89,7 +89,7 @@ module _ {D : Type 0} (tells : D → Bool) (moments : D → Moments) (faults : D
             let l = some-of laid k below in
             let here : get_or new k x ≡ get_or front k x = ap (λ z. get_or z k x) all ∙ get-front front (back ∷ drop (suc (length front)) disks) k x (omega (arith, below, long)) in
             subst (λ z. WasOpened tells moments faults (owner_of terms k digest) (get_or disks k x) z) (sym here)
-            (was-opened tells moments faults (owner_of terms k digest) (get_or disks k x) (get_or laid k l).desk.book.book (get_or front k x) (are.each k x l below).opens (given-at tells moments laid front k l x given below));
+            (was-opened tells moments faults (owner_of terms k digest) (get_or disks k x) (get_or laid k l).desk.book (get_or front k x) (are.each k x l below).opens (given-at tells moments laid front k l x given below));
         refused = λ x.
             let here : get_or new n x ≡ back = ap (λ l. get_or l n x) all ∙ get_or_at front back (drop (suc (length front)) disks) x n (long ∙ size) in
             subst (λ z. IsUnopened tells moments faults (owner_of terms n digest) z (get_or new n x) fault) (next.here x) (subst (λ z. IsUnopened tells moments faults (owner_of terms n digest) disk z fault) (sym here) unopened);

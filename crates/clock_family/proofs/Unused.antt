@@ -70,7 +70,7 @@ module _ {D : Type 0} (tells : D → Bool) (moments : D → Moments) where
   given-count (l ∷ ls) (x ∷ xs) are = ap suc (given-count ls xs are.1)
 
   pub given-at : (laid : List (LaidOf D)) (front : List D) (k : ℕ) (l : LaidOf D) (x : D) → AreGivenBack tells moments laid front → k < length laid
-      → IsGivenBack tells moments (get_or laid k l).desk.book.book.origin (get_or laid k l).desk.book.book.state.history (get_or front k x)
+      → IsGivenBack tells moments (get_or laid k l).desk.book.origin (get_or laid k l).desk.book.state.history (get_or front k x)
   given-at [] front k l x are below = absurd (omega (arith, below))
   given-at (m ∷ ms) [] k l x are below = absurd are
   given-at (m ∷ ms) (y ∷ ys) zero l x are below = are.0
@@ -98,7 +98,7 @@ module _ {D : Type 0} (tells : D → Bool) (moments : D → Moments) (all : List
     behind = same ∙ sym (append-nil rest);
   }
 
-  pub taken-more : (before left : List (LaidOf D)) (l : LaidOf D) (disks new : List D) (x : D) → AreTaken before disks → before ≡ left ++ l ∷ [] → IsGivenBack tells moments l.desk.book.book.origin l.desk.book.book.state.history x
+  pub taken-more : (before left : List (LaidOf D)) (l : LaidOf D) (disks new : List D) (x : D) → AreTaken before disks → before ≡ left ++ l ∷ [] → IsGivenBack tells moments l.desk.book.origin l.desk.book.state.history x
       → new ≡ disks ++ x ∷ [] → AreTaken left new
   taken-more before left l disks new x taken is back e = record {
     gone = l ∷ taken.gone;

@@ -9,14 +9,13 @@ use Rattle.clock_book.specs.Opened.{Opens}
 use Rattle.clock_book.specs.declared.entries.Entry.{Entry}
 use Rattle.clock_book.specs.declared.origins.Origin.{Origin}
 use Rattle.turn_desk.specs.Passes.{Opened, Known, AreAll, Closes}
-use Rattle.clock_family.specs.declared.house_books.HouseBook.{HouseBook}
 use Rattle.clock_family.specs.Turns.{AreOf}
 
 -- the terms of an auction, the digest of its file, and a desk for each clock, in order
 pub record HouseOf (D : Type 0) : Type 0 where
   pub terms : Terms
   pub digest : List ℕ
-  pub desks : List (Opened (HouseBook D))
+  pub desks : List (Opened (BookOf D))
 
 -- a pass for each desk of a house, in order. The first one of a house has room to close one of so many passes; any other has 0 there.
 pub record HousePassOf : Type 0 where
@@ -59,7 +58,7 @@ pub record AreAllOf {B : Type 0} (desks : List (Opened B)) (passes : List HouseP
 -- a new pass of a house: it has seen the histories of the desks' books at the opening, and has made nothing
 pub record IsNewPass {D : Type 0} (house : HouseOf D) (p : HousePassOf) : Type 0 where
   pub of_house : AreOf house.terms house.digest house.desks p.passes
-  pub seen : (k : ℕ) (d : Opened (HouseBook D)) (q : Known Entry Origin) → k < length house.desks → (slice_index_or p.passes k q).seen ≡ (slice_index_or house.desks k d).book.book.state.history
+  pub seen : (k : ℕ) (d : Opened (BookOf D)) (q : Known Entry Origin) → k < length house.desks → (slice_index_or p.passes k q).seen ≡ (slice_index_or house.desks k d).book.state.history
   pub own : (k : ℕ) (q : Known Entry Origin) → k < length p.passes → (slice_index_or p.passes k q).own ≡ []
 
 -- A house that was opened on these disks, one for each clock, with so many new passes.
@@ -67,14 +66,14 @@ pub record IsOpened {D : Type 0} (tells : D → Bool) (moments : D → Moments) 
   pub terms_are : house.terms ≡ terms
   pub digest_is : house.digest ≡ digest
   pub clocks : length house.desks ≡ length disks
-  pub books : (k : ℕ) (x : D) (d : Opened (HouseBook D)) → k < length disks → Opens tells moments faults (owner_of terms k digest) (slice_index_or disks k x) (slice_index_or house.desks k d).book.book
+  pub books : (k : ℕ) (x : D) (d : Opened (BookOf D)) → k < length disks → Opens tells moments faults (owner_of terms k digest) (slice_index_or disks k x) (slice_index_or house.desks k d).book
   pub count_is : length passes ≡ count
   pub new : AllByRecursion (IsNewPass house) passes
   pub all : AreAllOf house.desks passes
 
 -- The books of a closed house, of whose desks these were, in order: the history of each begins with that at the opening and with what
 -- each pass has seen, and each place beyond the opening is the own place of exactly one pass.
-pub record AreClosed {D : Type 0} (desks : List (Opened (HouseBook D))) (passes : List HousePassOf) (books : List (BookOf D)) : Type 0 where
+pub record AreClosed {D : Type 0} (desks : List (Opened (BookOf D))) (passes : List HousePassOf) (books : List (BookOf D)) : Type 0 where
   pub count : length books ≡ length desks
-  pub each : (k : ℕ) (d : Opened (HouseBook D)) (b : BookOf D) → k < length desks
-      → Closes (λ (book : BookOf D). book.state.history) (λ (book : BookOf D). book.origin) (slice_index_or desks k d).book.book (column k passes) (slice_index_or books k b)
+  pub each : (k : ℕ) (d : Opened (BookOf D)) (b : BookOf D) → k < length desks
+      → Closes (λ (book : BookOf D). book.state.history) (λ (book : BookOf D). book.origin) (slice_index_or desks k d).book (column k passes) (slice_index_or books k b)

@@ -13,18 +13,17 @@ use Rattle.clock_book.specs.Past.{owner_in, IsEither, KeepsPast}
 use Rattle.clock_book.specs.declared.entries.Entry.{Entry}
 use Rattle.clock_book.specs.declared.origins.Origin.{Origin}
 use Rattle.turn_desk.specs.Passes.{Opened, Known, AreNew, AreAll}
-use Rattle.clock_family.specs.declared.house_books.HouseBook.{HouseBook}
 use Rattle.clock_family.specs.Turns.{clock_in}
 
 -- a desk, with all its passes
 pub record LaidOf (D : Type 0) : Type 0 where
-  pub desk : Opened (HouseBook D)
+  pub desk : Opened (BookOf D)
   pub passes : List (Known Entry Origin)
 
 -- A desk that was laid for the clock of this number, with so many new passes: its book was opened on this disk.
-pub record IsLaidFor {D : Type 0} (tells : D → Bool) (moments : D → Moments) (faults : D → ℕ) (terms : Terms) (digest : List ℕ) (count clock : ℕ) (disk : D) (desk : Opened (HouseBook D)) (passes : List (Known Entry Origin)) : Type 0 where
-  pub opens : Opens tells moments faults (owner_of terms clock digest) disk desk.book.book
-  pub new : AreNew count desk.id desk.book.book.state.history desk.book.book.origin passes
+pub record IsLaidFor {D : Type 0} (tells : D → Bool) (moments : D → Moments) (faults : D → ℕ) (terms : Terms) (digest : List ℕ) (count clock : ℕ) (disk : D) (desk : Opened (BookOf D)) (passes : List (Known Entry Origin)) : Type 0 where
+  pub opens : Opens tells moments faults (owner_of terms clock digest) disk desk.book
+  pub new : AreNew count desk.id desk.book.state.history desk.book.origin passes
   pub all : AreAll desk.id passes
 
 -- desks that were laid for the clocks from 0 on, each on its disk
@@ -48,7 +47,7 @@ pub record IsGivenBack {D : Type 0} (tells : D → Bool) (moments : D → Moment
 -- the disks of the books on these desks, in order
 abbrev pub AreGivenBack : {D : Type 0} → (D → Bool) → (D → Moments) → List (LaidOf D) → List D → Type 0
 AreGivenBack tells moments [] [] = Unit {0}
-AreGivenBack tells moments (l ∷ ls) (x ∷ xs) = IsGivenBack tells moments l.desk.book.book.origin l.desk.book.book.state.history x × AreGivenBack tells moments ls xs
+AreGivenBack tells moments (l ∷ ls) (x ∷ xs) = IsGivenBack tells moments l.desk.book.origin l.desk.book.state.history x × AreGivenBack tells moments ls xs
 AreGivenBack tells moments [] (x ∷ xs) = ⊥
 AreGivenBack tells moments (l ∷ ls) [] = ⊥
 

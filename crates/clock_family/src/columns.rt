@@ -2,7 +2,7 @@
 ghost use Rattle.std.specs.Prelude.{◌≡◌, ℕ, ◌+◌, ◌<◌, ◌≤◌, length, slice_index_or, vec_len, vec_capacity};
 ghost use Rattle.std.specs.List.{AllByRecursion};
 ghost use Rattle.turn_desk.specs.Passes.{Opened, AreAll};
-ghost use Rattle.clock_family.specs.declared.house_books.HouseBook.{HouseBook};
+ghost use Rattle.clock_book.specs.Books.{BookOf};
 ghost use Rattle.clock_family.specs.Closing.{IsReserved};
 ghost use Rattle.clock_family.specs.Houses.{HousePassOf, AreClosed, column};
 ghost use Rattle.clock_family.specs.Rows.{fronts, rows_of};
@@ -42,7 +42,7 @@ pub(crate) fn close_all<D: Disk>(
     mut books: Vec<ClockBook<D>>,
 ) -> Vec<ClockBook<D>>
     requires rows { AllByRecursion (λ (p : HousePassOf). length p.passes ≡ length desks.items) rows.old.items }
-    requires columns { (k : ℕ) (d : Opened (HouseBook D)) → k < length desks.items → AreAll (slice_index_or desks.items k d).id (column k rows.old.items) }
+    requires columns { (k : ℕ) (d : Opened (BookOf D)) → k < length desks.items → AreAll (slice_index_or desks.items k d).id (column k rows.old.items) }
     requires lists { length desks.items ≤ length lists.items }
     requires reserved { IsReserved (vec_len rows.old) lists.items books }
     ensures closed { AreClosed desks.items rows.old.items result.items }
@@ -50,8 +50,8 @@ pub(crate) fn close_all<D: Disk>(
     while let Some(desk) = desks.pop() {
         let mut list = lists.pop().unwrap();
         take_column(rows, &mut list, desks.len());
-        let HouseBook { book } = desk.close(list);
-        books.push_reserved(book);
+        let book = desk.close(list);
+        books.push_reserved(book.into_book());
     }
     desks.destroy_empty();
     books.reverse();

@@ -1,5 +1,5 @@
 //! A clock book as it lies on a desk.
-ghost use Rattle.std.specs.Prelude.{◌≡◌, ◌<◌, ◌%◌, ◌^◌, ℕ, length};
+ghost use Rattle.std.specs.Prelude.{◌≡◌, ◌<◌, ◌%◌, ◌^◌, ℕ, length, IfOk, IfErr};
 ghost use Rattle.lot_base.specs.Demands.{IsDemand};
 ghost use Rattle.lot_base.specs.declared.phases.Phase.TheVariants.{Halted};
 ghost use Rattle.house_io.specs.Faults.{Rose};
@@ -13,12 +13,22 @@ use clock_book::{ClockBook, Entry, Origin};
 use demand_set::Demand;
 use house_io::Disk;
 use std::alloc::Global;
+use std::marker::Model;
 use turn_desk::Book;
 
-/// A clock book as it lies on a desk.
+/// A clock book as it lies on a desk, seen as that book. It lies in a box: it is some four thousand bytes long, and a turn moves what lies on a
+/// desk from one thread to the next.
 #[derive(Drop)]
 pub struct HouseBook<D: Disk> {
-    pub book: ClockBook<D>,
+    boxed: Box<ClockBook<D>>,
+}
+
+impl<D: Disk> Model for HouseBook<D> {
+    ghost use Rattle.clock_book.specs.Books.{BookOf};
+
+    ghost Value = { BookOf D };
+
+    ghost view = { λ b. b.boxed.value };
 }
 
 impl<D: Disk> Book for HouseBook<D> {
@@ -26,34 +36,56 @@ impl<D: Disk> Book for HouseBook<D> {
 
     type Origin = Origin;
 
-    ghost history = { λ b. b.book.state.history };
+    ghost history = { λ b. b.state.history };
 
-    ghost origin = { λ b. b.book.origin };
+    ghost origin = { λ b. b.origin };
 
     fn length(&self) -> u64 {
-        self.book.length()
+        self.boxed.length()
+    }
+}
+
+impl<D: Disk> HouseBook<D> {
+    /// Lays a book in a box. Where there is no memory for one, the book comes back.
+    pub(crate) fn new(alloc: Global, book: ClockBook<D>) -> Result<HouseBook<D>, ClockBook<D>>
+        ensures ok { IfOk result (λ b. b ≡ book) }
+        ensures err { IfErr result (λ b. b ≡ book) }
+    {
+        match Box::new(alloc, book) {
+            Ok(boxed) => Ok(HouseBook { boxed }),
+            Err(failed) => Err(failed.value),
+        }
+    }
+
+    /// The book.
+    pub(crate) fn into_book(self) -> ClockBook<D>
+        ensures { result ≡ self }
+    {
+        let HouseBook { boxed } = self;
+        Box::into_inner(boxed)
     }
 }
 
 impl<D: Disk> HouseBook<D> {
     /// Offers a report, in the words of the history alone. It takes no memory.
     pub fn offer(&mut self, alloc: Global, bidder: u8, round: u32, demand: Demand) -> Offered
-        requires { IsDemand self.old.book.origin.terms.goods demand }
-        ensures history { IsHistoryOffer (owner_in self.old.book.origin) self.old.book.state.history (record { bidder = bidder; round = round; demand = demand }) result self.new.book.state.history }
-        ensures goes_on { GoesOn self.old.book.state.history self.new.book.state.history }
-        ensures origin { self.new.book.origin ≡ self.old.book.origin }
-        ensures cause { result ≡ DiskFault → Rose (D.faults self.old.book.disk) (D.faults self.new.book.disk) }
+        requires { IsDemand self.old.origin.terms.goods demand }
+        ensures history { IsHistoryOffer (owner_in self.old.origin) self.old.state.history (record { bidder = bidder; round = round; demand = demand }) result self.new.state.history }
+        ensures goes_on { GoesOn self.old.state.history self.new.state.history }
+        ensures origin { self.new.origin ≡ self.old.origin }
+        ensures cause { result ≡ DiskFault → Rose (D.faults self.old.disk) (D.faults self.new.disk) }
     {
-        let _kept = self.book.clock();
-        self.book.offer(alloc, bidder, round, demand)
+        let book: &mut ClockBook<D> = &mut self.boxed;
+        let _kept = book.clock();
+        book.offer(alloc, bidder, round, demand)
     }
 
     /// What the clock shows, in the words of the history alone.
     pub fn look(&self) -> Look
-        ensures shows { Shows (clock_in (owner_in self.now.book.origin) self.now.book.state.history) result }
-        ensures goods { length result.prices ≡ length self.now.book.origin.terms.goods }
-        ensures halted { (good : ℕ) → result.phase ≡ Halted good → good < length self.now.book.origin.terms.goods }
+        ensures shows { Shows (clock_in (owner_in self.now.origin) self.now.state.history) result }
+        ensures goods { length result.prices ≡ length self.now.origin.terms.goods }
+        ensures halted { (good : ℕ) → result.phase ≡ Halted good → good < length self.now.origin.terms.goods }
     {
-        self.book.clock().look()
+        self.boxed.clock().look()
     }
 }

@@ -30,10 +30,10 @@ impl<D: Disk> Laid<D> {
     /// The disk of the clock's book, to whose history nothing came.
     pub(crate) fn into_disk(self) -> D
         requires unused { IsUnused self }
-        ensures given_back { IsGivenBack D.tells D.moments self.desk.book.book.origin self.desk.book.book.state.history result }
+        ensures given_back { IsGivenBack D.tells D.moments self.desk.book.origin self.desk.book.state.history result }
     {
         let Laid { desk, passes } = self;
-        let HouseBook { book } = desk.close(passes);
+        let book = desk.close(passes).into_book();
         let _kept = book.clock();
         let (_clock, disk) = book.into_parts();
         disk

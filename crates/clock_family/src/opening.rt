@@ -3,6 +3,7 @@ ghost use Rattle.std.specs.Prelude.{◌≡◌, ◌≤◌, ◌+◌, ◌++◌, Lis
 ghost use Rattle.recovery.specs.Journaled.{owner_of};
 ghost use Rattle.clock_book.specs.Opened.{IsUnopened};
 ghost use Rattle.std.specs.List.{AllByRecursion};
+ghost use Rattle.clock_book.specs.declared.faults.OpenFault.TheVariants.{NoMemory};
 ghost use Rattle.clock_family.specs.Opening.{IsLaidFor, AreLaid, IsUnused, AreGivenBack, IsNotOpen};
 
 use crate::house_books::HouseBook;
@@ -31,16 +32,25 @@ pub(crate) fn lay<D: Disk>(
         Err(unopened) => return Err(unopened),
         Ok(book) => book,
     };
-    match Desk::new(alloc, HouseBook { book }, passes) {
+    let book = match HouseBook::new(alloc, book) {
+        Err(book) => return Err(no_memory(book)),
+        Ok(book) => book,
+    };
+    match Desk::new(alloc, book, passes) {
         Ok((desk, passes)) => Ok(Laid { desk, passes }),
-        Err(NotMade { book }) => {
-            let HouseBook { book } = book;
-            let (_clock, disk) = book.into_parts();
-            Err(Unopened {
-                disk,
-                fault: OpenFault::NoMemory,
-            })
-        }
+        Err(NotMade { book }) => Err(no_memory(book.into_book())),
+    }
+}
+
+/// A book that was opened and for whose desk there is no memory: its disk is given back.
+fn no_memory<D: Disk>(book: ClockBook<D>) -> Unopened<D>
+    ensures disk { result.disk ≡ book.disk }
+    ensures fault { result.fault ≡ NoMemory }
+{
+    let (_clock, disk) = book.into_parts();
+    Unopened {
+        disk,
+        fault: OpenFault::NoMemory,
     }
 }
 

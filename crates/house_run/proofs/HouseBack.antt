@@ -17,7 +17,6 @@ use Rattle.auction_file.specs.declared.listing.Auction.{Auction}
 use Rattle.clock_book.specs.Books.{BookOf, IsKept}
 use Rattle.clock_family.proofs.Unused.{same-history}
 use Rattle.clock_family.specs.Houses.{AreClosed, HouseOf, HousePassOf, IsNewPass, column}
-use Rattle.clock_family.specs.declared.house_books.HouseBook.{HouseBook}
 use Rattle.turn_desk.specs.Passes.{Known, Opened}
 use Rattle.clock_book.specs.declared.entries.Entry.{Entry}
 use Rattle.clock_book.specs.declared.origins.Origin.{Origin}
@@ -30,7 +29,7 @@ use Rattle.house_run.specs.declared.ends.Ended.{Ended}
 use Rattle.house_run.specs.declared.hosting.Hosted.{Hosted}
 use Rattle.house_run.proofs.GivingSteps.{map-map, raised-later, raised-none, told-then}
 
-pub books-back : {D : Type 0} (tells : D → Bool) (moments : D → Moments) (faults : D → ℕ) (desks : List (Opened (HouseBook D))) (passes : List HousePassOf) (books : List (BookOf D)) (disks : List D) → AreClosed desks passes books
+pub books-back : {D : Type 0} (tells : D → Bool) (moments : D → Moments) (faults : D → ℕ) (desks : List (Opened (BookOf D))) (passes : List HousePassOf) (books : List (BookOf D)) (disks : List D) → AreClosed desks passes books
     → disks ≡ map (λ (b : BookOf D). b.disk) books → AllByRecursion (λ (b : BookOf D). IsKept (IsTrue (tells b.disk)) (moments b.disk) (faults b.disk) b) books → BooksBack tells moments faults desks books disks
 books-back tells moments faults desks passes books disks closed are kept = record { count = closed.count; origins = λ k d b below. (closed.each k d b below).origin_is; disks_are = are; kept = kept }
 
@@ -56,7 +55,7 @@ pub unused-back : {D : Type 0} (tells : D → Bool) (moments : D → Moments) (f
 unused-back {D} tells moments faults house passes books disks new closed are kept = record {
   books = books;
   back = books-back tells moments faults house.desks passes books disks closed are kept;
-  unused = λ k d b below. same-history (λ (x : BookOf D). x.state.history) (λ (x : BookOf D). x.origin) (get_or house.desks k d).book.book (column k passes) (get_or books k b) (none-own house passes k new) (closed.each k d b below);
+  unused = λ k d b below. same-history (λ (x : BookOf D). x.state.history) (λ (x : BookOf D). x.origin) (get_or house.desks k d).book (column k passes) (get_or books k b) (none-own house passes k new) (closed.each k d b below);
 }
 
 all-zeros : {A : Type 0} (f : A → ℕ) (xs : List A) → AllByRecursion (λ x. f x ≡ 0) xs → AllByRecursion (λ n. n ≡ 0) (map f xs)
@@ -153,7 +152,7 @@ module _ {R M : Type 0} (told : R → Option (DoorLinks M)) (faults : R → ℕ)
   }
 
 module _ {D R L M : Type 0} (tells : D → Bool) (moments : D → Moments) (disk_faults : D → ℕ) (told : R → Option (DoorLinks M)) (faults : R → ℕ) (link_told : M → Option LinkBytes) (link_faults : M → ℕ) (auction : Auction) (sessions : ℕ) where
-  as-outcome : (answer : Result Hosted Ended) (count : ℕ) (desks : List (Opened (HouseBook D))) (passes : List HousePassOf) (disks : List D) (before after : Option (NetLists R L)) (counted counted_after : ℕ)
+  as-outcome : (answer : Result Hosted Ended) (count : ℕ) (desks : List (Opened (BookOf D))) (passes : List HousePassOf) (disks : List D) (before after : Option (NetLists R L)) (counted counted_after : ℕ)
       → HouseServed {L = L} tells moments disk_faults told faults link_told link_faults auction count sessions desks passes disks answer before after counted counted_after
       → HouseOutcome {L = L} tells moments disk_faults told faults link_told link_faults auction count sessions desks passes answer disks before after counted counted_after
   as-outcome (Ok hosted) count desks passes disks before after counted counted_after served = served

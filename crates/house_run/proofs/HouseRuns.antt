@@ -21,7 +21,6 @@ use Rattle.clock_book.specs.declared.faults.OpenFault.TheVariants as why
 use Rattle.clock_family.specs.Houses.{HouseOf, HousePassOf, IsNewPass, IsOpened}
 use Rattle.clock_family.specs.Opening.{IsNotOpen}
 use Rattle.clock_family.specs.Turns.{IsOf}
-use Rattle.clock_family.specs.declared.house_books.HouseBook.{HouseBook}
 use Rattle.turn_desk.specs.Passes.{Opened}
 use Rattle.house_serve.specs.Houses.{DoorRun, Joins, turns_of}
 use Rattle.house_run.specs.ClockRuns.{AreNewPasses, BeginNew, ClockRun, IsClockRun, IsJournalRun, IsNewPassAt}
@@ -34,26 +33,26 @@ use Rattle.house_run.proofs.GivingSteps.{told-same}
 use Rattle.house_run.proofs.ClockRunning.{clock-run, journal-run, run_of, was-journal, was-run, back_of}
 
 -- the runs of books that were opened and closed, in order of the clocks
-runs_in : {D : Type 0} → List (Opened (HouseBook D)) → List (BookOf D) → List ClockRun
+runs_in : {D : Type 0} → List (Opened (BookOf D)) → List (BookOf D) → List ClockRun
 runs_in [] books = []
 runs_in (d ∷ desks) [] = []
-runs_in (d ∷ desks) (b ∷ books) = run_of d.book.book b ∷ runs_in desks books
+runs_in (d ∷ desks) (b ∷ books) = run_of d.book b ∷ runs_in desks books
 
-length-runs : {D : Type 0} (desks : List (Opened (HouseBook D))) (books : List (BookOf D)) → length books ≡ length desks → length (runs_in desks books) ≡ length desks
+length-runs : {D : Type 0} (desks : List (Opened (BookOf D))) (books : List (BookOf D)) → length books ≡ length desks → length (runs_in desks books) ≡ length desks
 unfolding runs_in
 length-runs [] books e = refl
 length-runs (d ∷ desks) [] e = absurd (omega arith)
 length-runs (d ∷ desks) (b ∷ books) e = ap suc (length-runs desks books (let t : length books ≡ length desks = omega arith in t))
 
-runs-at : {D : Type 0} (desks : List (Opened (HouseBook D))) (books : List (BookOf D)) (k : ℕ) (c : ClockRun) (d : Opened (HouseBook D)) (b : BookOf D) → length books ≡ length desks → k < length desks
-    → get_or (runs_in desks books) k c ≡ run_of (get_or desks k d).book.book (get_or books k b)
+runs-at : {D : Type 0} (desks : List (Opened (BookOf D))) (books : List (BookOf D)) (k : ℕ) (c : ClockRun) (d : Opened (BookOf D)) (b : BookOf D) → length books ≡ length desks → k < length desks
+    → get_or (runs_in desks books) k c ≡ run_of (get_or desks k d).book (get_or books k b)
 unfolding runs_in
 runs-at [] books k c d b e below = absurd (omega arith)
 runs-at (x ∷ desks) [] k c d b e below = absurd (omega arith)
 runs-at (x ∷ desks) (y ∷ books) zero c d b e below = refl
 runs-at (x ∷ desks) (y ∷ books) (suc k) c d b e below = runs-at desks books k c d b (let t : length books ≡ length desks = omega arith in t) (omega arith)
 
-histories-in : {D : Type 0} (desks : List (Opened (HouseBook D))) (books : List (BookOf D)) → length books ≡ length desks → map (λ (b : BookOf D). b.state.clock) books ≡ map (λ (c : ClockRun). c.closed.clock) (runs_in desks books)
+histories-in : {D : Type 0} (desks : List (Opened (BookOf D))) (books : List (BookOf D)) → length books ≡ length desks → map (λ (b : BookOf D). b.state.clock) books ≡ map (λ (c : ClockRun). c.closed.clock) (runs_in desks books)
 unfolding runs_in
 histories-in [] [] e = refl
 histories-in [] (b ∷ books) e = absurd (omega arith)
@@ -62,22 +61,22 @@ histories-in (d ∷ desks) (b ∷ books) e = ap (λ l. b.state.clock ∷ l) (his
 
 module _ {D : Type 0} (tells : D → Bool) (moments : D → Moments) (faults : D → ℕ) (terms : Terms) (digest : List ℕ) where
   -- one clock of a house that was opened and closed
-  record RanAt (old disks : List D) (desks : List (Opened (HouseBook D))) (books : List (BookOf D)) (k : ℕ) : Type 0 where
-    desk : Opened (HouseBook D)
+  record RanAt (old disks : List D) (desks : List (Opened (BookOf D))) (books : List (BookOf D)) (k : ℕ) : Type 0 where
+    desk : Opened (BookOf D)
     book : BookOf D
-    run_is : (c : ClockRun) → get_or (runs_in desks books) k c ≡ run_of (get_or desks k desk).book.book (get_or books k book)
-    clock : IsClockRun (owner_of terms k digest) (run_of (get_or desks k desk).book.book (get_or books k book))
+    run_is : (c : ClockRun) → get_or (runs_in desks books) k c ≡ run_of (get_or desks k desk).book (get_or books k book)
+    clock : IsClockRun (owner_of terms k digest) (run_of (get_or desks k desk).book (get_or books k book))
     marks : (d : D) → min (marks_in (get_or books k book).state.history) (2 ^ 64 - 1) ≤ faults (get_or disks k d)
-    journal : (d : D) → IsTrue (tells (get_or disks k d)) → IsJournalRun (owner_of terms k digest) (run_of (get_or desks k desk).book.book (get_or books k book)) (moments (get_or old k d)) (moments (get_or disks k d))
+    journal : (d : D) → IsTrue (tells (get_or disks k d)) → IsJournalRun (owner_of terms k digest) (run_of (get_or desks k desk).book (get_or books k book)) (moments (get_or old k d)) (moments (get_or disks k d))
 
   ran-at : (old disks : List D) (house : HouseOf D) (books : List (BookOf D)) → length house.desks ≡ length old
-      → ((k : ℕ) (x : D) (d : Opened (HouseBook D)) → k < length old → Opens tells moments faults (owner_of terms k digest) (get_or old k x) (get_or house.desks k d).book.book)
+      → ((k : ℕ) (x : D) (d : Opened (BookOf D)) → k < length old → Opens tells moments faults (owner_of terms k digest) (get_or old k x) (get_or house.desks k d).book)
       → BooksBack tells moments faults house.desks books disks → (k : ℕ) → k < length old → RanAt old disks house.desks books k
   ran-at old disks house books count opens back k below =
       let long = back.count in
       let desk = some-of house.desks k (omega arith) in
       let book = some-of books k (omega arith) in
-      let first = (get_or house.desks k desk).book.book in
+      let first = (get_or house.desks k desk).book in
       let closed = get_or books k book in
       let within : k < length house.desks = omega arith in
       let inside : k < length books = omega arith in
@@ -209,7 +208,7 @@ module _ {D R L M : Type 0} (tells : D → Bool) (moments : D → Moments) (disk
         left = λ k d below.
             let r = at k below in
             let within : k < length house.desks = (let o = opened.clocks in omega arith) in
-            inr (run_of (get_or house.desks k r.desk).book.book (get_or books k r.book), r.clock, not.closed.unused k r.desk r.book within, r.journal d);
+            inr (run_of (get_or house.desks k r.desk).book (get_or books k r.book), r.clock, not.closed.unused k r.desk r.book within, r.journal d);
         net_is = not.net_is;
         cause = house-end old disks told_before told_after counted_before counted end not.cause;
       }

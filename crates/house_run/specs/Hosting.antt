@@ -18,7 +18,6 @@ use Rattle.clock_book.specs.declared.faults.OpenFault.{OpenFault}
 use Rattle.clock_book.specs.declared.faults.OpenFault.TheVariants as why
 use Rattle.clock_family.specs.Houses.{HousePassOf}
 use Rattle.clock_family.specs.Opening.{IsNotOpen}
-use Rattle.clock_family.specs.declared.house_books.HouseBook.{HouseBook}
 use Rattle.turn_desk.specs.Passes.{Opened}
 use Rattle.house_serve.specs.Houses.{DoorRun, IsRun, Joins, turns_of}
 use Rattle.house_run.specs.Journals.{IsRefusal}
@@ -39,9 +38,9 @@ pub record DoorsServed {R L M : Type 0} (told : R → Option (DoorLinks M)) (cou
   pub after_is : after ≡ record before { doors = drop count before.doors; closed = before.closed ++ back }
 
 -- the books of a house, whose desks these were, once it was closed, and their disks
-pub record BooksBack {D : Type 0} (tells : D → Bool) (moments : D → Moments) (faults : D → ℕ) (desks : List (Opened (HouseBook D))) (books : List (BookOf D)) (disks : List D) : Type 0 where
+pub record BooksBack {D : Type 0} (tells : D → Bool) (moments : D → Moments) (faults : D → ℕ) (desks : List (Opened (BookOf D))) (books : List (BookOf D)) (disks : List D) : Type 0 where
   pub count : length books ≡ length desks
-  pub origins : (k : ℕ) (d : Opened (HouseBook D)) (b : BookOf D) → k < length desks → (slice_index_or books k b).origin ≡ (slice_index_or desks k d).book.book.origin
+  pub origins : (k : ℕ) (d : Opened (BookOf D)) (b : BookOf D) → k < length desks → (slice_index_or books k b).origin ≡ (slice_index_or desks k d).book.origin
   pub disks_are : disks ≡ map (λ (b : BookOf D). b.disk) books
   pub kept : AllByRecursion (λ (b : BookOf D). IsKept (IsTrue (tells b.disk)) (moments b.disk) (faults b.disk) b) books
 
@@ -72,10 +71,10 @@ abbrev pub LeavesNet : {R L M : Type 0} → (R → Option (DoorLinks M)) → ℕ
 LeavesNet {R = R} told count before after = (after ≡ before) ⊎ ((given : List R) × DoorsServed told count given given before after)
 
 -- the books of a house, whose desks these were, once it was closed unused, and their disks
-pub record HouseUnused {D : Type 0} (tells : D → Bool) (moments : D → Moments) (faults : D → ℕ) (desks : List (Opened (HouseBook D))) (disks : List D) : Type 0 where
+pub record HouseUnused {D : Type 0} (tells : D → Bool) (moments : D → Moments) (faults : D → ℕ) (desks : List (Opened (BookOf D))) (disks : List D) : Type 0 where
   pub books : List (BookOf D)
   pub back : BooksBack tells moments faults desks books disks
-  pub unused : (k : ℕ) (d : Opened (HouseBook D)) (b : BookOf D) → k < length desks → (slice_index_or books k b).state.history ≡ (slice_index_or desks k d).book.book.state.history
+  pub unused : (k : ℕ) (d : Opened (BookOf D)) (b : BookOf D) → k < length desks → (slice_index_or books k b).state.history ≡ (slice_index_or desks k d).book.state.history
 
 -- What is told of doors that served, where none failed: how the sessions at each ended, and these clocks.
 pub record TellsServed {R L : Type 0} (clocks : List ClockHistory) (doors : List (DoorRun R L)) (hosted : Hosted) (before now : ℕ) : Type 0 where
@@ -95,23 +94,23 @@ ServedAnswer clocks doors (Err end) before now = TellsFailed doors end before no
 
 module _ {D R L M : Type 0} (tells : D → Bool) (moments : D → Moments) (disk_faults : D → ℕ) (told : R → Option (DoorLinks M)) (faults : R → ℕ) (link_told : M → Option LinkBytes) (link_faults : M → ℕ) (auction : Auction) (count sessions : ℕ) where
   -- a house of these desks was served with these passes at doors of the net, and closed
-  pub record HouseServed (desks : List (Opened (HouseBook D))) (passes : List HousePassOf) (disks : List D) (answer : Result Hosted Ended) (told_before told_after : Option (NetLists R L)) (counted_before counted : ℕ) : Type 0 where
+  pub record HouseServed (desks : List (Opened (BookOf D))) (passes : List HousePassOf) (disks : List D) (answer : Result Hosted Ended) (told_before told_after : Option (NetLists R L)) (counted_before counted : ℕ) : Type 0 where
     pub books : List (BookOf D)
     pub back : BooksBack tells moments disk_faults desks books disks
     pub runs : List (DoorRun R M)
     pub passes_are : passes ≡ map (λ (r : DoorRun R M). r.before) runs
     pub ran : DoorsRan {L = L} told faults link_told link_faults auction count sessions runs told_before told_after
-    pub joins : (k : ℕ) (d : Opened (HouseBook D)) (b : BookOf D) → k < length desks
-        → Joins (slice_index_or desks k d).book.book.state.history (slice_index_or books k b).state.history (flat_map turns_of runs) k
+    pub joins : (k : ℕ) (d : Opened (BookOf D)) (b : BookOf D) → k < length desks
+        → Joins (slice_index_or desks k d).book.state.history (slice_index_or books k b).state.history (flat_map turns_of runs) k
     pub answer_is : ServedAnswer (map (λ (b : BookOf D). b.state.clock) books) runs answer counted_before counted
 
   -- a house of these desks was closed unused
-  pub record HouseNotServed (desks : List (Opened (HouseBook D))) (disks : List D) (end : Ended) (told_before told_after : Option (NetLists R L)) (counted_before counted : ℕ) : Type 0 where
+  pub record HouseNotServed (desks : List (Opened (BookOf D))) (disks : List D) (end : Ended) (told_before told_after : Option (NetLists R L)) (counted_before counted : ℕ) : Type 0 where
     pub closed : HouseUnused tells moments disk_faults desks disks
     pub net_is : IfTold told_before told_after (LeavesNet told count)
     pub cause : HouseEnd counted_before counted end
 
-  abbrev pub HouseOutcome : List (Opened (HouseBook D)) → List HousePassOf → Result Hosted Ended → List D → Option (NetLists R L) → Option (NetLists R L) → ℕ → ℕ → Type 0
+  abbrev pub HouseOutcome : List (Opened (BookOf D)) → List HousePassOf → Result Hosted Ended → List D → Option (NetLists R L) → Option (NetLists R L) → ℕ → ℕ → Type 0
   HouseOutcome desks passes (Ok hosted) disks told_before told_after counted_before counted = HouseServed desks passes disks (Ok hosted) told_before told_after counted_before counted
   HouseOutcome desks passes (Err end) disks told_before told_after counted_before counted =
       HouseServed desks passes disks (Err end) told_before told_after counted_before counted ⊎ HouseNotServed desks disks end told_before told_after counted_before counted

@@ -17,7 +17,6 @@ use Rattle.turn_desk.specs.Histories.{StartsWith}
 use Rattle.turn_desk.specs.Passes.{Opened}
 use Rattle.clock_family.specs.Houses.{HouseOf, HousePassOf, AreClosed}
 use Rattle.clock_family.specs.Seats.{SeatAllows}
-use Rattle.clock_family.specs.declared.house_books.HouseBook.{HouseBook}
 use Rattle.session.specs.declared.halls.Asked.{Asked}
 use Rattle.session.specs.declared.halls.Asked.TheVariants as asked
 use Rattle.session.specs.Turns.{Turn}
@@ -115,5 +114,5 @@ module _ {R L : Type 0} (told : R → Option (DoorLinks L)) (faults : R → ℕ)
     pub logs_are : logs ≡ map (λ (r : DoorRun R L). r.log) runs
     pub each : AllByRecursion IsRun runs
     pub closed : AreClosed house.desks (map (λ (r : DoorRun R L). r.after) runs) books
-    pub joins : (clock : ℕ) (d : Opened (HouseBook D)) (b : BookOf D) → clock < length house.desks
-        → Joins (slice_index_or house.desks clock d).book.book.state.history (slice_index_or books clock b).state.history (flat_map turns_of runs) clock
+    pub joins : (clock : ℕ) (d : Opened (BookOf D)) (b : BookOf D) → clock < length house.desks
+        → Joins (slice_index_or house.desks clock d).book.state.history (slice_index_or books clock b).state.history (flat_map turns_of runs) clock

@@ -5,7 +5,6 @@ use Rattle.turn_desk.specs.Passes.{Opened, Known, AreAll, Closes}
 use Rattle.clock_book.specs.Books.{BookOf}
 use Rattle.clock_book.specs.declared.entries.Entry.{Entry}
 use Rattle.clock_book.specs.declared.origins.Origin.{Origin}
-use Rattle.clock_family.specs.declared.house_books.HouseBook.{HouseBook}
 use Rattle.clock_family.specs.Closing.{IsSpare}
 use Rattle.clock_family.specs.Houses.{AreClosed, column}
 use Rattle.clock_family.specs.Rows.{fronts, rows_of}
@@ -56,7 +55,7 @@ close-book-requires g c =
     let within : m < length c.args.desks.items = (let a = ap length i.done.1 in let b = length-append c.loop-desk.desks.items i.done.0 in omega (arith, less, a, b)) in
     let here = last-desk c.args.desks.items c.args.rows.now.items c.pop.new.self.items i.done.0 c.in-Some.desk m (i.done.1 ∙ ap (λ z. z ++ i.done.0) is) at c.in-Some.desk in
     let col = c.take_column.ensures.list ∙ column-left c.loop-desk.rows.items c.args.rows.now.items m (length c.loop-desk.desks.items) i.rows less in
-    let All : Opened (HouseBook g.row.D.Denot) → List (Known Entry Origin) → Type 0 = λ d ps. AreAll d.id ps in
+    let All : Opened (BookOf g.row.D.Denot) → List (Known Entry Origin) → Type 0 = λ d ps. AreAll d.id ps in
     record { all = subst (All c.in-Some.desk) (sym col) (subst (λ d. All d (column m c.args.rows.now.items)) here (c.requires.columns m c.in-Some.desk within)) }
 
 pub returns : goal.returns
@@ -80,14 +79,16 @@ loop-desk-preserved g c =
     let here = last-desk c.args.desks.items c.args.rows.now.items c.pop.new.self.items i.done.0 c.in-Some.desk m whole at in
     let col = c.take_column.ensures.list ∙ column-left c.loop-desk.rows.items c.args.rows.now.items m (length c.loop-desk.desks.items) i.rows less in
     let k = c.close-book.ensures in
-    let Closed : List (Known Entry Origin) → Type 0 = λ ps. Closes (λ (b : BookOf g.row.D.Denot). b.state.history) (λ (b : BookOf g.row.D.Denot). b.origin) c.in-Some.desk.book.book ps c.close-book.result.book in
+    let Is : BookOf g.row.D.Denot → List (Known Entry Origin) → Type 0 = λ b ps. Closes (λ (x : BookOf g.row.D.Denot). x.state.history) (λ (x : BookOf g.row.D.Denot). x.origin) c.in-Some.desk.book ps b in
+    let Closed = Is c.close-book.result in
     let closed : Closed (column m c.args.rows.now.items) = subst Closed col (record { origin_is = k.origin_is; goes_on = k.goes_on; seen = k.seen; own = k.own; places = k.places }) in
-    let back : reverse c.push_reserved.new.self.items ≡ c.close-book.result.book ∷ reverse c.loop-desk.books.items = ap reverse c.push_reserved.ensures.items ∙ reverse-append c.loop-desk.books.items (c.close-book.result.book ∷ []) in
+    let closed = subst (λ (b : BookOf g.row.D.Denot). Is b (column m c.args.rows.now.items)) (sym c.into_book.ensures) closed in
+    let back : reverse c.push_reserved.new.self.items ≡ c.into_book.result ∷ reverse c.loop-desk.books.items = ap reverse c.push_reserved.ensures.items ∙ reverse-append c.loop-desk.books.items (c.into_book.result ∷ []) in
     let From : ℕ → List (BookOf g.row.D.Denot) → Type 0 = λ n. AreClosedFrom n c.args.desks.items c.args.rows.now.items in
-    let next = closed-more c.args.desks.items c.args.rows.now.items m c.in-Some.desk c.close-book.result.book (reverse c.loop-desk.books.items) (subst (λ (n : ℕ). From n (reverse c.loop-desk.books.items)) more i.closed) here closed in
+    let next = closed-more c.args.desks.items c.args.rows.now.items m c.in-Some.desk c.into_book.result (reverse c.loop-desk.books.items) (subst (λ (n : ℕ). From n (reverse c.loop-desk.books.items)) more i.closed) here closed in
     record {
       done = (c.in-Some.desk ∷ i.done.0, whole ∙ append_assoc c.pop.new.self.items (c.in-Some.desk ∷ []) i.done.0);
-      closed = subst (From (length c.pop.new.self.items)) (sym back) (subst (λ (n : ℕ). From n (c.close-book.result.book ∷ reverse c.loop-desk.books.items)) at next);
+      closed = subst (From (length c.pop.new.self.items)) (sym back) (subst (λ (n : ℕ). From n (c.into_book.result ∷ reverse c.loop-desk.books.items)) at next);
       rows = c.take_column.ensures.rows ∙ (ap (fronts m) i.rows ∙ (fronts-fronts m (length c.loop-desk.desks.items) rows (omega (arith, less)) ∙ ap (λ (z : ℕ). fronts z rows) at));
       many = c.take_column.ensures.count ∙ i.many;
       lists = (let a = ap length lists_are in let b = length-append c.pop-in-Some.new.self.items (c.unwrap-list.result ∷ []) in let d = i.lists in omega (arith, a, b, d, more, at));

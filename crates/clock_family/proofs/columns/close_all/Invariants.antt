@@ -1,7 +1,7 @@
 use Rattle.std.proofs.Common.{◌≡◌, ◌+◌, ◌≤◌, List, ◌++◌, length, reverse, vec_len, vec_capacity}
 use Rattle.std.specs.List.{AllByRecursion}
 use Rattle.turn_desk.specs.Passes.{Opened}
-use Rattle.clock_family.specs.declared.house_books.HouseBook.{HouseBook}
+use Rattle.clock_book.specs.Books.{BookOf}
 use Rattle.clock_family.specs.Closing.{IsSpare}
 use Rattle.clock_family.proofs.Closed.{AreClosedFrom}
 use Rattle.clock_family.specs.Rows.{fronts, rows_of}
@@ -9,7 +9,7 @@ use Rattle.clock_family.proofs.columns.close_all.Given as goal
 
 abbrev pub invariant-loop-desk : goal.invariant-loop-desk
 invariant-loop-desk g l = record {
-  done : (done : List (Opened (HouseBook g.row.D.Denot))) × (l.initial.desks.items ≡ l.desks.items ++ done);
+  done : (done : List (Opened (BookOf g.row.D.Denot))) × (l.initial.desks.items ≡ l.desks.items ++ done);
   closed : AreClosedFrom (length l.desks.items) l.initial.desks.items l.initial.rows.items (reverse l.books.items);
   rows : rows_of l.rows.items ≡ fronts (length l.desks.items) (rows_of l.initial.rows.items);
   many : vec_len l.rows ≡ vec_len l.initial.rows;

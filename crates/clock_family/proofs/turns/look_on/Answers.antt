@@ -15,7 +15,7 @@ returns-clause-of_house g c =
 
 pub returns-clause-looks : goal.returns-clause-looks
 returns-clause-looks g c =
-    let book = c.take-book.result.book in
+    let book = c.take-book.result in
     let before = book.state.history in
     record {
       origin = book.origin;
@@ -29,6 +29,6 @@ returns-clause-looks g c =
 pub returns-clause-halted : goal.returns-clause-halted
 returns-clause-halted g c = λ good e.
     let h = c.requires.of_house in
-    let here = same-some c.take-book.result.book.origin h.0 (sym c.take-book.ensures.origin ∙ h.1) in
-    let owner : owner_in c.take-book.result.book.origin ≡ owner_in h.0 = ap owner_in here in
+    let here = same-some c.take-book.result.origin h.0 (sym c.take-book.ensures.origin ∙ h.1) in
+    let owner : owner_in c.take-book.result.origin ≡ owner_in h.0 = ap owner_in here in
     subst (λ (o : Owner). good < length o.terms.goods) (owner ∙ h.2) (c.look-look.ensures.halted good e)

@@ -17,8 +17,8 @@ returns-clause-of_house g c =
 
 pub returns-clause-offers : goal.returns-clause-offers
 returns-clause-offers g c =
-    let book = c.take-book.result.book in
-    let after = c.offer-answer.new.self.book.state.history in
+    let book = c.take-book.result in
+    let after = c.offer-answer.new.self.state.history in
     record {
       origin = book.origin;
       origin_is = c.take-book.ensures.origin;
@@ -32,10 +32,10 @@ returns-clause-offers g c =
 pub returns-clause-refusal : goal.returns-clause-refusal
 returns-clause-refusal g c =
     let h = c.requires.of_house in
-    let here = same-some c.take-book.result.book.origin h.0 (sym c.take-book.ensures.origin ∙ h.1) in
-    let owner : owner_in c.take-book.result.book.origin ≡ owner_in h.0 = ap owner_in here in
+    let here = same-some c.take-book.result.origin h.0 (sym c.take-book.ensures.origin ∙ h.1) in
+    let owner : owner_in c.take-book.result.origin ≡ owner_in h.0 = ap owner_in here in
     let whole = owner ∙ h.2 in
     let r : Report = record { bidder = c.args.bidder; round = c.args.round; demand = c.args.demand } in
     let O : Owner → Type 0 = λ o. IsOffered (r.bidder ≡ o.clock) c.offer-answer.result in
     let R : Owner → Type 0 = λ o. IsRange 1 o.terms.bidders r.bidder in
-    subst O whole (refusal-of (owner_in c.take-book.result.book.origin) c.take-book.result.book.state.history c.offer-answer.new.self.book.state.history r c.offer-answer.result (subst R (sym whole) c.requires.bidder) c.offer-answer.ensures.history)
+    subst O whole (refusal-of (owner_in c.take-book.result.origin) c.take-book.result.state.history c.offer-answer.new.self.state.history r c.offer-answer.result (subst R (sym whole) c.requires.bidder) c.offer-answer.ensures.history)

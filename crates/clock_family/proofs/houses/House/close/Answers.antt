@@ -3,7 +3,7 @@ use Rattle.std.specs.List.{AllByRecursion}
 use Rattle.clock_book.specs.declared.entries.Entry.{Entry}
 use Rattle.clock_book.specs.declared.origins.Origin.{Origin}
 use Rattle.turn_desk.specs.Passes.{Opened, Known, AreAll}
-use Rattle.clock_family.specs.declared.house_books.HouseBook.{HouseBook}
+use Rattle.clock_book.specs.Books.{BookOf}
 use Rattle.clock_family.specs.Closing.{IsReserved}
 use Rattle.clock_family.specs.Houses.{HouseOf, HousePassOf, AreClosed, column}
 use Rattle.clock_family.specs.Rows.{rows_of}
@@ -38,7 +38,7 @@ close_all-requires-clause-columns g c =
     let new = c.take_closing-closing.new.self in
     let same = same-rows c.args.passes.items c.index_mut.result.now new c.index_mut.ensures.value c.take_closing-closing.ensures.passes in
     let now = set c.args.passes.items 0 new in
-    let All : List (Opened (HouseBook g.row.D.Denot)) → Type 0 = λ ds. (k : ℕ) (d : Opened (HouseBook g.row.D.Denot)) → k < length ds → AreAll (get_or ds k d).id (column k now) in
+    let All : List (Opened (BookOf g.row.D.Denot)) → Type 0 = λ ds. (k : ℕ) (d : Opened (BookOf g.row.D.Denot)) → k < length ds → AreAll (get_or ds k d).id (column k now) in
     let all : All c.args.self.desks = λ k d below. subst (λ ps. AreAll (get_or c.args.self.desks k d).id ps) (sym (same-column now c.args.passes.items k same)) (c.requires.all.columns k d below) in
     subst (λ (h : HouseOf g.row.D.Denot). All h.desks) (sym c.self.view_is) all
 
@@ -65,6 +65,6 @@ returns g c =
     let new = c.take_closing-closing.new.self in
     let same = same-rows c.args.passes.items c.index_mut.result.now new c.index_mut.ensures.value c.take_closing-closing.ensures.passes in
     let now = set c.args.passes.items 0 new in
-    let Closed : List (Opened (HouseBook g.row.D.Denot)) → List HousePassOf → Type 0 = λ ds ps. AreClosed ds ps c.close_all.result.items in
+    let Closed : List (Opened (BookOf g.row.D.Denot)) → List HousePassOf → Type 0 = λ ds ps. AreClosed ds ps c.close_all.result.items in
     let closed : Closed c.args.self.desks now = subst (λ (h : HouseOf g.row.D.Denot). Closed h.desks now) c.self.view_is c.close_all.ensures.closed in
     record { closed = closed-alike c.args.self.desks now c.args.passes.items c.close_all.result.items same closed }
