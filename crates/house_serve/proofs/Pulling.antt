@@ -15,7 +15,7 @@ use Rattle.session.specs.Turns.{frames_of, bytes_of}
 use Rattle.house_serve.specs.declared.ends.SessionEnd.{SessionEnd}
 use Rattle.house_serve.specs.declared.ends.SessionEnd.TheVariants as ends
 use Rattle.house_serve.specs.Ends.{EndsBy}
-use Rattle.house_serve.specs.Pieces.{Adds, Takes, GoesOn, IsMidway}
+use Rattle.house_serve.specs.Pieces.{Adds, AreWhole, Takes, GoesOn, IsMidway}
 use Rattle.house_serve.specs.Serving.{Went, WentBytes, Ended, EndedBytes, IsEmptyAtEnd}
 
 midway_end : (e : SessionEnd) (piece : List ℕ) → IsMidway e → IsEmptyAtEnd e piece
@@ -43,6 +43,7 @@ module _ {M : Type 0} (allows : M → Asked → M → Type 0) (auction : Auction
       g.1 ∙ sym (append-nil x.written),
       append-nil reader.rest,
       (refl, partial, size, sym g.0.bytes ∙ (g.0.at_end room).0 refl, refl),
+      ([], refl),
     )),
   )
 
@@ -61,6 +62,7 @@ module _ {M : Type 0} (allows : M → Asked → M → Type 0) (auction : Auction
       g.1 ∙ sym (append-nil x.written),
       append-nil reader.rest,
       (tt, ([], inl refl)),
+      ([], refl),
     )),
   )
 
@@ -74,12 +76,12 @@ module _ {M : Type 0} (allows : M → Asked → M → Type 0) (auction : Auction
         a.held,
         a.each,
         subst (λ (l : List ℕ). GoesOn auction w (frames_of a.turns) l reader reader_after) a.goes.tail_is a.goes,
-        told-trans t t1 t2 (Receives (Ok count) into) (λ x y. (given : List ℕ) × Adds given x y × (given ≡ bytes_of a.turns)) (WentBytes reader reader_after a.turns count) pulled a.sent
+        told-trans t t1 t2 (Receives (Ok count) into) (λ x y. (given : List ℕ) × Adds given x y × AreWhole a.turns given × (given ≡ bytes_of a.turns)) (WentBytes reader reader_after a.turns count) pulled a.sent
             (λ x y z p q. (
               take count into,
               length-take-le count into within,
               p.0.bytes ∙ ap (λ (l : List ℕ). take count into ++ l) (sym q.1.0),
-              q.1.1 ∙ ap (λ (l : List ℕ). l ++ q.0) p.1 ∙ ap (λ (l : List ℕ). x.written ++ l) q.2,
+              q.1.1 ∙ ap (λ (l : List ℕ). l ++ q.0) p.1 ∙ ap (λ (l : List ℕ). x.written ++ l) q.3,
               a.front ∙ ap (λ (l : List ℕ). stream_of (map house_sent (frames_of a.turns)) l) a.goes.tail_is,
             )),
       ),
@@ -91,7 +93,7 @@ module _ {M : Type 0} (allows : M → Asked → M → Type 0) (auction : Auction
       a.held,
       a.each,
       told-trans t t1 t2 (Receives (Ok count) into)
-          (λ x y. (given : List ℕ) × Adds given x y × EndsBy auction w (frames_of a.turns) a.tail ((reader.place + length (stream_of (map house_sent (frames_of a.turns)) [])) % 2 ^ 64) y.left (bytes_of a.turns) given e)
+          (λ x y. (given : List ℕ) × Adds given x y × AreWhole a.turns given × EndsBy auction w (frames_of a.turns) a.tail ((reader.place + length (stream_of (map house_sent (frames_of a.turns)) [])) % 2 ^ 64) y.left (bytes_of a.turns) given e)
           (EndedBytes auction (length into) reader w a.turns e) pulled a.sent
           (λ x y z p q. (
             take count into,
@@ -102,6 +104,7 @@ module _ {M : Type 0} (allows : M → Asked → M → Type 0) (auction : Auction
             p.0.bytes ∙ ap (λ (l : List ℕ). take count into ++ l) (sym q.1.0),
             q.1.1 ∙ ap (λ (l : List ℕ). l ++ q.0) p.1,
             a.front,
+            q.3,
             q.2,
           )),
     )

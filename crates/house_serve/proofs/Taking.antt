@@ -19,8 +19,9 @@ use Rattle.session.specs.Turns.{frames_of, bytes_of, goes_on_behind}
 use Rattle.house_serve.specs.declared.ends.SessionEnd.{SessionEnd}
 use Rattle.house_serve.specs.declared.ends.SessionEnd.TheVariants as ends
 use Rattle.house_serve.specs.Ends.{EndsBy, fault_bytes}
-use Rattle.house_serve.specs.Pieces.{Adds, WritesBy, GoesBy, Answers, Takes, IsMidway, IsFaultSent}
+use Rattle.house_serve.specs.Pieces.{Adds, AreWhole, WritesBy, GoesBy, Answers, Takes, IsMidway, IsFaultSent}
 use Rattle.house_serve.proofs.Behind.{one_of}
+use Rattle.house_serve.proofs.Turned.{whole_with}
 
 all_front : {A : Type 0} (P : A → Type 0) (xs ys : List A) → AllByRecursion P (xs ++ ys) → AllByRecursion P xs
 all_front P [] ys h = tt
@@ -46,20 +47,23 @@ ends_by auction w fs tail place left bytes given ends.NoMemory h k = (h, (k.0, i
 
 -- the reply to a fault behind the replies
 fault_ends : (auction : Auction) (w : Option ℕ) (fs : List ToHouse) (tail : List ℕ) (place : ℕ) (bytes : List ℕ) (f : WireFault) (e : SessionEnd) (x y z : LinkBytes) → goes_on_behind auction w fs ≡ true → IsFault to_house f.kind tail → f.place ≡ place
-    → Adds bytes x y → IsFaultSent f e y z → (given : List ℕ) × Adds given x z × EndsBy auction w fs tail place z.left bytes given e
+    → Adds bytes x y → IsFaultSent f e y z → (given : List ℕ) × Adds given x z × ((more : List ℕ) × (given ≡ bytes ++ more)) × EndsBy auction w fs tail place z.left bytes given e
 fault_ends auction w fs tail place bytes f (ends.Wire other) x y z go is at a h = (
   bytes ++ fault_bytes f.kind,
   (h.1.0 ∙ a.0, h.1.1 ∙ ap (λ (l : List ℕ). l ++ fault_bytes f.kind) a.1 ∙ append_assoc x.written bytes (fault_bytes f.kind)),
+  (fault_bytes f.kind, refl),
   subst (λ (g : WireFault). EndsBy auction w fs tail place z.left bytes (bytes ++ fault_bytes f.kind) (ends.Wire g)) (sym h.0) (go, is, at, refl),
 )
 fault_ends auction w fs tail place bytes f ends.LinkFault x y z go is at a h = (
   bytes ++ h.0,
   (h.3.0 ∙ a.0, h.3.1 ∙ ap (λ (l : List ℕ). l ++ h.0) a.1 ∙ append_assoc x.written bytes h.0),
+  (h.0, refl),
   (one_of auction fs w go, (h.1, inr (f.kind, go, is, ap (λ (l : List ℕ). bytes ++ l) h.2 ∙ sym (append_assoc bytes h.0 h.1)))),
 )
 fault_ends auction w fs tail place bytes f ends.NoMemory x y z go is at a h = (
   bytes ++ h.0,
   (h.3.0 ∙ a.0, h.3.1 ∙ ap (λ (l : List ℕ). l ++ h.0) a.1 ∙ append_assoc x.written bytes h.0),
+  (h.0, refl),
   (one_of auction fs w go, (h.1, inr (f.kind, go, is, ap (λ (l : List ℕ). bytes ++ l) h.2 ∙ sym (append_assoc bytes h.0 h.1)))),
 )
 fault_ends auction w fs tail place bytes f ends.Quit x y z go is at a h = absurd h
@@ -89,7 +93,7 @@ module _ {M : Type 0} (allows : M → Asked → M → Type 0) (auction : Auction
     each = tt;
     front = refl;
     goes = tt;
-    sent = told-same t (λ b a. (given : List ℕ) × Adds given b a × EndsBy auction w [] (reader.rest ++ piece) ((reader.place + 0) % 2 ^ 64) a.left [] given ends.NoMemory) (λ x. ([], (refl, sym (append-nil x.written)), (tt, ([], inl refl))));
+    sent = told-same t (λ b a. (given : List ℕ) × Adds given b a × AreWhole {M = M} [] given × EndsBy auction w [] (reader.rest ++ piece) ((reader.place + 0) % 2 ^ 64) a.left [] given ends.NoMemory) (λ x. ([], (refl, sym (append-nil x.written)), ([], refl), (tt, ([], inl refl))));
   }
 
   module _ (frames : List ToHouse) (reads : Reads to_house (reader.rest ++ piece) (map house_sent frames) reader_after.rest reader_after.fault)
@@ -104,10 +108,10 @@ module _ {M : Type 0} (allows : M → Asked → M → Type 0) (auction : Auction
           each = all_front (IsSent to_house) (map house_sent (frames_of a.turns)) (map house_sent a.more) (subst (AllByRecursion (IsSent to_house)) parts reads.each);
           front = reads.whole ∙ ap (λ (l : List Sent). stream_of l reader_after.rest) parts ∙ stream_on (map house_sent (frames_of a.turns)) (map house_sent a.more) reader_after.rest;
           goes = midway auction w (frames_of a.turns) e a.goes;
-          sent = told-map t t1 (λ x y. (given : List ℕ) × Adds given x y × WritesBy (Some e) (bytes_of a.turns) given)
-              (λ x y. (given : List ℕ) × Adds given x y × EndsBy auction w (frames_of a.turns) (stream_of (map house_sent a.more) reader_after.rest) ((reader.place + length (stream_of (map house_sent (frames_of a.turns)) [])) % 2 ^ 64) y.left (bytes_of a.turns) given e)
+          sent = told-map t t1 (λ x y. (given : List ℕ) × Adds given x y × AreWhole a.turns given × WritesBy (Some e) (bytes_of a.turns) given)
+              (λ x y. (given : List ℕ) × Adds given x y × AreWhole a.turns given × EndsBy auction w (frames_of a.turns) (stream_of (map house_sent a.more) reader_after.rest) ((reader.place + length (stream_of (map house_sent (frames_of a.turns)) [])) % 2 ^ 64) y.left (bytes_of a.turns) given e)
               a.sent
-              (λ x y h. (h.0, h.1, ends_by auction w (frames_of a.turns) (stream_of (map house_sent a.more) reader_after.rest) ((reader.place + length (stream_of (map house_sent (frames_of a.turns)) [])) % 2 ^ 64) y.left (bytes_of a.turns) h.0 e a.goes h.2));
+              (λ x y h. (h.0, h.1, h.2, ends_by auction w (frames_of a.turns) (stream_of (map house_sent a.more) reader_after.rest) ((reader.place + length (stream_of (map house_sent (frames_of a.turns)) [])) % 2 ^ 64) y.left (bytes_of a.turns) h.0 e a.goes h.3));
         }
 
     module _ (a : Answers allows auction frames w m t w1 m1 t1 None) where
@@ -150,9 +154,10 @@ module _ {M : Type 0} (allows : M → Asked → M → Type 0) (auction : Auction
             each = read.each;
             front = read.whole;
             goes = mid;
-            sent = told-trans t t1 t2 (λ x y. (given : List ℕ) × Adds given x y × (given ≡ bytes_of a.turns)) (IsFaultSent f e)
-                (λ x y. (given : List ℕ) × Adds given x y × EndsBy auction w (frames_of a.turns) reader_after.rest ((reader.place + length (stream_of (map house_sent (frames_of a.turns)) [])) % 2 ^ 64) y.left (bytes_of a.turns) given e)
+            sent = told-trans t t1 t2 (λ x y. (given : List ℕ) × Adds given x y × AreWhole a.turns given × (given ≡ bytes_of a.turns)) (IsFaultSent f e)
+                (λ x y. (given : List ℕ) × Adds given x y × AreWhole a.turns given × EndsBy auction w (frames_of a.turns) reader_after.rest ((reader.place + length (stream_of (map house_sent (frames_of a.turns)) [])) % 2 ^ 64) y.left (bytes_of a.turns) given e)
                 a.sent sent
-                (λ x y z p q. fault_ends auction w (frames_of a.turns) reader_after.rest ((reader.place + length (stream_of (map house_sent (frames_of a.turns)) [])) % 2 ^ 64) (bytes_of a.turns) f e x y z a.goes faulty (is.1 ∙ placed)
-                (p.1.0, p.1.1 ∙ ap (λ (l : List ℕ). x.written ++ l) p.2) q);
+                (λ x y z p q. let sent = fault_ends auction w (frames_of a.turns) reader_after.rest ((reader.place + length (stream_of (map house_sent (frames_of a.turns)) [])) % 2 ^ 64) (bytes_of a.turns) f e x y z a.goes faulty (is.1 ∙ placed)
+                (p.1.0, p.1.1 ∙ ap (λ (l : List ℕ). x.written ++ l) p.3) q in
+                (sent.0, sent.1, whole_with a.turns sent.0 sent.2.0 sent.2.1, sent.3));
           }

@@ -14,12 +14,28 @@ use Rattle.session.specs.declared.halls.Asked.{Asked}
 use Rattle.session.specs.Table.{bidder_after}
 use Rattle.session.specs.Turns.{Turn, IsTurn, AreTurns, frames_of, bytes_of, bidder_behind}
 use Rattle.house_serve.specs.declared.ends.SessionEnd.{SessionEnd}
-use Rattle.house_serve.specs.Pieces.{Adds, WritesBy, GoesBy, Answers}
+use Rattle.house_serve.specs.Pieces.{Adds, AreWhole, WritesBy, GoesBy, Answers, earlier_bytes}
 use Rattle.house_serve.proofs.Behind.{goes_join, writes_join}
 
 pub bytes_on : {M : Type 0} (ts us : List (Turn M)) → bytes_of (ts ++ us) ≡ bytes_of ts ++ bytes_of us
 bytes_on [] us = refl
 bytes_on (t ∷ ts) us = ap (λ (l : List ℕ). spelled (bidder_sent t.reply) ++ l) (bytes_on ts us) ∙ sym (append_assoc (spelled (bidder_sent t.reply)) (bytes_of ts) (bytes_of us))
+
+-- turns behind turns whose replies were written
+pub whole_behind : {M : Type 0} (ts us : List (Turn M)) (given : List ℕ) → AreWhole us given → AreWhole (ts ++ us) (bytes_of ts ++ given)
+whole_behind [] us given h = h
+whole_behind (t ∷ []) [] given h = (bytes_of (t ∷ []) ++ given, refl)
+whole_behind (t ∷ []) (u ∷ us) given h =
+    let text : List ℕ = spelled (bidder_sent t.reply) in
+    (h.0, ap (λ (l : List ℕ). l ++ given) (append-nil text) ∙ ap (λ (l : List ℕ). text ++ l) h.1 ∙ sym (append_assoc text (earlier_bytes (u ∷ us)) h.0))
+whole_behind (t ∷ u ∷ ts) us given h =
+    let text : List ℕ = spelled (bidder_sent t.reply) in
+    let more = whole_behind (u ∷ ts) us given h in
+    (more.0, append_assoc text (bytes_of (u ∷ ts)) given ∙ ap (λ (l : List ℕ). text ++ l) more.1 ∙ sym (append_assoc text (earlier_bytes (u ∷ ts ++ us)) more.0))
+
+-- turns whose replies were written, and more behind them
+pub whole_with : {M : Type 0} (ts : List (Turn M)) (given more : List ℕ) → given ≡ bytes_of ts ++ more → AreWhole ts given
+whole_with ts given more e = subst (λ (l : List (Turn _)). AreWhole l given) (append-nil ts) (subst (AreWhole (ts ++ [])) (sym e) (whole_behind ts [] more (more, refl)))
 
 pub frames_on : {M : Type 0} (ts us : List (Turn M)) → frames_of (ts ++ us) ≡ frames_of ts ++ frames_of us
 frames_on {M = M} ts us = map-append (λ (t : Turn M). t.frame) ts us
@@ -56,20 +72,20 @@ module _ {M : Type 0} (allows : M → Asked → M → Type 0) (auction : Auction
     all = λ _. refl;
     held = (refl, refl);
     goes = refl;
-    sent = told-same t (λ b a. (given : List ℕ) × Adds given b a × WritesBy None [] given) (λ x. ([], (refl, sym (append-nil x.written)), refl));
+    sent = told-same t (λ b a. (given : List ℕ) × Adds given b a × AreWhole {M = M} [] given × WritesBy None [] given) (λ x. ([], (refl, sym (append-nil x.written)), ([], refl), refl));
   }
 
   pub one : (f : ToHouse) (w w1 : Option ℕ) (m m1 : M) (t t1 : Option LinkBytes) (reply : ToBidder) (asked : Option Asked) (end : Option SessionEnd) → IsTurn allows auction w m (record { frame = f; asked = asked; reply = reply; now = m1 })
       → w1 ≡ bidder_after auction w f → GoesBy auction w (f ∷ []) end → IfTold t t1 (λ b a. (given : List ℕ) × Adds given b a × WritesBy end (spelled (bidder_sent reply)) given)
       → Answers allows auction (f ∷ []) w m t w1 m1 t1 end
-  one f w w1 m m1 t t1 reply asked end turn later goes sent = record {
-    turns = record { frame = f; asked = asked; reply = reply; now = m1 } ∷ [];
+  one f w w1 m m1 t t1 reply asked end is later goes sent = let turn : Turn M = record { frame = f; asked = asked; reply = reply; now = m1 } in record {
+    turns = turn ∷ [];
     more = [];
     frames_are = refl;
     all = λ _. refl;
-    held = (turn, (later, refl));
+    held = (is, (later, refl));
     goes = goes;
-    sent = told-map t t1 (λ b a. (given : List ℕ) × Adds given b a × WritesBy end (spelled (bidder_sent reply)) given) (λ b a. (given : List ℕ) × Adds given b a × WritesBy end (spelled (bidder_sent reply) ++ []) given) sent (λ x y h. (h.0, h.1, subst (λ (l : List ℕ). WritesBy end l h.0) (sym (append-nil (spelled (bidder_sent reply)))) h.2));
+    sent = told-map t t1 (λ b a. (given : List ℕ) × Adds given b a × WritesBy end (spelled (bidder_sent reply)) given) (λ b a. (given : List ℕ) × Adds given b a × AreWhole (turn ∷ []) given × WritesBy end (spelled (bidder_sent reply) ++ []) given) sent (λ x y h. (h.0, h.1, (h.0, refl), subst (λ (l : List ℕ). WritesBy end l h.0) (sym (append-nil (spelled (bidder_sent reply)))) h.2));
   }
 
   pub join : (fs gs : List ToHouse) (w w1 w2 : Option ℕ) (m m1 m2 : M) (t t1 t2 : Option LinkBytes) (end : Option SessionEnd) → Answers allows auction fs w m t w1 m1 t1 None → Answers allows auction gs w1 m1 t1 w2 m2 t2 end
@@ -86,11 +102,13 @@ module _ {M : Type 0} (allows : M → Asked → M → Type 0) (auction : Auction
         all = b.all;
         held = turns_on a.turns b.turns w w1 w2 m m1 m2 a.held b.held;
         goes = subst (λ (l : List ToHouse). GoesBy auction w l end) (sym both) (goes_join auction (frames_of a.turns) (frames_of b.turns) w end a.goes (subst (λ (x : Option ℕ). GoesBy auction x (frames_of b.turns) end) later b.goes));
-        sent = told-trans t t1 t2 (λ x y. (given : List ℕ) × Adds given x y × WritesBy None (bytes_of a.turns) given) (λ x y. (given : List ℕ) × Adds given x y × WritesBy end (bytes_of b.turns) given) (λ x y. (given : List ℕ) × Adds given x y × WritesBy end (bytes_of (a.turns ++ b.turns)) given) a.sent b.sent (λ x y z p q. (
-          bytes_of a.turns ++ q.0,
-          (q.1.0 ∙ p.1.0, q.1.1 ∙ ap (λ (l : List ℕ). l ++ q.0) (p.1.1 ∙ ap (λ (l : List ℕ). x.written ++ l) p.2) ∙ append_assoc x.written (bytes_of a.turns) q.0),
-          subst (λ (l : List ℕ). WritesBy end l (bytes_of a.turns ++ q.0)) (sym bytes) (writes_join end (bytes_of a.turns) (bytes_of b.turns) q.0 q.2),
-        ));
+        sent = told-trans t t1 t2 (λ x y. (given : List ℕ) × Adds given x y × AreWhole a.turns given × WritesBy None (bytes_of a.turns) given) (λ x y. (given : List ℕ) × Adds given x y × AreWhole b.turns given × WritesBy end (bytes_of b.turns) given)
+            (λ x y. (given : List ℕ) × Adds given x y × AreWhole (a.turns ++ b.turns) given × WritesBy end (bytes_of (a.turns ++ b.turns)) given) a.sent b.sent (λ x y z p q. (
+              bytes_of a.turns ++ q.0,
+              (q.1.0 ∙ p.1.0, q.1.1 ∙ ap (λ (l : List ℕ). l ++ q.0) (p.1.1 ∙ ap (λ (l : List ℕ). x.written ++ l) p.3) ∙ append_assoc x.written (bytes_of a.turns) q.0),
+              whole_behind a.turns b.turns q.0 q.2,
+              subst (λ (l : List ℕ). WritesBy end l (bytes_of a.turns ++ q.0)) (sym bytes) (writes_join end (bytes_of a.turns) (bytes_of b.turns) q.0 q.3),
+            ));
       }
 
   pub extend : (gs hs : List ToHouse) (w w1 : Option ℕ) (m m1 : M) (t t1 : Option LinkBytes) (e : SessionEnd) → Answers allows auction gs w m t w1 m1 t1 (Some e) → Answers allows auction (gs ++ hs) w m t w1 m1 t1 (Some e)

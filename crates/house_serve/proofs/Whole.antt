@@ -16,9 +16,10 @@ use Rattle.house_serve.specs.declared.ends.SessionEnd.{SessionEnd}
 use Rattle.house_serve.specs.declared.ends.SessionEnd.TheVariants as ends
 use Rattle.house_serve.specs.Ends.{EndsBy, TakesBy, IsCut, fault_bytes, most}
 use Rattle.house_serve.specs.Pieces.{GoesOn}
+use Rattle.house_serve.specs.declared.serving.TheConstants.{CHUNK}
 use Rattle.house_serve.specs.Serving.{Served, IsSession, Going, Underway, Went, WentBytes, Ended, EndedBytes, IsEmptyAtEnd}
 use Rattle.house_serve.proofs.Behind.{behind_on, ends_on, one_on}
-use Rattle.house_serve.proofs.Turned.{bytes_on, frames_on, turns_on, later_is}
+use Rattle.house_serve.proofs.Turned.{bytes_on, frames_on, turns_on, later_is, whole_behind, whole_with}
 
 -- the bytes of frames behind frames
 sent_on : {M : Type 0} (ts us : List (Turn M)) → map house_sent (frames_of (ts ++ us)) ≡ map house_sent (frames_of ts) ++ map house_sent (frames_of us)
@@ -91,7 +92,7 @@ module _ {M : Type 0} (allows : M → Asked → M → Type 0) (auction : Auction
       bidder = None;
       held = (refl, refl);
       each = tt;
-      bytes = told-same t (Served {M = M} auction [] ends.NoMemory) (λ x. record { taken = []; given = []; tail = []; left = refl; written = sym (append-nil x.written); front = refl; ends = (tt, ([], inl refl)); takes = omega arith });
+      bytes = told-same t (Served {M = M} auction [] ends.NoMemory) (λ x. record { taken = []; given = []; tail = []; left = refl; written = sym (append-nil x.written); front = refl; ends = (tt, ([], inl refl)); whole = ([], refl); takes = omega arith; pulls = record { done = []; new = []; rest = []; piece = []; turns_are = refl; taken_is = refl; goes = refl; partial = inl (omega arith); short = omega arith } });
     },
   )
 
@@ -121,8 +122,8 @@ module _ {M : Type 0} (allows : M → Asked → M → Type 0) (auction : Auction
           });
         }
 
-    pub whole_end : (w2 : Option ℕ) (m2 : M) (t2 : Option LinkBytes) (room : ℕ) (e : SessionEnd) → count < most → count + room ≤ most → Ended allows auction room reader w m1 t1 w2 m2 t2 e → (turns : List (Turn M)) × IsSession allows auction turns m m2 t t2 e
-    whole_end w2 m2 t2 room e lt fits s =
+    pub whole_end : (w2 : Option ℕ) (m2 : M) (t2 : Option LinkBytes) (room : ℕ) (e : SessionEnd) → room ≤ CHUNK → count < most → count + room ≤ most → Ended allows auction room reader w m1 t1 w2 m2 t2 e → (turns : List (Turn M)) × IsSession allows auction turns m m2 t t2 e
+    whole_end w2 m2 t2 room e short lt fits s =
         let new = s.0 in (
           u.turns ++ new,
           record {
@@ -145,6 +146,18 @@ module _ {M : Type 0} (allows : M → Asked → M → Type 0) (auction : Auction
                   subst (λ (l : List ℕ). EndsBy auction None (frames_of (u.turns ++ new)) q.2 (length (stream_of (map house_sent (frames_of (u.turns ++ new))) []) % 2 ^ 64) z.left l (bytes_of u.turns ++ q.1) e) (sym (bytes_on u.turns new)) framed
                   );
               takes = subst (λ (k : ℕ). TakesBy k e) (let a = length-append p.taken q.0 in let b = p.count_is in omega (arith, a, b)) (takes_by e count (length q.0) room q.0 refl q.4 lt q.3 fits);
+              whole = whole_behind u.turns new q.1 q.9;
+              pulls = record {
+                done = u.turns;
+                new = new;
+                rest = reader.rest;
+                piece = q.0;
+                turns_are = refl;
+                taken_is = ap (λ (l : List ℕ). l ++ q.0) p.front;
+                goes = u.going;
+                partial = u.partial;
+                short = (let l = q.3 in omega (arith, l, short));
+              };
             });
           },
         )
@@ -164,7 +177,19 @@ module _ {M : Type 0} (allows : M → Asked → M → Type 0) (auction : Auction
           written = p.written;
           front = p.front;
           ends = (u.going, u.partial, refl);
+          whole = whole_with u.turns (bytes_of u.turns) [] (sym (append-nil (bytes_of u.turns)));
           takes = p.count_is ∙ full;
+          pulls = record {
+            done = u.turns;
+            new = [];
+            rest = reader.rest;
+            piece = [];
+            turns_are = sym (append-nil u.turns);
+            taken_is = p.front ∙ sym (append-nil (stream_of (map house_sent (frames_of u.turns)) reader.rest));
+            goes = u.going;
+            partial = u.partial;
+            short = omega arith;
+          };
         });
       },
     )

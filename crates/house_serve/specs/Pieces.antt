@@ -1,12 +1,12 @@
 -- What one frame and one piece of a stream do to a session, its hall and its link.
-use Rattle.std.specs.Prelude.{◌≡◌, ◌≤◌, ℕ, ◌+◌, ◌%◌, ◌^◌, true, List, [], ◌++◌, length, map, Option, Some, None, MatchOption, Result, Ok, Err}
+use Rattle.std.specs.Prelude.{◌≡◌, ◌≤◌, ℕ, ◌+◌, ◌%◌, ◌^◌, true, List, [], ◌∷◌, ◌++◌, length, map, Option, Some, None, MatchOption, Result, Ok, Err}
 use Rattle.std.specs.List.{AllByRecursion}
 use Rattle.house_io.specs.Told.{IfTold}
 use Rattle.house_io.specs.Links.{LinkBytes}
 use Rattle.auction_file.specs.declared.listing.Auction.{Auction}
 use Rattle.report_wire.specs.declared.messages.ToHouse.{ToHouse}
-use Rattle.report_wire.specs.Frames.{IsSent, IsPartial, stream_of}
-use Rattle.report_wire.specs.Messages.{to_house, house_sent}
+use Rattle.report_wire.specs.Frames.{IsSent, IsPartial, spelled, stream_of}
+use Rattle.report_wire.specs.Messages.{to_house, house_sent, bidder_sent}
 use Rattle.report_wire.specs.Reading.{ReaderState}
 use Rattle.session.specs.declared.halls.Asked.{Asked}
 use Rattle.session.specs.Turns.{Turn, AreTurns, frames_of, bytes_of, goes_on_behind}
@@ -44,6 +44,16 @@ GoesBy auction who frames (Some ends.Spent) = ⊥
 GoesBy auction who frames (Some ends.LinkFault) = IsOneSession auction who frames
 GoesBy auction who frames (Some ends.NoMemory) = IsOneSession auction who frames
 
+-- the bytes of all replies but the last
+abbrev pub earlier_bytes : {M : Type 0} → List (Turn M) → List ℕ
+earlier_bytes [] = []
+earlier_bytes (t ∷ []) = []
+earlier_bytes (t ∷ u ∷ ts) = spelled (bidder_sent t.reply) ++ earlier_bytes (u ∷ ts)
+
+-- Each reply but the last was written whole: behind one that was not, no frame has a turn.
+abbrev pub AreWhole : {M : Type 0} → List (Turn M) → List ℕ → Type 0
+AreWhole turns given = (part : List ℕ) × (given ≡ earlier_bytes turns ++ part)
+
 -- so many of the frames had their turns, all of them where the session goes on
 pub record Answers {M : Type 0} (allows : M → Asked → M → Type 0) (auction : Auction) (frames : List ToHouse) (who : Option ℕ) (before : M) (told : Option LinkBytes) (later : Option ℕ) (after : M) (told_after : Option LinkBytes) (end : Option SessionEnd) : Type 0 where
   pub turns : List (Turn M)
@@ -52,7 +62,7 @@ pub record Answers {M : Type 0} (allows : M → Asked → M → Type 0) (auction
   pub all : end ≡ None → more ≡ []
   pub held : AreTurns allows auction who before turns later after
   pub goes : GoesBy auction who (frames_of turns) end
-  pub sent : IfTold told told_after (λ b a. (given : List ℕ) × Adds given b a × WritesBy end (bytes_of turns) given)
+  pub sent : IfTold told told_after (λ b a. (given : List ℕ) × Adds given b a × AreWhole turns given × WritesBy end (bytes_of turns) given)
 
 -- what a reader has behind a piece that ended no session
 pub record GoesOn (auction : Auction) (who : Option ℕ) (frames : List ToHouse) (tail : List ℕ) (reader reader_after : ReaderState) : Type 0 where
@@ -80,7 +90,7 @@ pub record Takes {M : Type 0} (allows : M → Asked → M → Type 0) (auction :
   pub each : AllByRecursion (IsSent to_house) (map house_sent (frames_of turns))
   pub front : reader.rest ++ piece ≡ stream_of (map house_sent (frames_of turns)) tail
   pub goes : MatchOption end (GoesOn auction who (frames_of turns) tail reader reader_after) IsMidway
-  pub sent : IfTold told told_after (λ b a. (given : List ℕ) × Adds given b a
+  pub sent : IfTold told told_after (λ b a. (given : List ℕ) × Adds given b a × AreWhole turns given
       × MatchOption end (given ≡ bytes_of turns) (λ e. EndsBy auction who (frames_of turns) tail ((reader.place + length (stream_of (map house_sent (frames_of turns)) [])) % 2 ^ 64) a.left (bytes_of turns) given e))
 
 -- a reply was sent whole, or a front of it

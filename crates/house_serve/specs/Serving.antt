@@ -13,8 +13,22 @@ use Rattle.house_serve.specs.declared.ends.SessionEnd.{SessionEnd}
 use Rattle.house_serve.specs.declared.ends.SessionEnd.TheVariants as ends
 use Rattle.house_serve.specs.declared.serving.Step.{Step}
 use Rattle.house_serve.specs.declared.serving.Step.TheVariants as step
+use Rattle.house_serve.specs.declared.serving.TheConstants.{CHUNK}
 use Rattle.house_serve.specs.Ends.{EndsBy, TakesBy}
-use Rattle.house_serve.specs.Pieces.{HasEndCause, GoesOn}
+use Rattle.house_serve.specs.Pieces.{AreWhole, HasEndCause, GoesOn}
+
+-- What was taken before the last pull is frames behind which the session went on, and less than a frame. That pull brought one piece at
+-- most.
+pub record IsPulledLast {M : Type 0} (auction : Auction) (turns : List (Turn M)) (taken : List ℕ) : Type 0 where
+  pub done : List (Turn M)
+  pub new : List (Turn M)
+  pub rest : List ℕ
+  pub piece : List ℕ
+  pub turns_are : turns ≡ done ++ new
+  pub taken_is : taken ≡ stream_of (map house_sent (frames_of done)) rest ++ piece
+  pub goes : goes_on_behind auction None (frames_of done) ≡ true
+  pub partial : IsPartial to_house rest
+  pub short : length piece ≤ CHUNK
 
 -- What was taken begins with the frames that had their turns. What was written is the bytes of their replies, as the end says.
 pub record Served {M : Type 0} (auction : Auction) (turns : List (Turn M)) (end : SessionEnd) (before after : LinkBytes) : Type 0 where
@@ -25,7 +39,9 @@ pub record Served {M : Type 0} (auction : Auction) (turns : List (Turn M)) (end 
   pub written : after.written ≡ before.written ++ given
   pub front : taken ≡ stream_of (map house_sent (frames_of turns)) tail
   pub ends : EndsBy auction None (frames_of turns) tail (length (stream_of (map house_sent (frames_of turns)) []) % 2 ^ 64) after.left (bytes_of turns) given end
+  pub whole : AreWhole turns given
   pub takes : TakesBy (length taken) end
+  pub pulls : IsPulledLast auction turns taken
 
 -- The whole of a session: its turns led the hall from one meaning to another, and they are those of the bytes, where these are told.
 pub record IsSession {M : Type 0} (allows : M → Asked → M → Type 0) (auction : Auction) (turns : List (Turn M)) (before after : M) (told told_after : Option LinkBytes) (end : SessionEnd) : Type 0 where
@@ -83,6 +99,7 @@ EndedBytes auction most reader who turns end b a =
     (piece : List ℕ) × (given : List ℕ) × (tail : List ℕ) × (length piece ≤ most) × IsEmptyAtEnd end piece × (b.left ≡ piece ++ a.left) × (a.written ≡ b.written ++ given)
     × (reader.rest ++ piece ≡ stream_of (map house_sent (frames_of turns)) tail)
     × EndsBy auction who (frames_of turns) tail ((reader.place + length (stream_of (map house_sent (frames_of turns)) [])) % 2 ^ 64) a.left (bytes_of turns) given end
+    × AreWhole turns given
 
 abbrev pub Ended : {M : Type 0} → (M → Asked → M → Type 0) → Auction → ℕ → ReaderState → Option ℕ → M → Option LinkBytes → Option ℕ → M → Option LinkBytes → SessionEnd → Type 0
 Ended {M = M} allows auction most reader who before told later after told_after end =

@@ -75,7 +75,8 @@ fn pull_once<H: Hall, L: Link, T: Wait>(
     }
 }
 
-/// Serves a session over a link, from its first byte to its end, and asks this hall. Each frame is answered before the next is read.
+/// Serves a session over a link, from its first byte to its end, and asks this hall. The frames of a piece are answered in order, before
+/// the next piece is pulled.
 ///
 /// The end is that of the bytes: `Quit` or `BadToken` by the last frame, `Wire` by a fault in the next frame's place, `Closed` at the
 /// end of input, `Spent` where as many bytes were taken as one session may. `LinkFault` comes only where a call on the link failed,

@@ -46,7 +46,7 @@ returns-in-Ended-clause-session g c =
     let room = c.min-room.ensures in
     let below = c.pieces-test.true in
     whole_end g.H.Hall.allows c.args.auction.now (g.H.Hall.meaning c.args.hall.now) (g.H.Hall.meaning c.pieces.hall) c.pieces.session c.pieces.reader c.pieces.taken (g.L.Link.told c.args.link.now) (g.L.Link.told c.pieces.link) i.underway
-    c.pull_once.new.session (g.H.Hall.meaning c.pull_once.new.hall) (g.L.Link.told c.pull_once.new.link) (length c.pull_once.new.chunk) c.in-Ended.end (omega arith) (let fits : length c.pull_once.new.chunk ≤ c.min-room.result = search rules in omega arith) c.in-Ended.ensures.steps
+    c.pull_once.new.session (g.H.Hall.meaning c.pull_once.new.hall) (g.L.Link.told c.pull_once.new.link) (length c.pull_once.new.chunk) c.in-Ended.end (let fits : length c.pull_once.new.chunk ≤ c.min-room.result = search rules in omega arith) (omega arith) (let fits : length c.pull_once.new.chunk ≤ c.min-room.result = search rules in omega arith) c.in-Ended.ensures.steps
 
 pub returns-clause-session : goal.returns-clause-session
 returns-clause-session g c =
