@@ -1,5 +1,5 @@
 -- One frame and its reply.
-use Rattle.std.proofs.Common.{◌≡◌, inl, ℕ, ◌-◌, Bool, true, false, List, [], ◌++◌, length, take, drop, Option, refl, sym, ◌∙◌, subst, append-nil, take-append-drop}
+use Rattle.std.proofs.Common.{◌≡◌, inl, inr, ℕ, ◌-◌, Bool, true, false, List, [], ◌++◌, length, take, drop, Option, refl, sym, ◌∙◌, subst, append-nil, take-append-drop}
 use Rattle.std.specs.Prelude.{Result}
 use Rattle.house_io.specs.Told.{IfTold}
 use Rattle.house_io.specs.Links.{LinkBytes}
@@ -31,7 +31,7 @@ all_of bytes = sym (append-nil bytes)
 after_sent : (frame : ToHouse) (h : Heard) (x y z : LinkBytes) → Adds (spelled (house_sent frame)) x y → IsHeard h y z → Converses frame h x z
 after_sent frame (heard.Reply reply) x y z a h = (h.0, moved (spelled (bidder_sent reply)) (spelled (house_sent frame)) x y z a h.1.0 h.1.1)
 after_sent frame heard.Bad x y z a h = (h.0, moved h.0 (spelled (house_sent frame)) x y z a h.1.0 h.1.1, h.2)
-after_sent frame heard.LinkFault x y z a h = (h.0, spelled (house_sent frame), [], all_of (spelled (house_sent frame)), moved h.0 (spelled (house_sent frame)) x y z a h.1.0 h.1.1)
+after_sent frame heard.LinkFault x y z a h = inr (h.0, h.2, moved h.0 (spelled (house_sent frame)) x y z a h.1.0 h.1.1)
 after_sent frame heard.NoMemory x y z a h = (h.0, spelled (house_sent frame), [], all_of (spelled (house_sent frame)), moved h.0 (spelled (house_sent frame)) x y z a h.1.0 h.1.1)
 
 pub heard_behind : (t t1 t2 : Option LinkBytes) (frame : ToHouse) (h : Heard) → IfTold t t1 (Adds (spelled (house_sent frame))) → IfTold t1 t2 (IsHeard h) → IfTold t t2 (Converses frame h)
@@ -43,7 +43,7 @@ cut_moves given x y a = record { left = sym a.0; written = a.1 }
 pub cut_fault : (t t1 : Option LinkBytes) (frame : ToHouse) → IfTold t t1 (λ b a. (given : List ℕ) × (more : List ℕ) × (spelled (house_sent frame) ≡ given ++ more) × Adds given b a) → IfTold t t1 (Converses frame heard.LinkFault)
 cut_fault t t1 frame p =
     told-map t t1 (λ b a. (given : List ℕ) × (more : List ℕ) × (spelled (house_sent frame) ≡ given ++ more) × Adds given b a) (Converses frame heard.LinkFault) p
-    (λ x y h. ([], h.0, h.1, h.2, cut_moves h.0 x y h.3))
+    (λ x y h. inl (h.0, h.1, h.2, cut_moves h.0 x y h.3))
 
 pub cut_memory : (t t1 : Option LinkBytes) (frame : ToHouse) → IfTold t t1 (λ b a. (given : List ℕ) × (more : List ℕ) × (spelled (house_sent frame) ≡ given ++ more) × Adds given b a) → IfTold t t1 (Converses frame heard.NoMemory)
 cut_memory t t1 frame p =

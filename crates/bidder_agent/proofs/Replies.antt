@@ -1,9 +1,10 @@
 -- One piece of a reply.
 use Rattle.std.proofs.Common.{◌≡◌, inl, inr, ⊎_elim, ℕ, ◌-◌, ◌<◌, ◌≤◌, List, [], ◌∷◌, ◌++◌, length, map, take, Option, Some, None, refl, sym, ◌∙◌, ap, subst, arith, append_assoc, append-nil, length-append}
-use Rattle.std.specs.Prelude.{MatchOption, Ok, option_map}
+use Rattle.std.specs.Prelude.{MatchOption, Ok, Err, option_map}
 use Rattle.std.specs.List.{AllByRecursion}
 use Rattle.house_io.specs.Told.{IfTold}
 use Rattle.house_io.specs.Links.{LinkBytes, Receives}
+use Rattle.house_io.specs.declared.Failed.{Failed}
 use Rattle.house_io.proofs.Telling.{told-trans, told-map}
 use Rattle.report_wire.specs.Frames.{Sent, IsSent, IsPartial, IsFault, Reads, spelled, stream_of}
 use Rattle.report_wire.specs.Messages.{to_bidder, bidder_sent}
@@ -33,6 +34,11 @@ pub taken_more : (t0 t1 t2 : Option LinkBytes) (r into : List ℕ) (n : ℕ) →
 taken_more t0 t1 t2 r into n p q =
     told-trans t0 t1 t2 (Takes r) (Receives (Ok n) into) (Takes (r ++ take n into)) p q
     (λ x y z f h. (f.0 ∙ ap (λ (l : List ℕ). r ++ l) h.0.bytes ∙ sym (append_assoc r (take n into) z.left), h.1 ∙ f.1))
+
+pub fault_heard : (t0 t1 t2 : Option LinkBytes) (r into : List ℕ) (e : Failed) → IsPartial to_bidder r → IfTold t0 t1 (Takes r) → IfTold t1 t2 (Receives (Err e) into) → IfTold t0 t2 (IsHeard heard.LinkFault)
+fault_heard t0 t1 t2 r into e partial p q =
+    told-trans t0 t1 t2 (Takes r) (Receives (Err e) into) (IsHeard heard.LinkFault) p q
+    (λ x y z f h. (r, (f.0 ∙ ap (λ (l : List ℕ). r ++ l) (sym h.0), h.1 ∙ f.1), partial))
 
 pub no_memory : (t0 t2 : Option LinkBytes) (bytes : List ℕ) → IfTold t0 t2 (Takes bytes) → IfTold t0 t2 (IsHeard heard.NoMemory)
 no_memory t0 t2 bytes p = told-map t0 t2 (Takes bytes) (IsHeard heard.NoMemory) p (λ x y h. (bytes, h))

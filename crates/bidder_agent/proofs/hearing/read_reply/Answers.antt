@@ -3,8 +3,12 @@ use Rattle.std.proofs.lemmas.List.{length-take-le, take-append-le}
 use Rattle.report_wire.specs.Frames.{Reads}
 use Rattle.report_wire.specs.Messages.{to_bidder, bidder_sent}
 use Rattle.report_wire.specs.Reading.{needs_of}
-use Rattle.bidder_agent.proofs.Replies.{taken_more, no_memory, reply_heard, bad_heard, still_taken, kept, whole_still, smaller, nothing}
+use Rattle.bidder_agent.proofs.Replies.{taken_more, fault_heard, no_memory, reply_heard, bad_heard, still_taken, kept, whole_still, smaller, nothing}
 use Rattle.bidder_agent.proofs.hearing.read_reply.Goals as goal
+
+pub returns-in-Err-clause-heard : goal.returns-in-Err-clause-heard
+returns-in-Err-clause-heard g c =
+    fault_heard (g.L.Link.told c.args.link.now) (g.L.Link.told c.pieces.link) (g.L.Link.told c.pull.new.self) c.pieces.reader.rest c.pull.new.into c.in-Err.field-0 c.needs.ensures.partial c.pieces.invariant.taken c.in-Err.ensures.bytes
 
 pub returns-in-Err-feed-clause-heard : goal.returns-in-Err-feed-clause-heard
 returns-in-Err-feed-clause-heard g c =
