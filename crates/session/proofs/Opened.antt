@@ -3,12 +3,7 @@ use Rattle.std.proofs.Common.{◌≡◌, ℕ, zero, suc, ◌+◌, ◌-◌, ◌<�
 use Rattle.std.specs.Prelude.{slice_get}
 use Rattle.lot_base.specs.declared.auction_terms.Terms.{Terms}
 use Rattle.clock.specs.Reports.{ClockHistory, ClockOf}
-use Rattle.session.specs.Lists.{AreClocks, supply_in}
-
--- clocks without reports, numbered from a number on
-abbrev pub AreOpened : Terms → ℕ → List ClockOf → Type 0
-AreOpened terms from [] = Unit {0}
-AreOpened terms from (c ∷ cs) = (c.history ≡ record { terms = terms; number = from; reports = [] }) × AreOpened terms (from + 1) cs
+use Rattle.session.specs.Lists.{AreClocks, AreOpened, supply_in}
 
 pub opened_on : (terms : Terms) (from : ℕ) (cs : List ClockOf) (c : ClockOf) → AreOpened terms from cs → c.history ≡ record { terms = terms; number = from + length cs; reports = [] } → AreOpened terms from (cs ++ c ∷ [])
 opened_on terms from [] c h e = (e ∙ (let n : from + 0 ≡ from = omega arith in λ i. record { terms = terms; number = n i; reports = [] }), tt)

@@ -1,5 +1,6 @@
 -- A hall of clocks in a list.
-use Rattle.std.specs.Prelude.{◌≡◌, ◌<◌, ◌-◌, ℕ, List, [], ◌∷◌, length, slice_get, slice_set, Some, ◌⊎◌}
+use Rattle.std.specs.Prelude.{◌≡◌, ◌<◌, ◌+◌, ◌-◌, ℕ, List, [], ◌∷◌, length, slice_get, slice_set, Some, ◌⊎◌}
+use Rattle.lot_base.specs.declared.auction_terms.Terms.{Terms}
 use Rattle.demand_set.specs.declared.reports.Report.{Report}
 use Rattle.clock.specs.Reports.{ClockOf, applied}
 use Rattle.clock.specs.Standing.{last_round, phase_of, prices_of}
@@ -25,6 +26,11 @@ pub record IsClockAt (supply : List ℕ) (bidders k : ℕ) (c : ClockOf) : Type 
 pub record AreClocks (clocks : List ClockOf) : Type 0 where
   pub some : 0 < length clocks
   pub each : (k : ℕ) (c : ClockOf) → slice_get clocks k ≡ Some c → IsClockAt (supply_in clocks) (length clocks - 1) k c
+
+-- clocks of these terms without reports, numbered from a number on
+abbrev pub AreOpened : Terms → ℕ → List ClockOf → Type 0
+AreOpened terms from [] = Unit {0}
+AreOpened terms from (c ∷ cs) = (c.history ≡ record { terms = terms; number = from; reports = [] }) × AreOpened terms (from + 1) cs
 
 pub record Shows (c : ClockOf) (look : Look) : Type 0 where
   pub round : look.round ≡ last_round c.history

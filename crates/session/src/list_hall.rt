@@ -1,7 +1,7 @@
 //! A hall of clocks in a list.
 ghost use Rattle.std.specs.Prelude.{◌≡◌, ◌<◌, ◌-◌, length, IfOk};
 ghost use Rattle.lot_base.specs.Demands.{IsDemand};
-ghost use Rattle.session.specs.Lists.{AreClocks, supply_in, Allows, IsOffer};
+ghost use Rattle.session.specs.Lists.{AreClocks, AreOpened, supply_in, Allows, IsOffer};
 
 use crate::halls::Hall;
 use clock::{Clock, Judgement, Look, Offered};
@@ -26,8 +26,9 @@ impl ListHall {
         ListHall { clocks }
     }
 
-    /// A hall of clocks without reports.
+    /// A hall of the clocks of these terms, without reports.
     pub fn open(alloc: Global, terms: &Terms) -> Result<ListHall, NoMemory>
+        ensures opened { IfOk result (λ hall. AreOpened terms.now 0 hall.clocks.items) }
         ensures order { IfOk result (λ hall. AreClocks hall.clocks.items) }
         ensures supply { IfOk result (λ hall. supply_in hall.clocks.items ≡ terms.now.goods) }
         ensures bidders { IfOk result (λ hall. length hall.clocks.items - 1 ≡ terms.now.bidders) }

@@ -1,5 +1,6 @@
 use Rattle.std.proofs.Common.{◌≡◌, ◌+◌, ◌∙◌, sym, subst, arith, length, length-append, ap, [], ◌∷◌}
-use Rattle.session.proofs.Opened.{AreOpened, opened_on, are_clocks}
+use Rattle.session.specs.Lists.{AreOpened}
+use Rattle.session.proofs.Opened.{opened_on, are_clocks}
 use Rattle.session.proofs.list_hall.ListHall.open.Goals as goal
 
 pub loop-number-preserved : goal.loop-number-preserved
