@@ -10,8 +10,7 @@ another one, and --programs to run the integer programs too, which take long. Wi
 again in one process, is proved and run beside the reference that does so too; --makes FILE takes it as it was built before.
 
 With --workers only the times by the clock are taken, with one worker and with four in turns, the least of fifteen runs each, beside the load
-average, the commit that the program is built from, and what four threads gain that only make passes over numbers (processors.rs). The program is
-then to be 2.5 times as fast on each auction, on four idle processors.
+average, the commit that the program is built from, and what four threads gain that only make passes over numbers (processors.rs).
 """
 import hashlib
 import os

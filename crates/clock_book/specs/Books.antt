@@ -61,7 +61,7 @@ abbrev pub kept_for : Option Report → ℕ
 kept_for None = 0
 kept_for (Some r) = 1
 
--- there is room for the most reports and the most quantities, in the clock and its notes, and for as many records in the journal
+-- there is room for the most reports and the most quantities in the clock, and for as many records in the journal
 pub record HasRoom (n : NotedOf) (records : ℕ) : Type 0 where
   pub reports : most_reports n.clock.terms n.clock.number ≤ length n.clock.reports + n.spare_reports
   pub quantities : most_quantities n.clock.terms n.clock.number ≤ quantities_in n.clock.reports + n.spare_quantities

@@ -84,7 +84,8 @@ pub enum Ended {
     BadReply,
     /// The auction has no bidder of this number.
     NoBidder(u8),
-    /// The auction can't go on under the other file: its terms, names or tokens differ, or a good does not open at 0.
+    /// The auction can't go on under the other file: its supplies, ceiling, names or tokens differ, it is not of version 2, or a good of
+    /// either does not open at 0.
     OtherTerms,
     /// The target of this clock, the first such one, is no front of its journal: this is the first record that differs or is too many.
     NotPrefix {
