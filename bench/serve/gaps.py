@@ -6,9 +6,9 @@ the next.
 
 Twelve bidders (load.rs) report to one clock of a real house of 13 doors, in turns of the programs. The house runs over syncs.c, which notes when
 each fdatasync begins and ends; cc and rustc have to be there. Printed are the reports a second, the microseconds of a report from its first sync
-to its last and from there to the next report's first sync, in the middle and on the average, and the pairs that one thread alone makes. Of the
-averages those above a millisecond are left out, and told apart: they are spells in which the machine or its disk stood still. Each figure is the
-middle of the runs.
+to its last and from there to the next report's first sync, in the middle and on the average, and the pairs that one thread alone makes, in a
+file that grows by them and in one that has their bytes. Of the averages those above a millisecond are left out, and told apart: they are spells
+in which the machine or its disk stood still. Each figure is the middle of the runs.
 """
 import argparse
 import os
@@ -20,7 +20,7 @@ import tempfile
 from pathlib import Path
 
 from load import BIDDERS, write_auction
-from run import HERE, PORT, build, house_words, pairs
+from run import AHEAD, HERE, PORT, build, house_words, pairs
 
 NOTE = struct.Struct("=QQII")
 DOORS = 13
@@ -57,7 +57,7 @@ def measure(program, bidder, syncs, folder, seconds):
     shutil.rmtree(folder, ignore_errors=True)
     (folder / "journals").mkdir(parents=True)
     write_auction(folder / "auction.toml")
-    alone = pairs(folder, 1, 1)
+    alone, over = pairs(folder, 1, 1), pairs(folder, 1, 1, AHEAD)
     noted = {**os.environ, "LD_PRELOAD": str(syncs), "SYNCS": str(folder / "notes")}
     house = subprocess.Popen(house_words(program, DOORS), cwd=folder, stdout=subprocess.DEVNULL, env=noted)
     bidders = [
@@ -72,7 +72,7 @@ def measure(program, bidder, syncs, folder, seconds):
     own = [(end - begin) / 1_000 for begin, end in reports]
     gaps = [(after - end) / 1_000 for (_, end), (after, _) in zip(reports, reports[1:])]
     rate = len(reports) / (reports[-1][1] - reports[0][0]) * 1e9
-    return rate, *shape(own), *shape(gaps), alone
+    return rate, *shape(own), *shape(gaps), alone, over
 
 
 def main():
@@ -88,10 +88,10 @@ def main():
         for _ in range(given.runs):
             for program in given.programs:
                 found[program].append(measure(str(Path(program).resolve()), bidder, syncs, folder, given.seconds))
-    print("reports/s | its syncs us: middle average still | to the next us: middle average still | pairs alone/s")
+    print("reports/s | its syncs us: middle average still | to the next us: middle average still | pairs alone/s, over zeros/s")
     for program, rows in found.items():
-        rate, *parts, alone = (statistics.median(column) for column in zip(*rows))
-        print(f"{rate:9.0f} | {parts[0]:5.0f} {parts[1]:7.0f} {parts[2]:5.0f} | {parts[3]:5.0f} {parts[4]:7.0f} {parts[5]:5.0f} | {alone:7.0f}  {program}")
+        rate, *parts, alone, over = (statistics.median(column) for column in zip(*rows))
+        print(f"{rate:9.0f} | {parts[0]:5.0f} {parts[1]:7.0f} {parts[2]:5.0f} | {parts[3]:5.0f} {parts[4]:7.0f} {parts[5]:5.0f} | {alone:7.0f} {over:7.0f}  {program}")
     shutil.rmtree(folder, ignore_errors=True)
 
 

@@ -7,7 +7,7 @@ PROGRAM is the built house_main. For 1, 4 and 13 active clocks and 4, 13 and 64 
 clocks but its own and looks between, in each turn of the clocks once, with a pause of PAUSE microseconds (none where it is left out)
 between two turns; on 4 doors it comes for one report a session, for one second at most. The journals lie in a folder beside this file, so
 that they are on the disk of the repository; beside them bare pairs are measured, the two writes of a report, each with its fdatasync, by as many threads as
-there are active clocks; what SQLite commits, one report a transaction into one table, with a write-ahead log and full
+there are active clocks, in a file that grows by them and in one that has their bytes; what SQLite commits, one report a transaction into one table, with a write-ahead log and full
 synchronisation, without any network; and a plain server that keeps its reports so (plain.rs), before the same bidders, where its
 library is there to build it.
 """
@@ -29,6 +29,9 @@ PORT = 47_322
 # On few doors each report is a session, and a door of the house serves 10,000 of them at most.
 SHORT = 1
 HERE = Path(__file__).resolve().parent
+
+# As many zeros as a journal lays ahead at once.
+AHEAD = 4_096
 
 
 def build(folder, name):
@@ -68,14 +71,17 @@ def serve(words, bidder, folder, active, doors, seconds, pause):
     return sum(int(reports) for reports, _ in told) / seconds, statistics.median(looks), looks[len(looks) * 99 // 100], memory
 
 
-def pairs(folder, threads, seconds):
-    """Pairs of a write of 15 bytes and a write of one byte, each with its fdatasync, a second."""
+def pairs(folder, threads, seconds, ahead=0):
+    """Pairs of a write of 15 bytes and a write of one byte, each with its fdatasync, a second. Where `ahead` is above 0 they are put over so many
+    zeros, which are written whenever the file ends."""
     counts = [0] * threads
 
     def work(place):
         file = os.open(folder / f"pairs-{place}", os.O_RDWR | os.O_CREAT)
-        at, end = 0, time.monotonic() + seconds
+        at, laid, end = 0, 0, time.monotonic() + seconds
         while time.monotonic() < end:
+            if ahead and at + 16 > laid:
+                laid = at + 1 + os.pwrite(file, bytes(ahead), at + 1)
             os.pwrite(file, b"\x00" * 15, at + 1)
             os.fdatasync(file)
             os.pwrite(file, b"\xa5", at)
@@ -111,15 +117,15 @@ def main():
     seconds = int(sys.argv[2]) if len(sys.argv) > 2 else 5
     pause = int(sys.argv[3]) if len(sys.argv) > 3 else 0
     folder = HERE / "scratch"
-    print("clocks doors reports/s pairs/s commits/s plain/s look median us look 99% us peak MB")
+    print("clocks doors reports/s pairs/s over zeros/s commits/s plain/s look median us look 99% us peak MB")
     with tempfile.TemporaryDirectory() as name:
         bidder, plain = build(Path(name), "load"), build(Path(name), "plain")
         for active in (1, 4, 13):
             for doors in (4, 13, 64):
                 reports, median, most, memory = serve(house_words(program, doors), bidder, folder, active, doors, seconds, pause)
-                bare, kept = pairs(folder, active, seconds), commits(folder, seconds)
+                bare, over, kept = pairs(folder, active, seconds), pairs(folder, active, seconds, AHEAD), commits(folder, seconds)
                 beside = serve(plain_words(plain, doors), bidder, folder, active, doors, seconds, pause)[0] if plain else 0
-                print(f"{active:6} {doors:5} {reports:9.0f} {bare:7.0f} {kept:9.0f} {beside:7.0f} {median:14.0f} {most:11.0f} {memory:7}", flush=True)
+                print(f"{active:6} {doors:5} {reports:9.0f} {bare:7.0f} {over:12.0f} {kept:9.0f} {beside:7.0f} {median:14.0f} {most:11.0f} {memory:7}", flush=True)
     shutil.rmtree(folder, ignore_errors=True)
 
 

@@ -129,10 +129,11 @@ module _ (x : Contents) (places : List Place) (end : ℕ) (pending : Option (Lis
   pub nothing_written : (at n : ℕ) → AtEach (Torn at n ms.now.read) ms ms
   nothing_written at n = at_rest at n ms stands.0
 
-  pub takes : (payload bytes : List ℕ) → bytes ≡ body payload ++ 0 ∷ [] → length payload ≤ GREATEST_PAYLOAD → end + 6 + length payload ≤ GREATEST_FILE → Takes x payload end bytes ms.now.read
-  takes payload bytes is short room = record {
+  pub takes : (payload bytes behind : List ℕ) → bytes ≡ body payload ++ 0 ∷ behind → length payload ≤ GREATEST_PAYLOAD → end + 6 + length payload ≤ GREATEST_FILE → Takes x payload end bytes ms.now.read
+  takes payload bytes behind is short room = record {
     stands = stands.1;
     at = kept.size;
+    behind = behind;
     spelled = is;
     fits = record {
       header = stands.1.fits.header;

@@ -48,7 +48,7 @@ module _ (x : Contents) (payload : List ℕ) (gate : ℕ) (bytes file : List ℕ
 
   -- after the record
   abbrev rest : List ℕ
-  rest = drop (length bytes) takes.stands.free
+  rest = takes.behind ++ drop (length bytes) takes.stands.free
 
   abbrev after : List ℕ
   after = body payload ++ 0 ∷ rest
@@ -57,9 +57,9 @@ module _ (x : Contents) (payload : List ℕ) (gate : ℕ) (bytes file : List ℕ
   staged =
       ap (λ (f : List ℕ). overlaid f (gate + 1) bytes) is_closed
       ∙ overlaid_behind closed (gate + 1) length-closed takes.stands.free bytes
-      ∙ ap (λ (l : List ℕ). closed ++ l ++ rest) takes.spelled
-      ∙ append_assoc closed (body payload ++ 0 ∷ []) rest
-      ∙ ap (λ (l : List ℕ). closed ++ l) (append_assoc (body payload) (0 ∷ []) rest)
+      ∙ ap (λ (l : List ℕ). closed ++ l ++ drop (length bytes) takes.stands.free) takes.spelled
+      ∙ append_assoc closed (body payload ++ 0 ∷ takes.behind) (drop (length bytes) takes.stands.free)
+      ∙ ap (λ (l : List ℕ). closed ++ l) (append_assoc (body payload) (0 ∷ takes.behind) (drop (length bytes) takes.stands.free))
       ∙ append_assoc (front x) (takes.stands.gate ∷ []) after
 
   with_it : (c : List ℕ) → c ≡ front x ++ OPEN ∷ after → StandsFor (with_one_more x payload) c

@@ -1,6 +1,6 @@
 -- What each call of a journal answers and leaves, by cases on its answer. A relation between two states takes the old one, then
 -- the new one. What is said of contents, moments and bytes is said where the disk tells them at the call's end; all else always.
-use Rattle.std.specs.Prelude.{◌≡◌, ◌≢◌, ℕ, ◌+◌, ◌-◌, ◌≤◌, ◌<◌, Bool, IsTrue, List, [], ◌∷◌, ◌++◌, length, slice_index, Option, Some, None, IsSome, MatchOption, Result, Ok, Err}
+use Rattle.std.specs.Prelude.{◌≡◌, ◌≢◌, ℕ, ◌+◌, ◌-◌, ◌≤◌, ◌<◌, max, Bool, IsTrue, List, [], ◌∷◌, ◌++◌, length, replicate, slice_index, Option, Some, None, IsSome, MatchOption, Result, Ok, Err}
 use Rattle.house_io.specs.Faults.{Rose}
 use Rattle.house_io.specs.Moments.{Moments, Leaves, AtEach, Torn, overlaid, synced_at}
 use Rattle.lot_base.specs.declared.limits.TheConstants.{GREATEST_FILE}
@@ -11,6 +11,7 @@ use Rattle.report_journal.specs.declared.faults.Mended.{Mended}
 use Rattle.report_journal.specs.declared.faults.Mended.TheVariants.{Nothing, Counted, Dropped}
 use Rattle.report_journal.specs.Format.{Contents, StandsFor, body, header_bytes, first_gate}
 use Rattle.report_journal.specs.Puts.{empty, with_one_more, IsBeforeOrAfter, IsUnformedOrEmpty, IsSynced}
+use Rattle.report_journal.specs.Padding.{pad_of}
 use Rattle.report_journal.specs.Scans.{contents_of, places_in, end_in}
 use Rattle.report_journal.specs.declared.headers.Header.{Header}
 use Rattle.report_journal.specs.declared.scanning.Scanned.{Scanned}
@@ -51,6 +52,7 @@ pub record KeepsAll {D : Type 0} (tells : D → Bool) (old new : JournalOf D) : 
   pub records : KeepsRecords old new
   pub pending : new.pending ≡ old.pending
   pub spare : new.spare ≡ old.spare
+  pub laid : new.laid ≡ old.laid
   pub contents : IsTrue (tells new.disk) → new.contents ≡ old.contents
 
 -- at each moment of a forming a read and each image are unformed or stand for no payloads, and no byte but those of the header and
@@ -66,6 +68,7 @@ pub record Forms {D : Type 0} (tells : D → Bool) (moments : D → Moments) (fa
   pub end : new.end ≡ first_gate header
   pub pending : new.pending ≡ None
   pub spare : new.spare ≡ 0
+  pub laid : new.laid ≡ first_gate header + 1
   pub steady : faults new.disk ≡ faults old
   pub told : IsTrue (tells new.disk) → IsTrue (tells old)
   pub every_image : IsTrue (tells new.disk) → Leaves (StandsFor (empty header)) (moments new.disk).now
@@ -93,6 +96,7 @@ pub record Attaches {D : Type 0} (moments : D → Moments) (given : D) (scan : S
   pub end : new.end ≡ end_in scan
   pub pending : new.pending ≡ None
   pub spare : new.spare ≡ 0
+  pub laid : new.laid ≡ end_in scan + 1
 
 -- An append. It takes a spare record where it writes; where one is spare it takes no memory.
 abbrev pub Appends : {D : Type 0} → List ℕ → JournalOf D → JournalOf D → Result ℕ JournalFault → Type 0
@@ -103,19 +107,28 @@ Appends payload old new (Err (Full needed)) = (old.pending ≡ None) × (needed 
 Appends payload old new (Err DiskFault) = IsReady payload old × KeepsRecords old new × (new.pending ≡ Some payload) × (new.spare ≡ old.spare - 1)
 Appends payload old new (Err NoMemory) = IsReady payload old × (new ≡ old) × (old.spare ≡ 0)
 
--- where the disk tells: an append that went well has written its bytes and no others, and every image has the record; one that failed
--- has left the contents
-abbrev pub AppendEnds : List ℕ → Contents → Contents → ℕ → Moments → Moments → Result ℕ JournalFault → Type 0
-AppendEnds payload old new end before now (Ok number) =
+-- the zeros that an append of this payload writes behind its record
+abbrev pub padding : {D : Type 0} → List ℕ → JournalOf D → ℕ
+padding payload j = pad_of j.end j.laid (length payload)
+
+-- up to where a journal has bytes after an append
+abbrev pub LaidBy : {D : Type 0} → List ℕ → JournalOf D → JournalOf D → Result ℕ JournalFault → Type 0
+LaidBy payload old new (Ok number) = new.laid ≡ max old.laid (record_end payload old + padding payload old)
+LaidBy payload old new (Err fault) = new.laid ≡ old.laid
+
+-- where the disk tells: an append that went well has written its bytes, with so many zeros behind them, and no others, and every image has
+-- the record; one that failed has left the contents
+abbrev pub AppendEnds : List ℕ → ℕ → Contents → Contents → ℕ → Moments → Moments → Result ℕ JournalFault → Type 0
+AppendEnds payload pad old new end before now (Ok number) =
     (new ≡ with_one_more old payload) × Leaves (StandsFor (with_one_more old payload)) now.now
-    × (now.now.read ≡ overlaid before.now.read end (OPEN ∷ body payload ++ 0 ∷ []))
-AppendEnds payload old new end before now (Err fault) = new ≡ old
+    × (now.now.read ≡ overlaid before.now.read end (OPEN ∷ body payload ++ 0 ∷ replicate pad 0))
+AppendEnds payload pad old new end before now (Err fault) = new ≡ old
 
 -- at each moment of an append a read and each image stand for the payloads before, or for these and the new one, and no byte but
--- those of the record differs from before
-pub record AppendLeaves (payload : List ℕ) (contents : Contents) (end : ℕ) (old new : Moments) : Type 0 where
+-- those of the record and of so many zeros behind it differs from before
+pub record AppendLeaves (payload : List ℕ) (pad : ℕ) (contents : Contents) (end : ℕ) (old new : Moments) : Type 0 where
   pub stand : AtEach (IsBeforeOrAfter contents payload) old new
-  pub range : AtEach (Torn end (6 + length payload) old.now.read) old new
+  pub range : AtEach (Torn end (6 + length payload + pad) old.now.read) old new
 
 -- A mend. A record that it drops is spare again.
 abbrev pub Mends : {D : Type 0} → JournalOf D → JournalOf D → Result Mended JournalFault → Type 0

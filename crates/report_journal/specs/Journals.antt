@@ -20,6 +20,8 @@ pub record JournalOf (D : Type 0) : Type 0 where
   pub pending : Option (List ℕ)
   -- how many more records an append may put without taking memory
   pub spare : ℕ
+  -- up to where its calls have found or written bytes of the file
+  pub laid : ℕ
 
 -- Of two states of a journal: the header is the same, and so are the records in number and place.
 pub record KeepsRecords {D : Type 0} (old new : JournalOf D) : Type 0 where

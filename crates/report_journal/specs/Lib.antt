@@ -1,4 +1,5 @@
 pub mod Format
+pub mod Padding
 pub mod Puts
 pub mod Journals
 pub mod Scans

@@ -17,11 +17,12 @@ IsBeforeOrAfter x payload file = StandsFor x file ⊎ StandsFor (with_one_more x
 abbrev pub IsUnformedOrEmpty : Header → List ℕ → Type 0
 IsUnformedOrEmpty header file = IsUnformed file ⊎ StandsFor (empty header) file
 
--- A record for this payload may be put at the closed gate: the bytes are its body and a closed gate.
+-- A record for this payload may be put at the closed gate: the bytes are its body, a closed gate, and whatever may lie behind that.
 pub record Takes (x : Contents) (payload : List ℕ) (gate : ℕ) (bytes file : List ℕ) : Type 0 where
   pub stands : StandsFor x file
   pub at : length (front x) ≡ gate
-  pub spelled : bytes ≡ body payload ++ 0 ∷ []
+  pub behind : List ℕ
+  pub spelled : bytes ≡ body payload ++ 0 ∷ behind
   pub fits : Fits (with_one_more x payload)
 
 -- What a crash may leave of a file while these bytes are put after this gate: first they are torn, and once they are there

@@ -2,7 +2,7 @@
 ghost use Rattle.std.specs.Prelude.{◌≡◌, ◌+◌, ◌-◌, ◌≤◌, ◌<◌, ◌++◌, [], ◌∷◌, length, vec_len, vec_capacity, slice_get, max, IsTrue, IfOk, OnOk, OnErr, IfErr, IfSome, None, Some};
 ghost use Rattle.house_io.specs.Moments.{IsSettled};
 ghost use Rattle.lot_base.specs.declared.limits.TheConstants.{GREATEST_PAYLOAD, GREATEST_FILE};
-ghost use Rattle.report_journal.specs.Calls.{OnlyReads, CountsFaults, CountsReading, Appends, AppendEnds, AppendLeaves, IsReady, Mends, MendEnds, MendLeaves, KeepsAll, Forms, FailsToForm, Attaches};
+ghost use Rattle.report_journal.specs.Calls.{OnlyReads, CountsFaults, CountsReading, Appends, padding, LaidBy, AppendEnds, AppendLeaves, IsReady, Mends, MendEnds, MendLeaves, KeepsAll, Forms, FailsToForm, Attaches};
 ghost use Rattle.report_journal.specs.Format.{IsHeader, IsUnformed};
 ghost use Rattle.report_journal.specs.Journals.{IsKept, payload_at};
 ghost use Rattle.report_journal.specs.declared.spellings.TheConstants.{LONGEST_RECORD};
@@ -10,6 +10,7 @@ ghost use Rattle.report_journal.specs.Scans.{IsFormed, IsScan, IsInOrder};
 
 use crate::faults::{JournalFault, Mended, NotFormed};
 use crate::headers::{Header, head_bytes};
+use crate::padding::pad_behind;
 use crate::places::Place;
 use crate::scanning::Scanned;
 use crate::spellings::{LONGEST_RECORD, fill_record};
@@ -38,6 +39,8 @@ pub struct Journal<D: Disk> {
     pending: Option<u32>,
     /// How many more records there is room for.
     spare: u64,
+    /// Up to where the file has bytes, as far as the journal's calls have found or written them.
+    laid: u32,
 }
 
 impl<D: Disk> Model for Journal<D> {
@@ -53,6 +56,7 @@ impl<D: Disk> Model for Journal<D> {
       end = j.end;
       pending = in_doubt j.buffer.items j.pending;
       spare = j.spare;
+      laid = j.laid;
     } };
 
     ghost invariant = { λ j. IsWithin j.header j.places.items j.end j.spare j.buffer.items (vec_capacity j.places) (vec_capacity j.buffer) j.pending
@@ -86,6 +90,7 @@ impl<D: Disk> Journal<D> {
             buffer: _,
             pending: _,
             spare: _,
+            laid: _,
         } = self;
         disk
     }
@@ -109,14 +114,16 @@ impl<D: Disk> Journal<D> {
     }
 
     /// Adds a record and answers its number, from 1. At `Ok` every image has it. After `DiskFault` it is in doubt until a
-    /// mend succeeds. Its memory is taken before the first write; where a record is spare it takes none.
+    /// mend succeeds. Its memory is taken before the first write; where a record is spare it takes none. From 4,096 bytes on a journal
+    /// writes zeros behind a record with which its file would end: a sync of bytes that a file has is the shorter.
     pub fn append(&mut self, alloc: Global, payload: &[u8]) -> Result<u32, JournalFault>
         requires { length payload.now ≤ GREATEST_PAYLOAD }
         ensures answer { Appends payload.now self.old self.new result }
-        ensures end { IsTrue (D.tells self.new.disk) → AppendEnds payload.now self.old.contents self.new.contents self.old.end
-            (D.moments self.old.disk) (D.moments self.new.disk) result }
+        ensures laid { LaidBy payload.now self.old self.new result }
+        ensures end { IsTrue (D.tells self.new.disk) → AppendEnds payload.now (padding payload.now self.old) self.old.contents self.new.contents
+            self.old.end (D.moments self.old.disk) (D.moments self.new.disk) result }
         ensures moments { self.old.pending ≡ None → IsTrue (D.tells self.new.disk)
-            → AppendLeaves payload.now self.old.contents self.old.end (D.moments self.old.disk) (D.moments self.new.disk) }
+            → AppendLeaves payload.now (padding payload.now self.old) self.old.contents self.old.end (D.moments self.old.disk) (D.moments self.new.disk) }
         ensures tells { IsTrue (D.tells self.new.disk) → IsTrue (D.tells self.old.disk) }
         ensures faults { CountsFaults (D.faults self.old.disk) (D.faults self.new.disk) result }
     {
@@ -139,27 +146,31 @@ impl<D: Disk> Journal<D> {
         requires ready { IsReady payload.now self.old }
         requires spare { 1 ≤ self.old.spare }
         ensures answer { Appends payload.now self.old self.new result }
-        ensures end { IsTrue (D.tells self.new.disk) → AppendEnds payload.now self.old.contents self.new.contents self.old.end
-            (D.moments self.old.disk) (D.moments self.new.disk) result }
+        ensures laid { LaidBy payload.now self.old self.new result }
+        ensures end { IsTrue (D.tells self.new.disk) → AppendEnds payload.now (padding payload.now self.old) self.old.contents self.new.contents
+            self.old.end (D.moments self.old.disk) (D.moments self.new.disk) result }
         ensures moments { IsTrue (D.tells self.new.disk)
-            → AppendLeaves payload.now self.old.contents self.old.end (D.moments self.old.disk) (D.moments self.new.disk) }
+            → AppendLeaves payload.now (padding payload.now self.old) self.old.contents self.old.end (D.moments self.old.disk) (D.moments self.new.disk) }
         ensures tells { IsTrue (D.tells self.new.disk) → IsTrue (D.tells self.old.disk) }
         ensures faults { CountsFaults (D.faults self.old.disk) (D.faults self.new.disk) result }
     {
-        fill_record(&mut self.buffer, payload);
+        let size = payload.len() as u32;
+        let pad = pad_behind(self.end, self.laid, size);
+        fill_record(&mut self.buffer, payload, pad);
         match put_record(&mut self.disk, self.end as u64, &self.buffer) {
             Err(Failed) => {
-                self.pending = Some(payload.len() as u32);
+                self.pending = Some(size);
                 self.spare -= 1;
                 Err(JournalFault::DiskFault)
             }
             Ok(()) => {
                 let place = Place {
                     at: self.end + 5,
-                    length: payload.len() as u32,
+                    length: size,
                 };
                 push_reserved(&mut self.places, place);
-                self.end = self.end + 5 + payload.len() as u32;
+                self.laid = self.laid.max(self.end + 6 + size + pad);
+                self.end = self.end + 5 + size;
                 self.spare -= 1;
                 Ok(self.places.len() as u32)
             }
@@ -171,6 +182,7 @@ impl<D: Disk> Journal<D> {
     /// Counts or drops the record in doubt: it counts where its gate is open after a sync. Takes no memory.
     pub fn mend(&mut self) -> Result<Mended, JournalFault>
         ensures answer { Mends self.old self.new result }
+        ensures laid { self.new.laid ≡ self.old.laid }
         ensures end { IsTrue (D.tells self.new.disk) → MendEnds self.old.pending self.old.contents self.new.contents self.old.end
             (D.moments self.old.disk) (D.moments self.new.disk) result }
         ensures moments { IsTrue (D.tells self.new.disk)
@@ -244,6 +256,7 @@ impl<D: Disk> Journal<D> {
             buffer,
             pending: None,
             spare: 0,
+            laid: end + 1,
         }
     }
 
@@ -266,15 +279,19 @@ impl<D: Disk> Journal<D> {
                 disk,
                 fault: JournalFault::DiskFault,
             }),
-            Ok(()) => Ok(Journal {
-                disk,
-                header: *header,
-                places: Vec::new(alloc),
-                end: header.first_gate(),
-                buffer: Vec::new(alloc),
-                pending: None,
-                spare: 0,
-            }),
+            Ok(()) => {
+                let end = header.first_gate();
+                Ok(Journal {
+                    disk,
+                    header: *header,
+                    places: Vec::new(alloc),
+                    end,
+                    buffer: Vec::new(alloc),
+                    pending: None,
+                    spare: 0,
+                    laid: end + 1,
+                })
+            }
         }
     }
 }

@@ -7,6 +7,7 @@ mod headers;
 mod heads;
 mod journal;
 pub mod laws;
+mod padding;
 mod places;
 mod scanning;
 mod spellings;

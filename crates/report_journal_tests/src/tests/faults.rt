@@ -1,7 +1,7 @@
 //! Calls of a disk that fail: what is answered, and what is left at each stop.
 use super::fixtures::{
-    FILE, PAYLOAD, ROOM, Seen, Step, append, count, first_other, header, mend, one_good, plain,
-    scanned_on, seen_in,
+    FILE, LONG, PAYLOAD, ROOM, Seen, Step, append, count, first_other, header, mend, one_good,
+    plain, scanned_on, seen_in,
 };
 use house_io::{Disk, Fill, ListDisk};
 use lot_base::Prices;
@@ -112,6 +112,28 @@ fn a_record_whose_body_fails_is_dropped_and_put_again(rt: HostRuntime) {
     assert_eq!(rt; stepped(rt.alloc(), 7, PUT_AGAIN), Some((3, true)));
 }
 
+/// The second record has zeros behind it.
+const PADDED_AGAIN: &[Step] = &[
+    Step::Appends(&LONG, Ok(1)),
+    Step::Appends(&PAYLOAD, Err(JournalFault::DiskFault)),
+    Step::Counts(1),
+    Step::Mends(Ok(Mended::Dropped)),
+    Step::Appends(&PAYLOAD, Ok(2)),
+    Step::Holds(1, &LONG),
+    Step::Holds(2, &PAYLOAD),
+];
+
+#[test]
+fn a_record_with_zeros_behind_it_is_dropped_and_put_again(rt: HostRuntime) {
+    for failing in 11..14 {
+        assert_eq!(rt;
+            stepped(rt.alloc(), failing, PADDED_AGAIN),
+            Some((7, false)),
+            "at {failing}"
+        );
+    }
+}
+
 /// How far a run came: it forms a journal, appends, mends where that failed, and appends again.
 #[derive(Clone, Copy, Debug, PartialEq, Eq)]
 enum Came {
@@ -120,10 +142,13 @@ enum Came {
     Acknowledged(u32),
 }
 
-/// Appends twice at most, until an append fails, and mends.
+/// What a run appends: the second has zeros behind it, and the third is put over them.
+const THREE: [&[u8]; 3] = [&LONG, &PAYLOAD, &PAYLOAD];
+
+/// Appends, until an append fails, and mends.
 fn append_and_mend<D: Disk>(alloc: Global, journal: &mut Journal<D>) {
-    for _ in 0..2 {
-        match append(alloc, journal, &PAYLOAD) {
+    for payload in THREE {
+        match append(alloc, journal, payload) {
             Some(Ok(_)) => {}
             _ => break,
         }
@@ -206,14 +231,14 @@ fn lost_by_a_fault(alloc: Global, failing: u64) -> Option<Option<Fill>> {
 
 #[test]
 fn each_stop_leaves_what_was_acknowledged(rt: HostRuntime) {
-    for stop in 0..16 {
+    for stop in 0..20 {
         assert_eq!(rt; lost_by_a_stop(rt.alloc(), stop), Some(None), "at {stop}");
     }
 }
 
 #[test]
 fn each_failing_call_is_mended(rt: HostRuntime) {
-    for failing in 0..20 {
+    for failing in 0..24 {
         assert_eq!(rt;
             lost_by_a_fault(rt.alloc(), failing),
             Some(None),

@@ -13,6 +13,10 @@ pub(super) const PAYLOAD: [u8; 10] = [1, 0, 0, 0, 1, 1, 0, 1, 0, 2];
 /// A longer one, on two bundles.
 pub(super) const LONGER: [u8; 12] = [1, 0, 0, 0, 1, 1, 0, 2, 0, 2, 0, 3];
 
+/// A payload with which a journal has grown: behind it, as the first record, the gate is at 4,137 in version 1, and at 4,143 with one
+/// opening price.
+pub(super) const LONG: [u8; 4_091] = [9; 4_091];
+
 /// The file of a journal of version 1 with the first record.
 pub(super) const FILE: [u8; 57] = [
     0xa5, 0x41, 0x48, 0x4a, 0x31, 0, 0, 0, 3, 7, 7, 7, 7, 7, 7, 7, 7, 7, 7, 7, 7, 7, 7, 7, 7, 7, 7,
@@ -27,7 +31,7 @@ pub(super) const PRICED: [u8; 80] = [
 ];
 
 /// The room of a disk, in bytes and in calls.
-pub(super) const ROOM: u32 = 400;
+pub(super) const ROOM: u32 = 20_000;
 
 /// The header of clock 3, whose goods open at these prices.
 pub(super) fn header(opening: Option<Prices>) -> Header

@@ -1,6 +1,6 @@
 //! What a journal writes, and what is found there again, in memory and on a real file.
 use super::fixtures::{
-    FILE, LONGER, PAYLOAD, PRICED, ROOM, Step, append, copy_of, count, disk_of, first_other,
+    FILE, LONG, LONGER, PAYLOAD, PRICED, ROOM, Step, append, copy_of, count, disk_of, first_other,
     header, header_in, holds, mend, one_good, plain, scanned,
 };
 use house_io::{Disk, FileDisk, FolderShelf, Shelf, SureDisk};
@@ -102,6 +102,58 @@ fn a_header_with_opening_prices_is_written_as_the_format_says(rt: HostRuntime) {
 fn length_after(alloc: Global, opening: Option<Prices>, steps: &[Step]) -> Option<usize> {
     let file = new_file(alloc, opening, steps)?;
     Some(file.len())
+}
+
+/// From byte 4,096 on a record with which its file would end is filled up to 4,096 bytes, from its gate to the zeros behind it. The records that
+/// follow lie in these, and one that is longer gets none.
+const LENGTHS: [(&[Step], usize); 4] = [
+    (&[Step::Appends(&LONG, Ok(1))], 4_138),
+    (
+        &[Step::Appends(&LONG, Ok(1)), Step::Appends(&PAYLOAD, Ok(2))],
+        8_233,
+    ),
+    (
+        &[
+            Step::Appends(&LONG, Ok(1)),
+            Step::Appends(&PAYLOAD, Ok(2)),
+            Step::Appends(&LONGER, Ok(3)),
+            Step::Holds(1, &LONG),
+            Step::Holds(2, &PAYLOAD),
+            Step::Holds(3, &LONGER),
+        ],
+        8_233,
+    ),
+    (
+        &[
+            Step::Appends(&LONG, Ok(1)),
+            Step::Appends(&PAYLOAD, Ok(2)),
+            Step::Appends(&LONG, Ok(3)),
+            Step::Holds(3, &LONG),
+        ],
+        8_249,
+    ),
+];
+
+/// The second record, and zeros behind it.
+const OVER_ZEROS: [u8; 20] = [
+    0xa5, 0, 0, 0, 10, 1, 0, 0, 0, 1, 1, 0, 1, 0, 2, 0, 0, 0, 0, 0,
+];
+
+/// Whether the file of a new journal has these bytes from this offset on after these steps.
+fn has_at(alloc: Global, steps: &[Step], at: usize, bytes: &[u8]) -> Option<bool> {
+    let file = new_file(alloc, plain(), steps)?;
+    Some(file.get(at..)?.starts_with(bytes))
+}
+
+#[test]
+fn a_journal_that_has_grown_writes_zeros_behind_a_record(rt: HostRuntime) {
+    assert_eq!(rt;
+        has_at(rt.alloc(), LENGTHS[1].0, 4_137, &OVER_ZEROS),
+        Some(true)
+    );
+    for (steps, length) in LENGTHS {
+        assert_eq!(rt; length_after(rt.alloc(), plain(), steps), Some(length));
+    }
 }
 
 fn end_by(scanned: &Scanned) -> Option<u32> {

@@ -1,4 +1,4 @@
-use Rattle.std.proofs.Common.{◌∷◌, ◌∙◌, refl, sym, ap, subst, arith}
+use Rattle.std.proofs.Common.{◌+◌, ◌∷◌, ◌∙◌, refl, sym, ap, subst, arith}
 use Rattle.house_io.specs.Moments.{overlaid}
 use Rattle.house_io.proofs.Moments.{leaves_here}
 use Rattle.report_journal.specs.declared.spellings.TheConstants.{OPEN}
@@ -29,14 +29,14 @@ invariant_of-result g c =
     rw c.new.ensures.items (
       record {
         spelled = c.requires.header;
-        limit = omega (arith, c.first_gate.ensures, header_within c.args.header.now c.requires.header);
+        limit = omega (arith, c.first_gate-end.ensures, header_within c.args.header.now c.requires.header);
         roomy = omega arith;
         room = (omega arith, λ some. absurd (omega (arith, some)));
       },
       λ told. record {
         stands = (c.in-Ok-form_file.ensures.done told, c.in-Ok-form_file.ensures.formed told c.args.header.now is_head);
         placed = tt;
-        size = empty_size c.args.header.now ∙ sym c.first_gate.ensures;
+        size = empty_size c.args.header.now ∙ sym c.first_gate-end.ensures;
       },
     )
 
@@ -46,12 +46,16 @@ returns-clause-ok g c =
     rw c.new.ensures.items (record {
       contents = refl;
       places = refl;
-      end = c.first_gate.ensures;
+      end = c.first_gate-end.ensures;
       pending = refl;
       spare = refl;
+      laid = ap (λ gate. gate + 1) c.first_gate-end.ensures;
       steady = c.in-Ok-form_file.ensures.cause.steady;
       told = λ told. c.form_file.ensures.tells told;
       every_image = λ told. leaves_here _ _ (c.in-Ok-form_file.ensures.done told) (c.in-Ok-form_file.ensures.formed told c.args.header.now is_head);
       written = λ told. c.in-Ok-form_file.ensures.written told ∙ ap (λ bytes. overlaid (g.D.Disk.moments c.args.disk).now.read 0 (OPEN ∷ bytes)) is_head.spelled;
       leaves = λ told. form_leaves c.args.header.now c.deref.result.now is_head _ _ (c.form_file.ensures.moments told c.args.header.now is_head) (c.form_file.ensures.range told);
     })
+
+pub overflow_add-result : goal.overflow_add-result
+overflow_add-result g c = omega (arith, c.first_gate-end.ensures, header_within c.args.header.now c.requires.header)
