@@ -6,10 +6,10 @@
 PROGRAM is the built house_main. For 1, 4 and 13 active clocks and 4, 13 and 64 doors, each bidder reports round by round to the active
 clocks but its own and looks between, in each turn of the clocks once, with a pause of PAUSE microseconds (none where it is left out)
 between two turns; on 4 doors it comes for one report a session, for one second at most. The journals lie in a folder beside this file, so
-that they are on the disk of the repository; beside them bare pairs are measured, the two writes of a report, each with its fdatasync, by as many threads as
-there are active clocks, in a file that grows by them and in one that has their bytes; what SQLite commits, one report a transaction into one table, with a write-ahead log and full
-synchronisation, without any network; and a plain server that keeps its reports so (plain.rs), before the same bidders, where its
-library is there to build it.
+that they are on the disk of the repository. Beside them are measured: bare pairs, the two writes of a report, each with its fdatasync, by as
+many threads as there are active clocks, in a file that grows by them and in one that has their bytes; what SQLite commits, one report a
+transaction into one table, with a write-ahead log and full synchronisation, without any network; and a plain server that keeps its reports
+so (plain.rs), before the same bidders, where its library is there to build it.
 """
 import os
 import shutil
