@@ -7,7 +7,7 @@ import time
 
 import program
 
-COUNT, SIZE, ROUNDS = 500, 32, 5
+COUNT, SIZE, ROUNDS = 2_000, 32, 5
 
 
 def sqlite_seconds(path):

@@ -2,10 +2,10 @@
 //!
 //! For so many seconds it looks at each of the clocks 0 to CLOCKS - 1 but its own, in turns, and reports once in each round that it sees. Where STAY is
 //! 1 it does so in one session; where it is 0 each look, with its report, is a session of its own. Between two turns of all clocks it waits PAUSE
-//! microseconds. It prints how many reports were taken, and in a
-//! second line how many microseconds each look took.
+//! microseconds. In one session without pauses it sends the next look behind a report, in one piece, and that look is timed from the reply to the
+//! report on. It prints how many reports were taken, and in a second line how many microseconds each look took.
 use std::env;
-use std::io::{Error, ErrorKind, Read, Result, Write};
+use std::io::{BufReader, Error, ErrorKind, Read, Result, Write};
 use std::net::TcpStream;
 use std::thread::sleep;
 use std::time::{Duration, Instant};
@@ -26,17 +26,31 @@ const SUPPLY: u16 = 12;
 /// The most looks whose times are told.
 const TOLD: usize = 20_000;
 
-/// Sends a frame and takes the reply: its kind and its payload.
-fn ask(link: &mut TcpStream, kind: u8, payload: &[u8]) -> Result<(u8, Vec<u8>)> {
-    let mut frame = (payload.len() as u32).to_be_bytes().to_vec();
-    frame.push(kind);
-    frame.extend_from_slice(payload);
-    link.write_all(&frame)?;
+/// A link to the house, whose replies are read as many at once as have come.
+type Link = BufReader<TcpStream>;
+
+/// Puts a frame behind others.
+fn put(frames: &mut Vec<u8>, kind: u8, payload: &[u8]) {
+    frames.extend_from_slice(&(payload.len() as u32).to_be_bytes());
+    frames.push(kind);
+    frames.extend_from_slice(payload);
+}
+
+/// Takes a reply: its kind and its payload.
+fn take(link: &mut Link) -> Result<(u8, Vec<u8>)> {
     let mut head = [0; 5];
     link.read_exact(&mut head)?;
     let mut reply = vec![0; u32::from_be_bytes([head[0], head[1], head[2], head[3]]) as usize];
     link.read_exact(&mut reply)?;
     Ok((head[4], reply))
+}
+
+/// Sends a frame and takes the reply.
+fn ask(link: &mut Link, kind: u8, payload: &[u8]) -> Result<(u8, Vec<u8>)> {
+    let mut frame = Vec::new();
+    put(&mut frame, kind, payload);
+    link.get_mut().write_all(&frame)?;
+    take(link)
 }
 
 /// The payload of a reply of one of these kinds.
@@ -48,7 +62,7 @@ fn expect(kinds: &[u8], (kind, payload): (u8, Vec<u8>)) -> Result<Vec<u8>> {
 }
 
 /// A link to the house, which may not listen yet.
-fn connect(port: u16) -> Result<TcpStream> {
+fn connect(port: u16) -> Result<Link> {
     let end = Instant::now() + Duration::from_secs(10);
     loop {
         match TcpStream::connect(("127.0.0.1", port)) {
@@ -56,14 +70,14 @@ fn connect(port: u16) -> Result<TcpStream> {
             Err(_) => sleep(Duration::from_millis(2)),
             Ok(link) => {
                 link.set_nodelay(true)?;
-                return Ok(link);
+                return Ok(BufReader::with_capacity(256, link));
             }
         }
     }
 }
 
 /// A session of this bidder.
-fn begin(port: u16, bidder: u8) -> Result<TcpStream> {
+fn begin(port: u16, bidder: u8) -> Result<Link> {
     let mut link = connect(port)?;
     let mut hello = vec![bidder];
     hello.extend_from_slice(format!("token-{bidder}").as_bytes());
@@ -71,19 +85,19 @@ fn begin(port: u16, bidder: u8) -> Result<TcpStream> {
     Ok(link)
 }
 
-/// The round of a clock.
-fn look(link: &mut TcpStream, clock: u8) -> Result<u32> {
-    let price = expect(&[PRICE], ask(link, LOOK, &[clock])?)?;
+/// The round that a reply to a look shows.
+fn round_in(reply: (u8, Vec<u8>)) -> Result<u32> {
+    let price = expect(&[PRICE], reply)?;
     Ok(u32::from_be_bytes([price[1], price[2], price[3], price[4]]))
 }
 
-fn report(link: &mut TcpStream, clock: u8, round: u32) -> Result<()> {
+/// The payload of a report.
+fn report(clock: u8, round: u32) -> Vec<u8> {
     let mut payload = vec![clock];
     payload.extend_from_slice(&round.to_be_bytes());
     payload.extend_from_slice(&[1, 0, 1]);
     payload.extend_from_slice(&SUPPLY.to_be_bytes());
-    expect(&[TAKEN, AGAIN], ask(link, REPORT, &payload)?)?;
-    Ok(())
+    payload
 }
 
 fn main() -> Result<()> {
@@ -94,15 +108,26 @@ fn main() -> Result<()> {
     let mut link = begin(port as u16, bidder as u8)?;
     let mut reported = vec![0; clocks as usize];
     let (mut reports, mut looks) = (0, Vec::new());
+    let ahead = stay == 1 && pause == 0;
+    let others: Vec<usize> = (0..clocks as usize).filter(|clock| *clock != bidder as usize).collect();
+    let mut asked = false;
     let end = Instant::now() + Duration::from_secs(seconds);
     while Instant::now() < end {
-        for clock in (0..clocks as usize).filter(|clock| *clock != bidder as usize) {
+        for (place, clock) in others.iter().enumerate() {
             let begun = Instant::now();
-            let round = look(&mut link, clock as u8)?;
+            let round = round_in(if asked { take(&mut link)? } else { ask(&mut link, LOOK, &[*clock as u8])? })?;
             looks.push(begun.elapsed().as_micros());
-            if reported[clock] != round {
-                report(&mut link, clock as u8, round)?;
-                reported[clock] = round;
+            asked = false;
+            if reported[*clock] != round {
+                let mut frames = Vec::new();
+                put(&mut frames, REPORT, &report(*clock as u8, round));
+                if ahead {
+                    put(&mut frames, LOOK, &[others[(place + 1) % others.len()] as u8]);
+                    asked = true;
+                }
+                link.get_mut().write_all(&frames)?;
+                expect(&[TAKEN, AGAIN], take(&mut link)?)?;
+                reported[*clock] = round;
                 reports += 1;
             }
             if stay == 0 {
@@ -113,6 +138,9 @@ fn main() -> Result<()> {
         if pause > 0 {
             sleep(Duration::from_micros(pause));
         }
+    }
+    if asked {
+        round_in(take(&mut link)?)?;
     }
     expect(&[BYE], ask(&mut link, QUIT, &[])?)?;
     looks.truncate(TOLD);
