@@ -67,8 +67,16 @@ impl<D: Disk> HouseBook<D> {
 }
 
 impl<D: Disk> HouseBook<D> {
-    /// Offers a report, in the words of the history alone. It takes no memory.
-    pub fn offer(&mut self, alloc: Global, bidder: u8, round: u32, demand: Demand) -> Offered
+    /// Offers a report, in the words of the history alone. It takes no memory. `next` is the payload of the report that is likely to be
+    /// offered next, or no bytes, and has no part in the answer.
+    pub fn offer(
+        &mut self,
+        alloc: Global,
+        bidder: u8,
+        round: u32,
+        demand: Demand,
+        next: &[u8],
+    ) -> Offered
         requires { IsDemand self.old.origin.terms.goods demand }
         ensures history { IsHistoryOffer (owner_in self.old.origin) self.old.state.history (record { bidder = bidder; round = round; demand = demand }) result self.new.state.history }
         ensures goes_on { GoesOn self.old.state.history self.new.state.history }
@@ -77,7 +85,7 @@ impl<D: Disk> HouseBook<D> {
     {
         let book: &mut ClockBook<D> = &mut self.boxed;
         let _kept = book.clock();
-        book.offer(alloc, bidder, round, demand)
+        book.offer_before(alloc, bidder, round, demand, next)
     }
 
     /// What the clock shows, in the words of the history alone.

@@ -2,7 +2,7 @@
 use Rattle.std.proofs.Common.{◌≡◌, ◌≢◌, ◌↔◌, Bool, true, false, IsTrue, get_or, inl, inr, ⊎_elim, ℕ, ◌+◌, ◌≤◌, List, [], ◌∷◌, ◌++◌, length, take, drop, Option, Some, None, refl, sym, ◌∙◌, ap, subst, arith, append_assoc, length-append}
 use Rattle.std.proofs.lemmas.List.{take_at, drop_at, get_or_at}
 use Rattle.std.specs.Int.{w32, to_be_bytes}
-use Rattle.house_io.specs.Moments.{Moments, Leaves, AtEach, Torn, IsSettled, settled}
+use Rattle.house_io.specs.Moments.{Moment, Moments, Leaves, AtEach, Torn, IsSettled, settled}
 use Rattle.std.specs.List.{AllByRecursion}
 use Rattle.house_io.proofs.Moments.{at_start, at_next, at_now, leaves_settled}
 use Rattle.report_journal.specs.Format.{Contents, header_bytes, first_gate, body, records, front, IsPayload, StandsFor, Fits}
@@ -11,7 +11,7 @@ use Rattle.report_journal.specs.declared.spellings.TheConstants.{OPEN}
 use Rattle.report_journal.specs.declared.headers.Header.{Header}
 use Rattle.report_journal.specs.Calls.{MendLeaves}
 use Rattle.report_journal.specs.Puts.{Takes, with_one_more, IsBeforeOrAfter, IsSynced}
-use Rattle.report_journal.specs.Journals.{said, payload_at, payloads_at, ArePlaced, Stands, IsKept}
+use Rattle.report_journal.specs.Journals.{said, payload_at, payloads_at, ArePlaced, Stands, IsKept, LiesAhead}
 use Rattle.report_journal.specs.declared.places.Place.{Place}
 use Rattle.report_journal.proofs.Records.{front-push}
 use Rattle.report_journal.proofs.Spans.{at_rest}
@@ -129,12 +129,10 @@ module _ (x : Contents) (places : List Place) (end : ℕ) (pending : Option (Lis
   pub nothing_written : (at n : ℕ) → AtEach (Torn at n ms.now.read) ms ms
   nothing_written at n = at_rest at n ms stands.0
 
-  pub takes : (payload bytes behind : List ℕ) → bytes ≡ body payload ++ 0 ∷ behind → length payload ≤ GREATEST_PAYLOAD → end + 6 + length payload ≤ GREATEST_FILE → Takes x payload end bytes ms.now.read
-  takes payload bytes behind is short room = record {
+  pub takes : (payload : List ℕ) → length payload ≤ GREATEST_PAYLOAD → end + 6 + length payload ≤ GREATEST_FILE → Takes x payload end ms.now.read
+  takes payload short room = record {
     stands = stands.1;
     at = kept.size;
-    behind = behind;
-    spelled = is;
     fits = record {
       header = stands.1.fits.header;
       payloads = payloads-push x.payloads payload stands.1.fits.payloads short;
@@ -150,6 +148,18 @@ open_at : (x : Contents) (payload : List ℕ) (end : ℕ) (file : List ℕ) → 
 open_at x payload end file is stands =
     ap (λ (l : List ℕ). get_or l end 0) (stands.whole ∙ ap (λ (l : List ℕ). l ++ stands.gate ∷ stands.free) (front-push x payload) ∙ append_assoc (front x) (OPEN ∷ body payload) (stands.gate ∷ stands.free))
     ∙ get_or_at (front x) OPEN (body payload ++ stands.gate ∷ stands.free) 0 end is
+
+-- a moment that is settled by some bytes is settled
+pub settled_is : (m : Moment) (file : List ℕ) → m ≡ settled file → IsSettled m
+settled_is m file is = is ∙ ap settled (sym (ap (λ (n : Moment). n.read) is))
+
+-- what lies behind the last gate lies there after a sync
+pub still_ahead : (ahead : Option ℕ) (bytes : List ℕ) (end : ℕ) (old new : Moments) → IsSynced old new → LiesAhead ahead bytes end old.now.read → LiesAhead ahead bytes end new.now.read
+still_ahead ahead bytes end old new synced lies =
+    ⊎_elim
+    (λ same. subst (λ (ms : Moments). LiesAhead ahead bytes end ms.now.read) (sym same) lies)
+    (λ done. subst (λ (ms : Moments). LiesAhead ahead bytes end ms.now.read) (sym done) lies)
+    synced
 
 module _ (header : Header) (places : List Place) (end : ℕ) (old new : Moments) (payload : List ℕ)
     (kept : IsKept (said header places old.now.read) places end (Some payload) old) (is_synced : IsSynced old new) where

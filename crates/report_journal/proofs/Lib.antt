@@ -12,3 +12,5 @@ pub mod OneKind
 pub mod FindKind
 pub mod Spans
 pub mod Rooms
+pub mod TwoWrites
+pub mod Ahead

@@ -6,7 +6,7 @@ use Rattle.house_io.specs.Moments.{Torn, overlaid}
 use Rattle.house_io.proofs.Overlays.{overlaid_behind}
 use Rattle.report_journal.specs.Format.{Contents, records, body, header_bytes, front, StandsFor}
 use Rattle.report_journal.specs.declared.spellings.TheConstants.{OPEN}
-use Rattle.report_journal.specs.Puts.{with_one_more, IsBeforeOrAfter, Takes, IsStage}
+use Rattle.report_journal.specs.Puts.{with_one_more, IsBeforeOrAfter, Takes, HasRecord, IsStage}
 use Rattle.report_journal.proofs.Spans.{overlaid_twice}
 use Rattle.report_journal.proofs.Files.{torn_after, torn_one}
 
@@ -21,7 +21,7 @@ front-push x payload =
     ap (λ (l : List ℕ). OPEN ∷ header_bytes x.header ++ l) (records-push x.payloads payload)
     ∙ ap (λ (l : List ℕ). OPEN ∷ l) (sym (append_assoc (header_bytes x.header) (records x.payloads) (OPEN ∷ body payload)))
 
-module _ (x : Contents) (payload : List ℕ) (gate : ℕ) (bytes file : List ℕ) (takes : Takes x payload gate bytes file) where
+module _ (x : Contents) (payload : List ℕ) (gate : ℕ) (bytes file : List ℕ) (spelled : HasRecord payload bytes) (takes : Takes x payload gate file) where
   -- the file up to the closed gate, this gate included
   abbrev closed : List ℕ
   closed = front x ++ takes.stands.gate ∷ []
@@ -48,7 +48,7 @@ module _ (x : Contents) (payload : List ℕ) (gate : ℕ) (bytes file : List ℕ
 
   -- after the record
   abbrev rest : List ℕ
-  rest = takes.behind ++ drop (length bytes) takes.stands.free
+  rest = spelled.0 ++ drop (length bytes) takes.stands.free
 
   abbrev after : List ℕ
   after = body payload ++ 0 ∷ rest
@@ -57,9 +57,9 @@ module _ (x : Contents) (payload : List ℕ) (gate : ℕ) (bytes file : List ℕ
   staged =
       ap (λ (f : List ℕ). overlaid f (gate + 1) bytes) is_closed
       ∙ overlaid_behind closed (gate + 1) length-closed takes.stands.free bytes
-      ∙ ap (λ (l : List ℕ). closed ++ l ++ drop (length bytes) takes.stands.free) takes.spelled
-      ∙ append_assoc closed (body payload ++ 0 ∷ takes.behind) (drop (length bytes) takes.stands.free)
-      ∙ ap (λ (l : List ℕ). closed ++ l) (append_assoc (body payload) (0 ∷ takes.behind) (drop (length bytes) takes.stands.free))
+      ∙ ap (λ (l : List ℕ). closed ++ l ++ drop (length bytes) takes.stands.free) spelled.1
+      ∙ append_assoc closed (body payload ++ 0 ∷ spelled.0) (drop (length bytes) takes.stands.free)
+      ∙ ap (λ (l : List ℕ). closed ++ l) (append_assoc (body payload) (0 ∷ spelled.0) (drop (length bytes) takes.stands.free))
       ∙ append_assoc (front x) (takes.stands.gate ∷ []) after
 
   with_it : (c : List ℕ) → c ≡ front x ++ OPEN ∷ after → StandsFor (with_one_more x payload) c

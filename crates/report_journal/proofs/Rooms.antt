@@ -1,6 +1,6 @@
 -- The room that a journal keeps.
-use Rattle.std.proofs.Common.{◌≡◌, ℕ, ◌+◌, ◌^◌, ◌<◌, ◌≤◌, List, ◌∷◌, ◌++◌, length, take, drop, replicate, Option, Some, None, refl, ◌∙◌, ap, arith, append_assoc, length-append}
-use Rattle.std.proofs.lemmas.List.{take_at, drop_at, length-take-le, length-drop, length-replicate}
+use Rattle.std.proofs.Common.{◌≡◌, ℕ, ◌+◌, ◌^◌, ◌<◌, ◌≤◌, List, ◌∷◌, ◌++◌, length, take, drop, Option, Some, None, refl, ◌∙◌, ap, arith, append_assoc, length-append}
+use Rattle.std.proofs.lemmas.List.{take_at, drop_at, length-take-le, length-drop}
 use Rattle.std.specs.Int.{w32, to_be_bytes}
 use Rattle.lot_base.specs.declared.limits.TheConstants.{GREATEST_PAYLOAD, GREATEST_FILE}
 use Rattle.report_journal.specs.Format.{body}
@@ -14,9 +14,9 @@ filled payload bytes behind is =
     ∙ ap (λ (l : List ℕ). take (length payload) l) (drop_at (to_be_bytes w32 (length payload)) (payload ++ 0 ∷ behind) 4 refl)
     ∙ take_at payload (0 ∷ behind) (length payload) refl
 
-pub filled-length : (payload bytes : List ℕ) (pad : ℕ) → bytes ≡ body payload ++ 0 ∷ replicate pad 0 → length bytes ≡ length payload + 5 + pad
-filled-length payload bytes pad is =
-    omega (arith, ap length is, length-append (body payload) (0 ∷ replicate pad 0), length-append (to_be_bytes w32 (length payload)) payload, length-replicate {A = ℕ} pad 0)
+pub filled-length : (payload bytes behind : List ℕ) → bytes ≡ body payload ++ 0 ∷ behind → length bytes ≡ length payload + 5 + length behind
+filled-length payload bytes behind is =
+    omega (arith, ap length is, length-append (body payload) (0 ∷ behind), length-append (to_be_bytes w32 (length payload)) payload)
 
 -- the payload in doubt has its length
 pub doubt-length : (size : ℕ) (bytes : List ℕ) → size + 4 ≤ length bytes → length (take size (drop 4 bytes)) ≡ size

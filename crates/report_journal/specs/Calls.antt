@@ -1,6 +1,6 @@
 -- What each call of a journal answers and leaves, by cases on its answer. A relation between two states takes the old one, then
 -- the new one. What is said of contents, moments and bytes is said where the disk tells them at the call's end; all else always.
-use Rattle.std.specs.Prelude.{◌≡◌, ◌≢◌, ℕ, ◌+◌, ◌-◌, ◌≤◌, ◌<◌, max, Bool, IsTrue, List, [], ◌∷◌, ◌++◌, length, replicate, slice_index, Option, Some, None, IsSome, MatchOption, Result, Ok, Err}
+use Rattle.std.specs.Prelude.{◌≡◌, ◌≢◌, ℕ, ◌+◌, ◌-◌, ◌≤◌, ◌<◌, max, Bool, IsTrue, List, [], ◌∷◌, ◌++◌, length, slice_index, Option, Some, None, IsSome, MatchOption, Result, Ok, Err}
 use Rattle.house_io.specs.Faults.{Rose}
 use Rattle.house_io.specs.Moments.{Moments, Leaves, AtEach, Torn, overlaid, synced_at}
 use Rattle.lot_base.specs.declared.limits.TheConstants.{GREATEST_FILE}
@@ -11,7 +11,7 @@ use Rattle.report_journal.specs.declared.faults.Mended.{Mended}
 use Rattle.report_journal.specs.declared.faults.Mended.TheVariants.{Nothing, Counted, Dropped}
 use Rattle.report_journal.specs.Format.{Contents, StandsFor, body, header_bytes, first_gate}
 use Rattle.report_journal.specs.Puts.{empty, with_one_more, IsBeforeOrAfter, IsUnformedOrEmpty, IsSynced}
-use Rattle.report_journal.specs.Padding.{pad_of}
+use Rattle.report_journal.specs.Padding.{behind_of}
 use Rattle.report_journal.specs.Scans.{contents_of, places_in, end_in}
 use Rattle.report_journal.specs.declared.headers.Header.{Header}
 use Rattle.report_journal.specs.declared.scanning.Scanned.{Scanned}
@@ -107,28 +107,28 @@ Appends payload old new (Err (Full needed)) = (old.pending ≡ None) × (needed 
 Appends payload old new (Err DiskFault) = IsReady payload old × KeepsRecords old new × (new.pending ≡ Some payload) × (new.spare ≡ old.spare - 1)
 Appends payload old new (Err NoMemory) = IsReady payload old × (new ≡ old) × (old.spare ≡ 0)
 
--- the zeros that an append of this payload writes behind its record
-abbrev pub padding : {D : Type 0} → List ℕ → JournalOf D → ℕ
-padding payload j = pad_of j.end j.laid (length payload)
+-- what an append of this payload writes behind its record, where this one is likely to come next
+abbrev pub behind : {D : Type 0} → List ℕ → List ℕ → JournalOf D → List ℕ
+behind payload next j = behind_of j.end j.laid payload next
 
 -- up to where a journal has bytes after an append
-abbrev pub LaidBy : {D : Type 0} → List ℕ → JournalOf D → JournalOf D → Result ℕ JournalFault → Type 0
-LaidBy payload old new (Ok number) = new.laid ≡ max old.laid (record_end payload old + padding payload old)
-LaidBy payload old new (Err fault) = new.laid ≡ old.laid
+abbrev pub LaidBy : {D : Type 0} → List ℕ → List ℕ → JournalOf D → JournalOf D → Result ℕ JournalFault → Type 0
+LaidBy payload next old new (Ok number) = new.laid ≡ max old.laid (record_end payload old + length (behind payload next old))
+LaidBy payload next old new (Err fault) = new.laid ≡ old.laid
 
--- where the disk tells: an append that went well has written its bytes, with so many zeros behind them, and no others, and every image has
--- the record; one that failed has left the contents
-abbrev pub AppendEnds : List ℕ → ℕ → Contents → Contents → ℕ → Moments → Moments → Result ℕ JournalFault → Type 0
-AppendEnds payload pad old new end before now (Ok number) =
+-- where the disk tells: an append that went well has written its bytes, with these behind them, and no others, and every image has the
+-- record; one that failed has left the contents
+abbrev pub AppendEnds : List ℕ → List ℕ → Contents → Contents → ℕ → Moments → Moments → Result ℕ JournalFault → Type 0
+AppendEnds payload behind old new end before now (Ok number) =
     (new ≡ with_one_more old payload) × Leaves (StandsFor (with_one_more old payload)) now.now
-    × (now.now.read ≡ overlaid before.now.read end (OPEN ∷ body payload ++ 0 ∷ replicate pad 0))
-AppendEnds payload pad old new end before now (Err fault) = new ≡ old
+    × (now.now.read ≡ overlaid before.now.read end (OPEN ∷ body payload ++ 0 ∷ behind))
+AppendEnds payload behind old new end before now (Err fault) = new ≡ old
 
 -- at each moment of an append a read and each image stand for the payloads before, or for these and the new one, and no byte but
--- those of the record and of so many zeros behind it differs from before
-pub record AppendLeaves (payload : List ℕ) (pad : ℕ) (contents : Contents) (end : ℕ) (old new : Moments) : Type 0 where
+-- those of the record and of what is written behind it differs from before
+pub record AppendLeaves (payload behind : List ℕ) (contents : Contents) (end : ℕ) (old new : Moments) : Type 0 where
   pub stand : AtEach (IsBeforeOrAfter contents payload) old new
-  pub range : AtEach (Torn end (6 + length payload + pad) old.now.read) old new
+  pub range : AtEach (Torn end (6 + length payload + length behind) old.now.read) old new
 
 -- A mend. A record that it drops is spare again.
 abbrev pub Mends : {D : Type 0} → JournalOf D → JournalOf D → Result Mended JournalFault → Type 0

@@ -5,7 +5,7 @@ use Rattle.house_io.specs.Moments.{Moments, Leaves, IsSettled}
 use Rattle.lot_base.specs.declared.limits.TheConstants.{GREATEST_PAYLOAD, GREATEST_FILE}
 use Rattle.report_journal.specs.declared.headers.Header.{Header}
 use Rattle.report_journal.specs.Format.{Contents, IsHeader, StandsFor, Fits, front, first_gate}
-use Rattle.report_journal.specs.Puts.{with_one_more, IsBeforeOrAfter}
+use Rattle.report_journal.specs.Puts.{with_one_more, IsBeforeOrAfter, HasRecord}
 use Rattle.report_journal.specs.declared.places.Place.{Place}
 
 pub record JournalOf (D : Type 0) : Type 0 where
@@ -68,6 +68,16 @@ pub record IsKept (x : Contents) (places : List Place) (end : ℕ) (pending : Op
 -- the payload in doubt, of this length in the buffer that holds the record that was put last: behind the four bytes of its length
 abbrev pub in_doubt : List ℕ → Option ℕ → Option (List ℕ)
 in_doubt bytes pending = option_map (λ size. take size (drop 4 bytes)) pending
+
+-- Behind the gate that ends the list lies what the buffer has from this offset on, where that is known.
+abbrev pub LiesAhead : Option ℕ → List ℕ → ℕ → List ℕ → Type 0
+LiesAhead None bytes end file = Unit {0}
+LiesAhead (Some from) bytes end file = (rest : List ℕ) × (drop (end + 1) file ≡ drop from bytes ++ rest)
+
+-- the record of this payload lies there
+abbrev pub HasAhead : Option ℕ → List ℕ → List ℕ → Type 0
+HasAhead None bytes payload = ⊥
+HasAhead (Some from) bytes payload = HasRecord payload (drop from bytes)
 
 -- the room for so many places beside those that there are, and for the bytes of the longest record
 pub record IsReserved (more len places_room bytes_room : ℕ) : Type 0 where

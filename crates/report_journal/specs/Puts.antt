@@ -1,5 +1,5 @@
 -- What the calls of a journal change of the contents that its file stands for.
-use Rattle.std.specs.Prelude.{◌≡◌, ◌≢◌, ◌⊎◌, ℕ, ◌+◌, ◌≤◌, List, [], ◌∷◌, ◌++◌, length, slice_index}
+use Rattle.std.specs.Prelude.{◌≡◌, ◌≢◌, ◌⊎◌, ℕ, ◌+◌, ◌<◌, ◌≤◌, max, List, [], ◌∷◌, ◌++◌, length, slice_index}
 use Rattle.house_io.specs.Moments.{Moments, Torn, overlaid, synced_at}
 use Rattle.report_journal.specs.declared.headers.Header.{Header}
 use Rattle.report_journal.specs.declared.spellings.TheConstants.{OPEN}
@@ -17,13 +17,21 @@ IsBeforeOrAfter x payload file = StandsFor x file ⊎ StandsFor (with_one_more x
 abbrev pub IsUnformedOrEmpty : Header → List ℕ → Type 0
 IsUnformedOrEmpty header file = IsUnformed file ⊎ StandsFor (empty header) file
 
--- A record for this payload may be put at the closed gate: the bytes are its body, a closed gate, and whatever may lie behind that.
-pub record Takes (x : Contents) (payload : List ℕ) (gate : ℕ) (bytes file : List ℕ) : Type 0 where
+-- a record for this payload may be put at the closed gate
+pub record Takes (x : Contents) (payload : List ℕ) (gate : ℕ) (file : List ℕ) : Type 0 where
   pub stands : StandsFor x file
   pub at : length (front x) ≡ gate
-  pub behind : List ℕ
-  pub spelled : bytes ≡ body payload ++ 0 ∷ behind
   pub fits : Fits (with_one_more x payload)
+
+-- the bytes begin with the record of this payload, behind its gate, and a closed gate
+abbrev pub HasRecord : List ℕ → List ℕ → Type 0
+HasRecord payload bytes = (behind : List ℕ) × (bytes ≡ body payload ++ 0 ∷ behind)
+
+-- any bytes in both ranges and past the old end, the same elsewhere
+pub record TornTwice (a n b k : ℕ) (old new : List ℕ) : Type 0 where
+  pub no_shorter : length old ≤ length new
+  pub no_longer : length new ≤ max (b + k) (max (a + n) (length old))
+  pub same : (i : ℕ) → i < length old → (i < a) ⊎ (a + n ≤ i) → (i < b) ⊎ (b + k ≤ i) → slice_index new i ≡ slice_index old i
 
 -- What a crash may leave of a file while these bytes are put after this gate: first they are torn, and once they are there
 -- the gate is.

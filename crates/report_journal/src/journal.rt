@@ -1,19 +1,18 @@
 //! A journal of payloads, each on the disk before it is acknowledged.
-ghost use Rattle.std.specs.Prelude.{◌≡◌, ◌+◌, ◌-◌, ◌≤◌, ◌<◌, ◌++◌, [], ◌∷◌, length, vec_len, vec_capacity, slice_get, max, IsTrue, IfOk, OnOk, OnErr, IfErr, IfSome, None, Some};
+ghost use Rattle.std.specs.Prelude.{◌≡◌, ◌+◌, ◌-◌, ◌≤◌, ◌<◌, ◌↔◌, ◌++◌, [], ◌∷◌, length, vec_len, vec_capacity, slice_get, max, IsTrue, IfOk, OnOk, OnErr, IfErr, IfSome, None, Some};
 ghost use Rattle.house_io.specs.Moments.{IsSettled};
 ghost use Rattle.lot_base.specs.declared.limits.TheConstants.{GREATEST_PAYLOAD, GREATEST_FILE};
-ghost use Rattle.report_journal.specs.Calls.{OnlyReads, CountsFaults, CountsReading, Appends, padding, LaidBy, AppendEnds, AppendLeaves, IsReady, Mends, MendEnds, MendLeaves, KeepsAll, Forms, FailsToForm, Attaches};
+ghost use Rattle.report_journal.specs.Calls.{OnlyReads, CountsFaults, CountsReading, Appends, behind, LaidBy, AppendEnds, AppendLeaves, IsReady, Mends, MendEnds, MendLeaves, KeepsAll, Forms, FailsToForm, Attaches};
 ghost use Rattle.report_journal.specs.Format.{IsHeader, IsUnformed};
-ghost use Rattle.report_journal.specs.Journals.{IsKept, payload_at};
+ghost use Rattle.report_journal.specs.Journals.{IsKept, HasAhead, payload_at};
 ghost use Rattle.report_journal.specs.declared.spellings.TheConstants.{LONGEST_RECORD};
 ghost use Rattle.report_journal.specs.Scans.{IsFormed, IsScan, IsInOrder};
 
 use crate::faults::{JournalFault, Mended, NotFormed};
 use crate::headers::{Header, head_bytes};
-use crate::padding::pad_behind;
 use crate::places::Place;
 use crate::scanning::Scanned;
-use crate::spellings::{LONGEST_RECORD, fill_record};
+use crate::spellings::{LONGEST_RECORD, begins_with_record, fill_record};
 use crate::steps::{form_file, is_open_now, put_record};
 use house_io::{Disk, Failed};
 use lot_base::NoMemory;
@@ -33,8 +32,10 @@ pub struct Journal<D: Disk> {
     places: Vec<Place>,
     /// The gate that ends the list.
     end: u32,
-    /// The bytes of the record that was put last, behind its gate.
+    /// The bytes of the record that was put last, behind its gate, and what was written behind it.
     buffer: Vec<u8>,
+    /// From where on the buffer's bytes lie behind the gate that ends the list. None where that is not known.
+    ahead: Option<u32>,
     /// The length of the payload in doubt, which the record has: that of an append that failed on the disk and was not mended.
     pending: Option<u32>,
     /// How many more records there is room for.
@@ -45,7 +46,7 @@ pub struct Journal<D: Disk> {
 
 impl<D: Disk> Model for Journal<D> {
     ghost use Rattle.std.specs.Prelude.{vec_capacity, IsTrue};
-    ghost use Rattle.report_journal.specs.Journals.{JournalOf, said, in_doubt, IsWithin, IsKept};
+    ghost use Rattle.report_journal.specs.Journals.{JournalOf, said, in_doubt, IsWithin, IsKept, LiesAhead};
 
     ghost Value = { JournalOf D };
 
@@ -61,7 +62,8 @@ impl<D: Disk> Model for Journal<D> {
 
     ghost invariant = { λ j. IsWithin j.header j.places.items j.end j.spare j.buffer.items (vec_capacity j.places) (vec_capacity j.buffer) j.pending
         × (IsTrue (D.tells j.disk) → IsKept (said j.header j.places.items (D.moments j.disk).now.read)
-        j.places.items j.end (in_doubt j.buffer.items j.pending) (D.moments j.disk)) };
+        j.places.items j.end (in_doubt j.buffer.items j.pending) (D.moments j.disk)
+        × LiesAhead j.ahead j.buffer.items j.end (D.moments j.disk).now.read) };
 }
 
 impl<D: Disk> Journal<D> {
@@ -88,6 +90,7 @@ impl<D: Disk> Journal<D> {
             places: _,
             end: _,
             buffer: _,
+            ahead: _,
             pending: _,
             spare: _,
             laid: _,
@@ -114,16 +117,38 @@ impl<D: Disk> Journal<D> {
     }
 
     /// Adds a record and answers its number, from 1. At `Ok` every image has it. After `DiskFault` it is in doubt until a
-    /// mend succeeds. Its memory is taken before the first write; where a record is spare it takes none. From 4,096 bytes on a journal
-    /// writes zeros behind a record with which its file would end: a sync of bytes that a file has is the shorter.
+    /// mend succeeds. Its memory is taken before the first write; where a record is spare it takes none.
     pub fn append(&mut self, alloc: Global, payload: &[u8]) -> Result<u32, JournalFault>
         requires { length payload.now ≤ GREATEST_PAYLOAD }
         ensures answer { Appends payload.now self.old self.new result }
-        ensures laid { LaidBy payload.now self.old self.new result }
-        ensures end { IsTrue (D.tells self.new.disk) → AppendEnds payload.now (padding payload.now self.old) self.old.contents self.new.contents
+        ensures laid { LaidBy payload.now [] self.old self.new result }
+        ensures end { IsTrue (D.tells self.new.disk) → AppendEnds payload.now (behind payload.now [] self.old) self.old.contents self.new.contents
             self.old.end (D.moments self.old.disk) (D.moments self.new.disk) result }
         ensures moments { self.old.pending ≡ None → IsTrue (D.tells self.new.disk)
-            → AppendLeaves payload.now (padding payload.now self.old) self.old.contents self.old.end (D.moments self.old.disk) (D.moments self.new.disk) }
+            → AppendLeaves payload.now (behind payload.now [] self.old) self.old.contents self.old.end (D.moments self.old.disk) (D.moments self.new.disk) }
+        ensures tells { IsTrue (D.tells self.new.disk) → IsTrue (D.tells self.old.disk) }
+        ensures faults { CountsFaults (D.faults self.old.disk) (D.faults self.new.disk) result }
+    {
+        self.append_before(alloc, payload, &[])
+    }
+
+    /// Appends so, where `next` is the payload that is likely to be appended next; no bytes are none. From 4,096 bytes on a journal writes
+    /// the next record behind this one, where both are short: where it comes, its gate alone is left to open, with one sync in place of two.
+    /// Where it does not come, what lies there is nothing. Such a journal also writes zeros where its file would end: a sync of bytes that a
+    /// file has is the shorter.
+    pub fn append_before(
+        &mut self,
+        alloc: Global,
+        payload: &[u8],
+        next: &[u8],
+    ) -> Result<u32, JournalFault>
+        requires { length payload.now ≤ GREATEST_PAYLOAD }
+        ensures answer { Appends payload.now self.old self.new result }
+        ensures laid { LaidBy payload.now next.now self.old self.new result }
+        ensures end { IsTrue (D.tells self.new.disk) → AppendEnds payload.now (behind payload.now next.now self.old) self.old.contents self.new.contents
+            self.old.end (D.moments self.old.disk) (D.moments self.new.disk) result }
+        ensures moments { self.old.pending ≡ None → IsTrue (D.tells self.new.disk)
+            → AppendLeaves payload.now (behind payload.now next.now self.old) self.old.contents self.old.end (D.moments self.old.disk) (D.moments self.new.disk) }
         ensures tells { IsTrue (D.tells self.new.disk) → IsTrue (D.tells self.old.disk) }
         ensures faults { CountsFaults (D.faults self.old.disk) (D.faults self.new.disk) result }
     {
@@ -136,29 +161,36 @@ impl<D: Disk> Journal<D> {
         }
         match self.reserve(alloc, 1) {
             Err(NoMemory) => Err(JournalFault::NoMemory),
-            Ok(()) => self.put(payload),
+            Ok(()) => self.put(payload, next),
         }
     }
 
     /// Adds a record that fits and for which there is room. Takes no memory.
-    fn put(&mut self, payload: &[u8]) -> Result<u32, JournalFault>
+    fn put(&mut self, payload: &[u8], next: &[u8]) -> Result<u32, JournalFault>
         requires short { length payload.now ≤ GREATEST_PAYLOAD }
         requires ready { IsReady payload.now self.old }
         requires spare { 1 ≤ self.old.spare }
         ensures answer { Appends payload.now self.old self.new result }
-        ensures laid { LaidBy payload.now self.old self.new result }
-        ensures end { IsTrue (D.tells self.new.disk) → AppendEnds payload.now (padding payload.now self.old) self.old.contents self.new.contents
+        ensures laid { LaidBy payload.now next.now self.old self.new result }
+        ensures end { IsTrue (D.tells self.new.disk) → AppendEnds payload.now (behind payload.now next.now self.old) self.old.contents self.new.contents
             self.old.end (D.moments self.old.disk) (D.moments self.new.disk) result }
         ensures moments { IsTrue (D.tells self.new.disk)
-            → AppendLeaves payload.now (padding payload.now self.old) self.old.contents self.old.end (D.moments self.old.disk) (D.moments self.new.disk) }
+            → AppendLeaves payload.now (behind payload.now next.now self.old) self.old.contents self.old.end (D.moments self.old.disk) (D.moments self.new.disk) }
         ensures tells { IsTrue (D.tells self.new.disk) → IsTrue (D.tells self.old.disk) }
         ensures faults { CountsFaults (D.faults self.old.disk) (D.faults self.new.disk) result }
     {
         let size = payload.len() as u32;
-        let pad = pad_behind(self.end, self.laid, size);
-        fill_record(&mut self.buffer, payload, pad);
-        match put_record(&mut self.disk, self.end as u64, &self.buffer) {
+        let lies_there = is_ahead(&self.buffer, self.ahead, payload);
+        fill_record(&mut self.buffer, self.end, self.laid, payload, next);
+        match put_record(
+            &mut self.disk,
+            self.end as u64,
+            payload,
+            &self.buffer,
+            lies_there,
+        ) {
             Err(Failed) => {
+                self.ahead = None;
                 self.pending = Some(size);
                 self.spare -= 1;
                 Err(JournalFault::DiskFault)
@@ -169,7 +201,8 @@ impl<D: Disk> Journal<D> {
                     length: size,
                 };
                 push_reserved(&mut self.places, place);
-                self.laid = self.laid.max(self.end + 6 + size + pad);
+                self.ahead = Some(size + 5);
+                self.laid = self.laid.max(self.end + 1 + self.buffer.len() as u32);
                 self.end = self.end + 5 + size;
                 self.spare -= 1;
                 Ok(self.places.len() as u32)
@@ -207,6 +240,7 @@ impl<D: Disk> Journal<D> {
                 };
                 push_reserved(&mut self.places, place);
                 self.end = self.end + 5 + length;
+                self.ahead = None;
                 self.pending = None;
                 Ok(Mended::Counted)
             }
@@ -254,6 +288,7 @@ impl<D: Disk> Journal<D> {
             places,
             end,
             buffer,
+            ahead: None,
             pending: None,
             spare: 0,
             laid: end + 1,
@@ -287,6 +322,7 @@ impl<D: Disk> Journal<D> {
                     places: Vec::new(alloc),
                     end,
                     buffer: Vec::new(alloc),
+                    ahead: None,
                     pending: None,
                     spare: 0,
                     laid: end + 1,
@@ -309,6 +345,20 @@ fn make_room(places: &mut Vec<Place>, buffer: &mut Vec<u8>, more: usize) -> Resu
         Ok(()) => match places.reserve(more) {
             Err(_) => Err(NoMemory),
             Ok(()) => Ok(()),
+        },
+    }
+}
+
+/// Whether the record of a payload lies behind the gate that ends the list.
+fn is_ahead(buffer: &[u8], ahead: Option<u32>, payload: &[u8]) -> bool
+    requires { length payload.now ≤ GREATEST_PAYLOAD }
+    ensures { IsTrue result ↔ HasAhead ahead buffer.now payload.now }
+{
+    match ahead {
+        None => false,
+        Some(from) => match buffer.split_at_checked(from as usize) {
+            None => false,
+            Some((_, behind)) => begins_with_record(behind, payload),
         },
     }
 }

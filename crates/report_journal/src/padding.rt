@@ -1,7 +1,7 @@
-//! How many zeros are written behind a record.
+//! What is written behind a record.
 ghost use Rattle.std.specs.Prelude.{◌≡◌, ◌+◌, ◌≤◌};
 ghost use Rattle.lot_base.specs.declared.limits.TheConstants.{GREATEST_FILE};
-ghost use Rattle.report_journal.specs.Padding.{pad_of};
+ghost use Rattle.report_journal.specs.Padding.{lays, pad_of};
 
 use lot_base::limits::GREATEST_FILE;
 
@@ -9,7 +9,22 @@ use lot_base::limits::GREATEST_FILE;
 /// such a one is as long as its records.
 pub const AHEAD: u32 = 4_096;
 
-/// The zeros behind a record with so many bytes of payload, put at this gate of a file that has bytes up to `laid`.
+/// The longest payload of a record behind which the next one is laid, and of one that is laid so.
+pub const SHORT: u32 = 1_024;
+
+/// Whether behind a record with so many bytes of payload, put at this gate, the next one is laid. 0 bytes are no next one.
+pub fn lays_next(gate: u32, size: u32, next: usize) -> bool
+    requires { gate + 6 + size ≤ GREATEST_FILE }
+    ensures { result ≡ lays gate size next }
+{
+    gate >= AHEAD
+        && next > 0
+        && next <= SHORT as usize
+        && size <= SHORT
+        && gate as usize + 11 + size as usize + next <= GREATEST_FILE as usize
+}
+
+/// The zeros behind so many bytes of payload, or of payload and next record, put at this gate of a file that has bytes up to `laid`.
 pub fn pad_behind(gate: u32, laid: u32, size: u32) -> u32
     requires { gate + 6 + size ≤ GREATEST_FILE }
     ensures { result ≡ pad_of gate laid size }

@@ -1,9 +1,13 @@
 //! The bytes of gates and records. Numbers are big-endian.
-ghost use Rattle.std.specs.Prelude.{◌≡◌, ◌+◌, ◌≤◌, ◌++◌, ◌∷◌, length, replicate, vec_capacity};
+ghost use Rattle.std.specs.Prelude.{◌≡◌, ◌+◌, ◌≤◌, ◌↔◌, ◌++◌, ◌∷◌, [], length, vec_capacity, IsTrue};
 ghost use Rattle.std.specs.Int.{w32, to_be_bytes, from_be_bytes};
-ghost use Rattle.lot_base.specs.declared.limits.TheConstants.{GREATEST_PAYLOAD};
+ghost use Rattle.lot_base.specs.declared.limits.TheConstants.{GREATEST_PAYLOAD, GREATEST_FILE};
 ghost use Rattle.report_journal.specs.Format.{body};
+ghost use Rattle.report_journal.specs.Padding.{behind_of};
+ghost use Rattle.report_journal.specs.Puts.{HasRecord};
+ghost use Rattle.report_journal.specs.declared.spellings.TheConstants.{LONGEST_RECORD};
 
+use crate::padding::{lays_next, pad_behind};
 use lot_base::limits::GREATEST_PAYLOAD;
 
 /// A gate with this byte is open; with any other it is closed.
@@ -18,18 +22,50 @@ pub const LONGEST_RECORD: usize = GREATEST_PAYLOAD as usize + 5;
 /// The bytes of the shortest file that is formed: its gate, a header of version 1, and the gate of record 1.
 pub const SHORTEST_FORMED: usize = 42;
 
-/// Writes a payload's length, the payload, a closed gate and so many zeros into a buffer that has room for them. Takes no memory.
-pub fn fill_record(bytes: &mut Vec<u8>, payload: &[u8], pad: u32)
+/// Fills the buffer with the record of a payload, put at this gate of a file that has bytes up to `laid`, and with what is written behind
+/// it. Takes no memory.
+pub fn fill_record(bytes: &mut Vec<u8>, gate: u32, laid: u32, payload: &[u8], next: &[u8])
     requires short { length payload.now ≤ GREATEST_PAYLOAD }
-    requires room { length payload.now + 5 + pad ≤ vec_capacity bytes.old }
-    ensures record { bytes.new.items ≡ body payload.now ++ 0 ∷ replicate pad 0 }
+    requires fits { gate + 6 + length payload.now ≤ GREATEST_FILE }
+    requires room { LONGEST_RECORD ≤ vec_capacity bytes.old }
+    ensures record { bytes.new.items ≡ body payload.now ++ 0 ∷ behind_of gate laid payload.now next.now }
     ensures room { vec_capacity bytes.old ≤ vec_capacity bytes.new }
 {
     bytes.clear();
+    push_record(bytes, payload);
+    let mut size = payload.len() as u32;
+    if lays_next(gate, size, next.len()) {
+        push_record(bytes, next);
+        size += next.len() as u32 + 5;
+    }
+    let pad = pad_behind(gate, laid, size);
+    let _zeros = bytes.resize(size as usize + 5 + pad as usize, SHUT);
+}
+
+/// Pushes a payload's length, the payload and a closed gate into a buffer that has room for them. Takes no memory.
+fn push_record(bytes: &mut Vec<u8>, payload: &[u8])
+    requires short { length payload.now ≤ GREATEST_PAYLOAD }
+    requires room { length bytes.old.items + length payload.now + 5 ≤ vec_capacity bytes.old }
+    ensures record { bytes.new.items ≡ bytes.old.items ++ body payload.now ++ 0 ∷ [] }
+    ensures room { vec_capacity bytes.old ≤ vec_capacity bytes.new }
+{
     let _length = bytes.extend_from_slice(&(payload.len() as u32).to_be_bytes());
     let _payload = bytes.extend_from_slice(payload);
     let _gate = bytes.push(SHUT);
-    let _zeros = bytes.resize(payload.len() + 5 + pad as usize, SHUT);
+}
+
+/// Whether bytes begin with the record of a payload, behind its gate, and a closed gate.
+pub fn begins_with_record(bytes: &[u8], payload: &[u8]) -> bool
+    requires { length payload.now ≤ GREATEST_PAYLOAD }
+    ensures { IsTrue result ↔ HasRecord payload.now bytes.now }
+{
+    let Some(behind_length) = bytes.strip_prefix(&(payload.len() as u32).to_be_bytes()) else {
+        return false;
+    };
+    match behind_length.strip_prefix(payload) {
+        None => false,
+        Some(behind) => behind.starts_with(&[SHUT]),
+    }
 }
 
 /// The number that four bytes spell.

@@ -1,9 +1,10 @@
 //! The steps of a journal's calls on its disk: each writes a piece and syncs it.
-ghost use Rattle.std.specs.Prelude.{◌≡◌, ◌+◌, ◌^◌, ◌<◌, ◌≤◌, ◌↔◌, ◌⊎◌, [], ◌∷◌, List, ℕ, length, slice_index, IsTrue, IfOk, OnOk};
+ghost use Rattle.std.specs.Prelude.{◌≡◌, ◌+◌, ◌^◌, ◌<◌, ◌≤◌, ◌↔◌, ◌⊎◌, [], ◌∷◌, length, drop, slice_index, IsTrue, IfOk, OnOk};
 ghost use Rattle.house_io.specs.Faults.{HasCause};
+ghost use Rattle.lot_base.specs.declared.limits.TheConstants.{GREATEST_PAYLOAD};
 ghost use Rattle.house_io.specs.Moments.{settled, IsSettled, overlaid, Torn, AtEach};
 ghost use Rattle.report_journal.specs.Format.{Contents, StandsFor, IsUnformed};
-ghost use Rattle.report_journal.specs.Puts.{Takes, IsStage, with_one_more, empty, IsBeforeOrAfter, IsUnformedOrEmpty, IsShut, IsHead, IsSynced};
+ghost use Rattle.report_journal.specs.Puts.{Takes, HasRecord, TornTwice, IsStage, empty, IsBeforeOrAfter, IsUnformedOrEmpty, IsShut, IsHead, IsSynced};
 ghost use Rattle.report_journal.specs.declared.headers.Header.{Header};
 ghost use Rattle.report_journal.specs.declared.spellings.TheConstants.{OPEN};
 
@@ -48,26 +49,55 @@ fn put_after_gate<D: Disk>(disk: &mut D, gate: u64, bytes: &[u8]) -> Result<(), 
     write_synced(disk, gate, &[OPEN])
 }
 
-/// Puts the body of a record after the closed gate, and then opens the gate.
-pub fn put_record<D: Disk>(disk: &mut D, gate: u64, bytes: &[u8]) -> Result<(), Failed>
-    requires room { gate < 2 ^ 63 }
+/// Opens the gate, and writes bytes at an offset behind it, with one sync.
+fn open_and_lay<D: Disk>(disk: &mut D, gate: u64, from: u64, bytes: &[u8]) -> Result<(), Failed>
+    requires settled { IsTrue (D.tells disk.old) → IsSettled (D.moments disk.old).now }
+    requires within { IsTrue (D.tells disk.old) → gate ≤ length (D.moments disk.old).now.read }
+    ensures done { OnOk result (IsTrue (D.tells disk.new)
+        → (D.moments disk.new).now ≡ settled (overlaid (overlaid (D.moments disk.old).now.read gate (OPEN ∷ [])) from bytes.now)) }
+    ensures moments { IsTrue (D.tells disk.new)
+        → AtEach (TornTwice gate 1 from (length bytes.now) (D.moments disk.old).now.read) (D.moments disk.old) (D.moments disk.new) }
+    ensures tells { IsTrue (D.tells disk.new) → IsTrue (D.tells disk.old) }
+    ensures cause { HasCause (D.faults disk.old) (D.faults disk.new) result }
+{
+    disk.write_at(gate, &[OPEN])?;
+    disk.write_at(from, bytes)?;
+    disk.sync()?;
+    Ok(())
+}
+
+/// Puts a record at the closed gate, with what is written behind it. Where the record lies there already, its gate is left to open: then
+/// one sync is for that and for what is written behind.
+pub fn put_record<D: Disk>(
+    disk: &mut D,
+    gate: u64,
+    payload: &[u8],
+    bytes: &[u8],
+    lies_there: bool,
+) -> Result<(), Failed>
+    requires room { (gate < 2 ^ 63) × (length payload.now ≤ GREATEST_PAYLOAD) }
+    requires spelled { HasRecord payload.now bytes.now }
     requires settled { IsTrue (D.tells disk.old) → IsSettled (D.moments disk.old).now }
     requires within { IsTrue (D.tells disk.old) → gate + 1 ≤ length (D.moments disk.old).now.read }
-    ensures done { OnOk result (IsTrue (D.tells disk.new) → IsSettled (D.moments disk.new).now) }
-    ensures has_it { OnOk result (IsTrue (D.tells disk.new) → (x : Contents) (payload : List ℕ)
-        → Takes x payload gate bytes.now (D.moments disk.old).now.read
-        → StandsFor (with_one_more x payload) (D.moments disk.new).now.read) }
-    ensures moments { IsTrue (D.tells disk.new) → (x : Contents) (payload : List ℕ)
-        → Takes x payload gate bytes.now (D.moments disk.old).now.read
-        → AtEach (IsBeforeOrAfter x payload) (D.moments disk.old) (D.moments disk.new) }
-    ensures written { OnOk result (IsTrue (D.tells disk.new)
-        → (D.moments disk.new).now.read ≡ overlaid (D.moments disk.old).now.read gate (OPEN ∷ bytes.now)) }
+    requires there { IsTrue lies_there → IsTrue (D.tells disk.old) → HasRecord payload.now (drop (gate + 1) (D.moments disk.old).now.read) }
+    ensures done { OnOk result (IsTrue (D.tells disk.new)
+        → (D.moments disk.new).now ≡ settled (overlaid (D.moments disk.old).now.read gate (OPEN ∷ bytes.now))) }
+    ensures moments { IsTrue (D.tells disk.new) → (x : Contents) → Takes x payload.now gate (D.moments disk.old).now.read
+        → AtEach (IsBeforeOrAfter x payload.now) (D.moments disk.old) (D.moments disk.new) }
     ensures range { IsTrue (D.tells disk.new)
         → AtEach (Torn gate (1 + length bytes.now) (D.moments disk.old).now.read) (D.moments disk.old) (D.moments disk.new) }
     ensures tells { IsTrue (D.tells disk.new) → IsTrue (D.tells disk.old) }
     ensures cause { HasCause (D.faults disk.old) (D.faults disk.new) result }
 {
-    put_after_gate(disk, gate, bytes)
+    if lies_there {
+        // The record was synced with the gate before it, so a crash finds an open gate and the whole record, or a closed one. Over
+        // anything else an open gate would count what nobody appended (must-fail/a_gate_is_opened_before_another_record.edit).
+        let size = payload.len() + 5;
+        let behind = bytes.split_at(size).1;
+        open_and_lay(disk, gate, gate + 1 + size as u64, behind)
+    } else {
+        put_after_gate(disk, gate, bytes)
+    }
 }
 
 /// Closes the first gate of an unformed file that is too short.

@@ -6,6 +6,7 @@ ghost use Rattle.turn_desk.specs.declared.view.Stage.TheVariants.{Rests};
 
 use crate::bells::Bells;
 use crate::book::Book;
+use crate::notes::Notes;
 use crate::rule::Turns;
 use crate::view::View;
 use atomic_table::{Refused, Seat, Table};
@@ -33,6 +34,8 @@ pub(crate) struct Board<B: Book> {
     pub(crate) table: Table<Option<B>, View<B::Entry, B::Origin>, Snapshot<B>, Turns<B>, Global>,
     /// Where threads sleep until their turn comes. No clause speaks of it.
     pub(crate) bells: Bells,
+    /// What threads that are about to wait leave. No clause speaks of it.
+    pub(crate) notes: Notes,
     ghost sized: { (table.shared.table_id.words ≡ 3) × (table.shared.table_id.slots ≡ 1) },
 }
 
@@ -53,7 +56,13 @@ impl<B: Book> Board<B> {
         match Table::new(alloc, &[0, 0, count], slots, &about) {
             Ok((table, seat)) => {
                 let bells = Bells::new();
-                Ok((Board { table, bells }, seat))
+                let notes = Notes::new();
+                let board = Board {
+                    table,
+                    bells,
+                    notes,
+                };
+                Ok((board, seat))
             }
             Err(Refused { mut slots }) => {
                 let last = slots.pop();
@@ -69,7 +78,11 @@ impl<B: Book> Board<B> {
         requires all { (seat.me.0.stage ≡ Rests) × (seat.me.0.seats ≡ seat.me.0.made) × (0 < seat.me.0.made) }
         ensures { Ends B.history B.origin self.table.shared.key.value seat.me.0 result }
     {
-        let Board { table, bells: _ } = self;
+        let Board {
+            table,
+            bells: _,
+            notes: _,
+        } = self;
         let mut closed = table.close_with(seat);
         let book = closed.take(BOOK);
         closed.free();

@@ -1,12 +1,14 @@
 //! The desk and its passes.
 ghost use Rattle.std.specs.Prelude.{◌≡◌, ℕ, ◌+◌, ◌<◌, ◌≤◌, List, [], ◌∷◌, Some, None, length, IfOk, IfErr, IsSome, IfSome};
 ghost use Rattle.turn_desk.specs.declared.view.Stage.TheVariants.{Rests};
+ghost use Rattle.turn_desk.specs.declared.notes.TheConstants.{LONGEST_NOTE};
 ghost use Rattle.turn_desk.specs.Histories.{StartsWith, GoesOn};
 ghost use Rattle.turn_desk.specs.Views.{hands_of};
 ghost use Rattle.turn_desk.specs.Passes.{known, AreNew, AreAll, Gathers, Closes, at_turn, after_giving};
 
 use crate::board::{Board, Place};
 use crate::book::Book;
+use crate::notes::LONGEST_NOTE;
 use std::alloc::Global;
 use std::marker::Model;
 use std::sync::Wait;
@@ -139,6 +141,20 @@ impl<B: Book> Desk<B> {
         let more = book.length().wrapping_sub(pass.count);
         self.board.leave(&mut pass.seat, book, more);
         pass.count = 0;
+    }
+
+    /// Leaves a note of the first `length` of these bytes, for who has the turn before the one that this thread is about to wait for, and
+    /// answers its number. Notes are numbered in the order in which they are left, which is mostly that of the turns.
+    pub fn leave_note(&self, note: &[u8; LONGEST_NOTE], length: usize) -> u64 {
+        self.board.notes.leave(note, length)
+    }
+
+    /// Takes the note behind that of this number into the buffer, and answers its length: 0 where it is not there. It is a guess at what comes
+    /// next, and may say anything: notes are left, written over and read with no turn.
+    pub fn next_note(&self, number: u64, into: &mut [u8; LONGEST_NOTE]) -> usize
+        ensures { result ≤ LONGEST_NOTE }
+    {
+        self.board.notes.take(number.wrapping_add(1), into)
     }
 
     /// Takes the book from a desk that no thread shares any more.

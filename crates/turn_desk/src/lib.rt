@@ -7,6 +7,7 @@ mod board;
 mod book;
 mod desk;
 pub mod laws;
+mod notes;
 mod rule;
 mod shared;
 mod steps;
@@ -15,4 +16,5 @@ mod view;
 
 pub use book::Book;
 pub use desk::{Desk, NotMade, Pass};
+pub use notes::LONGEST_NOTE;
 pub use shared::{desk_may_be_shared, desk_may_move, pass_may_move};

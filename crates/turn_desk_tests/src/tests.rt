@@ -8,7 +8,7 @@ use std::sync::Wait;
 use std::test::Fail;
 use std::thread;
 use std::thread::Threads;
-use turn_desk::{Book, Desk, Pass};
+use turn_desk::{Book, Desk, LONGEST_NOTE, Pass};
 
 /// Numbers, the oldest first. Its origin is the number that was written on its cover.
 #[derive(Drop)]
@@ -202,4 +202,46 @@ fn sixty_four_passes_write_their_numbers_in_two_rounds(rt: HostRuntime) -> Resul
         assert_eq!(rt; note as usize, place % 64, "at {place}");
     }
     Ok(())
+}
+
+/// The length of the note behind that of this number, where so many were left before, each of as many bytes as its number says, which all are
+/// its number. Nothing where other bytes are found.
+fn length_behind(alloc: Global, left: u8, number: u64) -> Option<usize> {
+    let Ok((desk, passes)) = Desk::new(alloc, Notes::empty(alloc), 1) else {
+        return None;
+    };
+    for note in 0..left {
+        let _number = desk.leave_note(&[note; LONGEST_NOTE], note as usize);
+    }
+    let mut found = [0; LONGEST_NOTE];
+    let length = desk.next_note(number, &mut found);
+    let _book = desk.close(passes);
+    for byte in found[..length].iter() {
+        if u64::from(*byte) != number.wrapping_add(1) {
+            return None;
+        }
+    }
+    Some(length)
+}
+
+#[test]
+fn a_note_is_found_by_who_stands_before_it(rt: HostRuntime) {
+    // Notes are numbered from 0, the last sixteen are kept, and one of more than 120 bytes is none.
+    for (left, number, length) in [
+        (0, 0, 0),
+        (3, 0, 1),
+        (3, 1, 2),
+        (3, 2, 0),
+        (20, 2, 0),
+        (20, 3, 4),
+        (20, 18, 19),
+        (122, 119, 120),
+        (122, 120, 0),
+    ] {
+        assert_eq!(rt;
+            length_behind(rt.alloc(), left, number),
+            Some(length),
+            "of {left} behind {number}"
+        );
+    }
 }

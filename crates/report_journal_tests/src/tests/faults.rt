@@ -1,7 +1,7 @@
 //! Calls of a disk that fail: what is answered, and what is left at each stop.
 use super::fixtures::{
-    FILE, LONG, PAYLOAD, ROOM, Seen, Step, append, count, first_other, header, mend, one_good,
-    plain, scanned_on, seen_in,
+    FILE, LONG, LONGER, PAYLOAD, ROOM, Seen, Step, append, count, first_other, header, mend,
+    one_good, plain, scanned_on, seen_in,
 };
 use house_io::{Disk, Fill, ListDisk};
 use lot_base::Prices;
@@ -123,6 +123,23 @@ const PADDED_AGAIN: &[Step] = &[
     Step::Holds(2, &PAYLOAD),
 ];
 
+/// The third lies behind the second, and its append fails.
+const LIES_THERE_STILL: &[Step] = &[
+    Step::Appends(&LONG, Ok(1)),
+    Step::Lays(&PAYLOAD, &PAYLOAD, Ok(2)),
+    Step::Appends(&PAYLOAD, Err(JournalFault::DiskFault)),
+    Step::Counts(2),
+    Step::Mends(Ok(Mended::Counted)),
+    Step::Appends(&PAYLOAD, Ok(4)),
+    Step::Holds(3, &PAYLOAD),
+    Step::Holds(4, &PAYLOAD),
+];
+
+#[test]
+fn a_record_that_lies_there_and_whose_sync_fails_is_counted_once(rt: HostRuntime) {
+    assert_eq!(rt; stepped(rt.alloc(), 17, LIES_THERE_STILL), Some((8, false)));
+}
+
 #[test]
 fn a_record_with_zeros_behind_it_is_dropped_and_put_again(rt: HostRuntime) {
     for failing in 11..14 {
@@ -142,13 +159,14 @@ enum Came {
     Acknowledged(u32),
 }
 
-/// What a run appends: the second has zeros behind it, and the third is put over them.
-const THREE: [&[u8]; 3] = [&LONG, &PAYLOAD, &PAYLOAD];
+/// What a run appends, each with what is likely to come next: the second has the third and zeros behind it, and the third another that does
+/// not come.
+const THREE: [(&[u8], &[u8]); 3] = [(&LONG, &[]), (&PAYLOAD, &PAYLOAD), (&PAYLOAD, &LONGER)];
 
 /// Appends, until an append fails, and mends.
 fn append_and_mend<D: Disk>(alloc: Global, journal: &mut Journal<D>) {
-    for payload in THREE {
-        match append(alloc, journal, payload) {
+    for (payload, next) in THREE {
+        match append(alloc, journal, payload, next) {
             Some(Ok(_)) => {}
             _ => break,
         }
@@ -280,6 +298,34 @@ const READ_AGAIN: &[Step] = &[
 fn first_other_failing(alloc: Global, failing: u64, steps: &[Step]) -> Option<usize> {
     let mut journal = listed_journal(alloc, failing, one_good())?;
     Some(first_other(alloc, &mut journal, steps))
+}
+
+/// The third record lies behind the second, and the fourth behind the third: each takes a write of its gate, one of what is laid behind it,
+/// and a sync.
+const LIE_THERE: &[Step] = &[
+    Step::Appends(&LONG, Ok(1)),
+    Step::Lays(&PAYLOAD, &PAYLOAD, Ok(2)),
+    Step::Lays(&PAYLOAD, &PAYLOAD, Ok(3)),
+    Step::Appends(&PAYLOAD, Ok(4)),
+];
+
+#[test]
+fn a_record_that_lies_there_takes_one_sync(rt: HostRuntime) {
+    for (failing, step) in [
+        (11, 1),
+        (14, 1),
+        (15, 2),
+        (17, 2),
+        (18, 3),
+        (20, 3),
+        (21, 4),
+    ] {
+        assert_eq!(rt;
+            first_other_failing(rt.alloc(), failing, LIE_THERE),
+            Some(step),
+            "at {failing}"
+        );
+    }
 }
 
 #[test]

@@ -131,6 +131,8 @@ pub(super) enum Step<'a> {
     Reserves(u32),
     /// This payload is appended so.
     Appends(&'a [u8], Result<u32, JournalFault>),
+    /// The same, with another that is likely to come next.
+    Lays(&'a [u8], &'a [u8], Result<u32, JournalFault>),
     Mends(Result<Mended, JournalFault>),
     Counts(u32),
     /// The record of this number has this payload.
@@ -143,16 +145,21 @@ fn reserve<D: Disk>(alloc: Global, journal: &mut Journal<D>, records: u32) -> bo
     journal.reserve(alloc, records).is_ok()
 }
 
-/// What an append answers, if the payload is not too long for a journal.
+/// What an append answers, where another payload is likely to come next, if the payload is not too long for a journal.
 pub(super) fn append<D: Disk>(
     alloc: Global,
     journal: &mut Journal<D>,
     payload: &[u8],
+    next: &[u8],
 ) -> Option<Result<u32, JournalFault>> {
     if payload.len() > GREATEST_PAYLOAD as usize {
         return None;
     }
-    Some(journal.append(alloc, payload))
+    Some(if next.is_empty() {
+        journal.append(alloc, payload)
+    } else {
+        journal.append_before(alloc, payload, next)
+    })
 }
 
 /// What a mending answers.
@@ -201,7 +208,8 @@ fn fails<D: Disk>(alloc: Global, journal: &mut Journal<D>, number: u32) -> bool 
 fn goes<D: Disk>(alloc: Global, journal: &mut Journal<D>, step: Step) -> bool {
     match step {
         Step::Reserves(records) => reserve(alloc, journal, records),
-        Step::Appends(payload, answer) => append(alloc, journal, payload) == Some(answer),
+        Step::Appends(payload, answer) => append(alloc, journal, payload, &[]) == Some(answer),
+        Step::Lays(payload, next, answer) => append(alloc, journal, payload, next) == Some(answer),
         Step::Mends(answer) => mend(journal) == answer,
         Step::Counts(records) => count(journal) == records,
         Step::Holds(number, payload) => holds(alloc, journal, number, payload),

@@ -156,6 +156,56 @@ fn a_journal_that_has_grown_writes_zeros_behind_a_record(rt: HostRuntime) {
     }
 }
 
+/// A record behind which the next one is laid, and that one comes.
+const COMES: &[Step] = &[
+    Step::Appends(&LONG, Ok(1)),
+    Step::Lays(&PAYLOAD, &LONGER, Ok(2)),
+    Step::Appends(&LONGER, Ok(3)),
+    Step::Holds(1, &LONG),
+    Step::Holds(2, &PAYLOAD),
+    Step::Holds(3, &LONGER),
+];
+
+/// Another one comes.
+const COMES_NOT: &[Step] = &[
+    Step::Appends(&LONG, Ok(1)),
+    Step::Lays(&PAYLOAD, &LONGER, Ok(2)),
+    Step::Appends(&PAYLOAD, Ok(3)),
+    Step::Holds(2, &PAYLOAD),
+    Step::Holds(3, &PAYLOAD),
+];
+
+/// The second record from its gate on, and the next one laid behind its closed gate.
+const LAID: [u8; 33] = [
+    0xa5, 0, 0, 0, 10, 1, 0, 0, 0, 1, 1, 0, 1, 0, 2, 0, 0, 0, 0, 12, 1, 0, 0, 0, 1, 1, 0, 2, 0, 2,
+    0, 3, 0,
+];
+
+/// The third record, where that one comes, and where the second comes again.
+const CAME: [u8; 18] = [0xa5, 0, 0, 0, 12, 1, 0, 0, 0, 1, 1, 0, 2, 0, 2, 0, 3, 0];
+
+const CAME_AGAIN: [u8; 16] = [0xa5, 0, 0, 0, 10, 1, 0, 0, 0, 1, 1, 0, 1, 0, 2, 0];
+
+#[test]
+fn a_journal_that_has_grown_lays_the_next_record(rt: HostRuntime) {
+    for (steps, at, bytes) in [
+        (&COMES[..2], 4_137, LAID.as_slice()),
+        (COMES, 4_152, CAME.as_slice()),
+        (COMES_NOT, 4_152, CAME_AGAIN.as_slice()),
+    ] {
+        assert_eq!(rt; has_at(rt.alloc(), steps, at, bytes), Some(true));
+        assert_eq!(rt; length_after(rt.alloc(), plain(), steps), Some(8_233));
+    }
+}
+
+/// A short journal lays nothing.
+const SHORT: &[Step] = &[Step::Lays(&PAYLOAD, &LONGER, Ok(1))];
+
+#[test]
+fn a_short_journal_is_as_long_as_its_records(rt: HostRuntime) {
+    assert_eq!(rt; writes(rt.alloc(), plain(), SHORT, &FILE), Some(true));
+}
+
 fn end_by(scanned: &Scanned) -> Option<u32> {
     match scanned {
         Scanned::Formed { end, .. } => Some(*end),
@@ -311,7 +361,7 @@ fn longest(alloc: Global, number: u32) -> Option<Vec<u8>> {
 /// Whether the longest payload is appended as the record of this number.
 fn append_longest<D: Disk>(alloc: Global, journal: &mut Journal<D>, number: u32) -> bool {
     match longest(alloc, number) {
-        Some(payload) => append(alloc, journal, &payload) == Some(Ok(number)),
+        Some(payload) => append(alloc, journal, &payload, &[]) == Some(Ok(number)),
         None => false,
     }
 }

@@ -10,5 +10,5 @@ invariant_of-result g c =
       record { spelled = order.0; limit = order.3; roomy = omega (arith, after_roomy c.in-Formed.records (first_gate c.in-Formed.header), order.2); room = (omega arith, λ some. absurd (omega (arith, some))) },
       λ told.
           let found = rw c.in-Formed.is at (c.requires.scanned told) in
-          record { stands = (found.0, found.1.0); placed = found.1.1; size = found.1.2 },
+          (record { stands = (found.0, found.1.0); placed = found.1.1; size = found.1.2 }, tt),
     )

@@ -33,11 +33,14 @@ invariant_of-result g c =
         roomy = omega arith;
         room = (omega arith, λ some. absurd (omega (arith, some)));
       },
-      λ told. record {
-        stands = (c.in-Ok-form_file.ensures.done told, c.in-Ok-form_file.ensures.formed told c.args.header.now is_head);
-        placed = tt;
-        size = empty_size c.args.header.now ∙ sym c.first_gate-end.ensures;
-      },
+      λ told. (
+        record {
+          stands = (c.in-Ok-form_file.ensures.done told, c.in-Ok-form_file.ensures.formed told c.args.header.now is_head);
+          placed = tt;
+          size = empty_size c.args.header.now ∙ sym c.first_gate-end.ensures;
+        },
+        tt,
+      ),
     )
 
 pub returns-clause-ok : goal.returns-clause-ok

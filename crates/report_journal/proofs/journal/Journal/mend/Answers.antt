@@ -1,21 +1,21 @@
 use Rattle.std.proofs.Common.{◌≡◌, ◌+◌, [], ◌∷◌, length, take, drop, vec_capacity, Some, refl, sym, ap, subst, arith, length-append}
 use Rattle.house_io.proofs.Moments.{leaves_here}
 use Rattle.report_journal.specs.Journals.{HasRoom, HoldsDoubt, in_doubt}
-use Rattle.report_journal.proofs.Kept.{is_false, is_true, mend_leaves, still_is, still_kept, dropped, drop_kept, counted, put_is, put_kept}
+use Rattle.report_journal.proofs.Kept.{is_false, is_true, mend_leaves, still_is, still_kept, still_ahead, dropped, drop_kept, counted, put_is, put_kept}
 use Rattle.report_journal.proofs.Rooms.{doubt-length}
 use Rattle.report_journal.proofs.journal.Journal.mend.Goals as goal
 
 pub returns-in-Err-clause-moments : goal.returns-in-Err-clause-moments
 returns-in-Err-clause-moments g c = rw (← c.self.view_is) (λ told.
-    mend_leaves _ _ _ _ _ _ (c.self.invariant.1 (c.is_open_now.ensures.tells told)) (c.is_open_now.ensures.moments told))
+    mend_leaves _ _ _ _ _ _ (c.self.invariant.1 (c.is_open_now.ensures.tells told)).0 (c.is_open_now.ensures.moments told))
 
 pub returns-in-Ok-true-clause-moments : goal.returns-in-Ok-true-clause-moments
 returns-in-Ok-true-clause-moments g c = rw (← c.self.view_is) (λ told.
-    mend_leaves _ _ _ _ _ _ (c.self.invariant.1 (c.is_open_now.ensures.tells told)) (c.is_open_now.ensures.moments told))
+    mend_leaves _ _ _ _ _ _ (c.self.invariant.1 (c.is_open_now.ensures.tells told)).0 (c.is_open_now.ensures.moments told))
 
 pub returns-in-Ok-false-clause-moments : goal.returns-in-Ok-false-clause-moments
 returns-in-Ok-false-clause-moments g c = rw (← c.self.view_is) (λ told.
-    mend_leaves _ _ _ _ _ _ (c.self.invariant.1 (c.is_open_now.ensures.tells told)) (c.is_open_now.ensures.moments told))
+    mend_leaves _ _ _ _ _ _ (c.self.invariant.1 (c.is_open_now.ensures.tells told)).0 (c.is_open_now.ensures.moments told))
 
 pub invariant_of-self : goal.invariant_of-self
 invariant_of-self g c = (
@@ -23,9 +23,10 @@ invariant_of-self g c = (
   λ told.
       let payload = take c.in-Some.length (drop 4 c.self.inside.buffer.items) in
       let pending : in_doubt c.self.inside.buffer.items c.self.inside.pending ≡ Some payload = ap (in_doubt c.self.inside.buffer.items) c.in-Some.is in
-      let kept = rw pending at (c.self.invariant.1 (c.is_open_now.ensures.tells told)) in
+      let kept = rw pending at (c.self.invariant.1 (c.is_open_now.ensures.tells told)).0 in
       let synced = c.is_open_now.ensures.moments told in
-      rw pending (still_kept _ _ _ _ _ payload kept synced),
+      let lies = (c.self.invariant.1 (c.is_open_now.ensures.tells told)).1 in
+      rw pending (still_kept _ _ _ _ _ payload kept synced, still_ahead c.self.inside.ahead c.self.inside.buffer.items c.self.inside.end _ _ synced lies),
 )
 
 pub invariant_of-self-in-Ok-false : goal.invariant_of-self-in-Ok-false
@@ -41,9 +42,12 @@ invariant_of-self-in-Ok-false g c =
       λ told.
           let payload = take c.in-Some.length (drop 4 c.self.inside.buffer.items) in
           let pending : in_doubt c.self.inside.buffer.items c.self.inside.pending ≡ Some payload = ap (in_doubt c.self.inside.buffer.items) c.in-Some.is in
-          let kept = rw pending at (c.self.invariant.1 (c.is_open_now.ensures.tells told)) in
+          let kept = rw pending at (c.self.invariant.1 (c.is_open_now.ensures.tells told)).0 in
           let synced = c.is_open_now.ensures.moments told in
-          drop_kept _ _ _ _ _ payload kept synced (c.in-Ok-false.ensures.settled told) (λ opened. is_false (c.in-Ok-false.ensures.open told) c.in-Ok-false.field-0-test opened),
+          let lies = (c.self.invariant.1 (c.is_open_now.ensures.tells told)).1 in (
+            drop_kept _ _ _ _ _ payload kept synced (c.in-Ok-false.ensures.settled told) (λ opened. is_false (c.in-Ok-false.ensures.open told) c.in-Ok-false.field-0-test opened),
+            still_ahead c.self.inside.ahead c.self.inside.buffer.items c.self.inside.end _ _ synced lies,
+          ),
     )
 
 pub invariant_of-self-in-Ok-true : goal.invariant_of-self-in-Ok-true
@@ -62,11 +66,11 @@ invariant_of-self-in-Ok-true g c =
       },
       λ told.
           let pending : in_doubt c.self.inside.buffer.items c.self.inside.pending ≡ Some payload = ap (in_doubt c.self.inside.buffer.items) c.in-Some.is in
-          let kept = rw pending at (c.self.invariant.1 (c.is_open_now.ensures.tells told)) in
+          let kept = rw pending at (c.self.invariant.1 (c.is_open_now.ensures.tells told)).0 in
           let synced = c.is_open_now.ensures.moments told in
           let opened = is_true (c.in-Ok-true.ensures.open told) c.in-Ok-true.field-0-test in
           let has_it = counted _ _ _ _ (g.D.Disk.moments c.is_open_now.new.disk) payload kept synced opened in
-          put_kept _ _ _ _ payload _ kept _ (g.D.Disk.moments c.is_open_now.new.disk) (c.in-Ok-true.ensures.settled told) has_it refl long _ (omega (arith, long)),
+          (put_kept _ _ _ _ payload _ kept _ (g.D.Disk.moments c.is_open_now.new.disk) (c.in-Ok-true.ensures.settled told) has_it refl long _ (omega (arith, long)), tt),
     )
 
 pub returns-in-Ok-true-clause-end : goal.returns-in-Ok-true-clause-end
@@ -76,7 +80,7 @@ returns-in-Ok-true-clause-end g c = rw (← c.self.view_is, c.push_reserved.ensu
     let payload = take c.in-Some.length (drop 4 c.self.inside.buffer.items) in
     let long : c.in-Some.length ≡ length payload = sym (doubt-length c.in-Some.length c.self.inside.buffer.items room.buffered) in
     let pending : in_doubt c.self.inside.buffer.items c.self.inside.pending ≡ Some payload = ap (in_doubt c.self.inside.buffer.items) c.in-Some.is in
-    let kept = rw pending at (c.self.invariant.1 (c.is_open_now.ensures.tells told)) in
+    let kept = rw pending at (c.self.invariant.1 (c.is_open_now.ensures.tells told)).0 in
     let synced = c.is_open_now.ensures.moments told in
     let opened = is_true (c.in-Ok-true.ensures.open told) c.in-Ok-true.field-0-test in
     let has_it = counted _ _ _ _ (g.D.Disk.moments c.is_open_now.new.disk) payload kept synced opened in
@@ -87,7 +91,7 @@ pub returns-in-Ok-false-clause-end : goal.returns-in-Ok-false-clause-end
 returns-in-Ok-false-clause-end g c = rw (← c.self.view_is) (λ told.
     let payload = take c.in-Some.length (drop 4 c.self.inside.buffer.items) in
     let pending : in_doubt c.self.inside.buffer.items c.self.inside.pending ≡ Some payload = ap (in_doubt c.self.inside.buffer.items) c.in-Some.is in
-    let kept = rw pending at (c.self.invariant.1 (c.is_open_now.ensures.tells told)) in
+    let kept = rw pending at (c.self.invariant.1 (c.is_open_now.ensures.tells told)).0 in
     let synced = c.is_open_now.ensures.moments told in
     let closed = is_false (c.in-Ok-false.ensures.open told) c.in-Ok-false.field-0-test in (
       still_is _ _ _ _ (g.D.Disk.moments c.is_open_now.new.disk) payload kept synced,

@@ -12,7 +12,7 @@ pub returns-clause-payload : goal.returns-clause-payload
 returns-clause-payload g c = rw (← c.self.view_is) (IfOk-weaker c.read_payload.result _ _ (λ payload read told.
     let file = (g.D.Disk.moments c.self.inside.disk).now.read in
     let told_before = c.read_payload.ensures.reads.told told in
-    let kept = c.self.invariant.1 told_before in
+    let kept = (c.self.invariant.1 told_before).0 in
     let asked = rw (← c.self.view_is) at c.requires in
     let below : c.args.number - 1 < length c.self.inside.places.items = omega (arith, asked, length-map c.self.inside.places.items (payload_at file)) in
     let there : slice_get c.self.inside.places.items (c.args.number - 1) ≡ Some c.index-place.result.now =
