@@ -1,5 +1,5 @@
 #!/usr/bin/env python3
-"""Appends per second, beside bare pairs of pwrite and fdatasync and SQLite's durable insert, on one disk in one run."""
+"""Appends per second, alone and each laid with the one before, beside bare pairs of pwrite and fdatasync and SQLite's durable insert, on one disk in one run."""
 import pathlib
 import sqlite3
 import sys
@@ -26,12 +26,13 @@ def sqlite_seconds(path):
 
 def main():
     folder = pathlib.Path(sys.argv[1] if len(sys.argv) > 1 else "/tmp")
-    rates = {"journal": [], "bare pairs": [], "sqlite": []}
+    rates = {"journal": [], "journal, laid": [], "bare pairs": [], "sqlite": []}
     for turn in range(ROUNDS):
-        journal, pairs, base = (folder / f"bench-{turn}.{kind}" for kind in ("journal", "pairs", "sqlite"))
-        for path in (journal, pairs):
+        journal, laid, pairs, base = (folder / f"bench-{turn}.{kind}" for kind in ("journal", "laid", "pairs", "sqlite"))
+        for path in (journal, laid, pairs):
             path.unlink(missing_ok=True)
         rates["journal"].append(COUNT * 1e6 / program.microseconds(program.run("append", journal, COUNT, SIZE)))
+        rates["journal, laid"].append(COUNT * 1e6 / program.microseconds(program.run("append_laid", laid, COUNT, SIZE)))
         rates["bare pairs"].append(COUNT * 1e6 / program.microseconds(program.run("pairs", pairs, COUNT, SIZE)))
         rates["sqlite"].append(COUNT / sqlite_seconds(base))
         for path in folder.glob(f"bench-{turn}.*"):

@@ -1,14 +1,15 @@
 #!/usr/bin/env python3
-"""Where the time of a report goes, on one clock: what its two syncs take, and what passes from the last sync of a report to the first write of
-the next.
+"""Where the time of a report goes, on one clock: what its syncs take, one or two, and what passes from the last sync of a report to the first
+of the next.
 
     gaps.py PROGRAM.. [--runs N] [--seconds N]
 
 Twelve bidders (load.rs) report to one clock of a real house of 13 doors, in turns of the programs. The house runs over syncs.c, which notes when
-each fdatasync begins and ends; cc and rustc have to be there. Printed are the reports a second, the microseconds of a report from its first sync
-to its last and from there to the next report's first sync, in the middle and on the average, and the pairs that one thread alone makes, in a
-file that grows by them and in one that has their bytes. Of the averages those above a millisecond are left out, and told apart: they are spells
-in which the machine or its disk stood still. Each figure is the middle of the runs.
+each fdatasync begins and ends; cc and rustc have to be there. Printed are the reports a second, as the bidders count them, and of how many in
+100 one sync was all; the microseconds of a report from its first sync to its last and from there to the next report's first sync, in the middle
+and on the average; and the pairs that one thread alone makes, in a file that grows by them and in one that has their bytes, before the house and
+behind it. Of the averages those above a millisecond are left out, and told apart: they are spells in which the machine or its disk stood still.
+Each figure is the middle of the runs.
 """
 import argparse
 import os
@@ -37,13 +38,15 @@ def notes_of(path):
 
 
 def reports_of(notes):
-    """Begin and end of each report's two syncs, which one thread makes one after the other."""
+    """Begin and end of the syncs of each report, and how many there are: one thread makes two, one after the other, or one."""
     reports, place = [], 0
-    while place + 1 < len(notes):
-        (begin, _, thread), (_, end, other) = notes[place], notes[place + 1]
-        if thread == other:
-            reports.append((begin, end))
-        place += 2 if thread == other else 1
+    while place < len(notes):
+        begin, end, thread = notes[place]
+        count = 1
+        if place + 1 < len(notes) and notes[place + 1][2] == thread:
+            end, count = notes[place + 1][1], 2
+        reports.append((begin, end, count))
+        place += count
     return reports[1:]
 
 
@@ -61,18 +64,18 @@ def measure(program, bidder, syncs, folder, seconds):
     noted = {**os.environ, "LD_PRELOAD": str(syncs), "SYNCS": str(folder / "notes")}
     house = subprocess.Popen(house_words(program, DOORS), cwd=folder, stdout=subprocess.DEVNULL, env=noted)
     bidders = [
-        subprocess.Popen([bidder, str(PORT), str(number), "1", str(seconds), "1", "0"], stdout=subprocess.DEVNULL)
+        subprocess.Popen([bidder, str(PORT), str(number), "1", str(seconds), "1", "0"], stdout=subprocess.PIPE, text=True)
         for number in range(1, BIDDERS + 1)
     ]
-    for process in bidders:
-        process.wait()
+    rate = sum(int(process.communicate()[0].split()[0]) for process in bidders) / seconds
     house.kill()
     house.wait()
     reports = reports_of(notes_of(folder / "notes"))
-    own = [(end - begin) / 1_000 for begin, end in reports]
-    gaps = [(after - end) / 1_000 for (_, end), (after, _) in zip(reports, reports[1:])]
-    rate = len(reports) / (reports[-1][1] - reports[0][0]) * 1e9
-    return rate, *shape(own), *shape(gaps), alone, over
+    own = [(end - begin) / 1_000 for begin, end, _ in reports]
+    gaps = [(after - end) / 1_000 for (_, end, _), (after, _, _) in zip(reports, reports[1:])]
+    ones = 100 * sum(count == 1 for _, _, count in reports) / len(reports)
+    alone, over = (alone + pairs(folder, 1, 1)) / 2, (over + pairs(folder, 1, 1, AHEAD)) / 2
+    return rate, ones, *shape(own), *shape(gaps), alone, over
 
 
 def main():
@@ -88,10 +91,12 @@ def main():
         for _ in range(given.runs):
             for program in given.programs:
                 found[program].append(measure(str(Path(program).resolve()), bidder, syncs, folder, given.seconds))
-    print("reports/s | its syncs us: middle average still | to the next us: middle average still | pairs alone/s, over zeros/s")
+    print("reports/s, of 100 with one sync | its syncs us: middle average still | to the next us: middle average still | pairs alone/s, over zeros/s")
     for program, rows in found.items():
-        rate, *parts, alone, over = (statistics.median(column) for column in zip(*rows))
-        print(f"{rate:9.0f} | {parts[0]:5.0f} {parts[1]:7.0f} {parts[2]:5.0f} | {parts[3]:5.0f} {parts[4]:7.0f} {parts[5]:5.0f} | {alone:7.0f} {over:7.0f}  {program}")
+        rate, ones, *parts, alone, over = (statistics.median(column) for column in zip(*rows))
+        print(f"{rate:9.0f} {ones:3.0f} | {parts[0]:5.0f} {parts[1]:7.0f} {parts[2]:5.0f} | {parts[3]:5.0f} {parts[4]:7.0f} {parts[5]:5.0f} | {alone:7.0f} {over:7.0f}  {program}")
+        shares = sorted(row[0] / row[-2] for row in rows)
+        print(f"          of the pairs, run by run: {' '.join(f'{share:.2f}' for share in shares)}")
     shutil.rmtree(folder, ignore_errors=True)
 
 

@@ -2,8 +2,9 @@
 //!
 //! For so many seconds it looks at each of the clocks 0 to CLOCKS - 1 but its own, in turns, and reports once in each round that it sees. Where STAY is
 //! 1 it does so in one session; where it is 0 each look, with its report, is a session of its own. Between two turns of all clocks it waits PAUSE
-//! microseconds. In one session without pauses it sends the next look behind a report, in one piece, and that look is timed from the reply to the
-//! report on. It prints how many reports were taken, and in a second line how many microseconds each look took.
+//! microseconds. In one session without pauses it sends the next look behind a report, in one piece; in a session for one report it sends the look
+//! behind the hello and the quit behind the report. Such a look is timed from the reply before it on. It prints how many reports were taken, and in
+//! a second line how many microseconds each look took.
 use std::env;
 use std::io::{BufReader, Error, ErrorKind, Read, Result, Write};
 use std::net::TcpStream;
@@ -76,12 +77,18 @@ fn connect(port: u16) -> Result<Link> {
     }
 }
 
-/// A session of this bidder.
-fn begin(port: u16, bidder: u8) -> Result<Link> {
+/// A session of this bidder. Behind the hello goes a look at this clock, if there is one.
+fn begin(port: u16, bidder: u8, clock: Option<u8>) -> Result<Link> {
     let mut link = connect(port)?;
     let mut hello = vec![bidder];
     hello.extend_from_slice(format!("token-{bidder}").as_bytes());
-    expect(&[WELCOME], ask(&mut link, HELLO, &hello)?)?;
+    let mut frames = Vec::new();
+    put(&mut frames, HELLO, &hello);
+    if let Some(clock) = clock {
+        put(&mut frames, LOOK, &[clock]);
+    }
+    link.get_mut().write_all(&frames)?;
+    expect(&[WELCOME], take(&mut link)?)?;
     Ok(link)
 }
 
@@ -105,12 +112,12 @@ fn main() -> Result<()> {
     let [port, bidder, clocks, seconds, stay, pause] = words[..] else {
         return Err(Error::new(ErrorKind::InvalidInput, "load PORT BIDDER CLOCKS SECONDS STAY PAUSE"));
     };
-    let mut link = begin(port as u16, bidder as u8)?;
+    let others: Vec<usize> = (0..clocks as usize).filter(|clock| *clock != bidder as usize).collect();
+    let mut asked = stay == 0;
+    let mut link = begin(port as u16, bidder as u8, asked.then_some(others[0] as u8))?;
     let mut reported = vec![0; clocks as usize];
     let (mut reports, mut looks) = (0, Vec::new());
     let ahead = stay == 1 && pause == 0;
-    let others: Vec<usize> = (0..clocks as usize).filter(|clock| *clock != bidder as usize).collect();
-    let mut asked = false;
     let end = Instant::now() + Duration::from_secs(seconds);
     while Instant::now() < end {
         for (place, clock) in others.iter().enumerate() {
@@ -118,21 +125,29 @@ fn main() -> Result<()> {
             let round = round_in(if asked { take(&mut link)? } else { ask(&mut link, LOOK, &[*clock as u8])? })?;
             looks.push(begun.elapsed().as_micros());
             asked = false;
-            if reported[*clock] != round {
-                let mut frames = Vec::new();
+            let next = others[(place + 1) % others.len()] as u8;
+            let mut frames = Vec::new();
+            let reports_now = reported[*clock] != round;
+            if reports_now {
                 put(&mut frames, REPORT, &report(*clock as u8, round));
                 if ahead {
-                    put(&mut frames, LOOK, &[others[(place + 1) % others.len()] as u8]);
+                    put(&mut frames, LOOK, &[next]);
                     asked = true;
                 }
-                link.get_mut().write_all(&frames)?;
+            }
+            if stay == 0 {
+                put(&mut frames, QUIT, &[]);
+            }
+            link.get_mut().write_all(&frames)?;
+            if reports_now {
                 expect(&[TAKEN, AGAIN], take(&mut link)?)?;
                 reported[*clock] = round;
                 reports += 1;
             }
             if stay == 0 {
-                expect(&[BYE], ask(&mut link, QUIT, &[])?)?;
-                link = begin(port as u16, bidder as u8)?;
+                expect(&[BYE], take(&mut link)?)?;
+                link = begin(port as u16, bidder as u8, Some(next))?;
+                asked = true;
             }
         }
         if pause > 0 {

@@ -77,7 +77,7 @@ def pairs(folder, threads, seconds, ahead=0):
     counts = [0] * threads
 
     def work(place):
-        file = os.open(folder / f"pairs-{place}", os.O_RDWR | os.O_CREAT)
+        file = os.open(folder / f"pairs-{place}", os.O_RDWR | os.O_CREAT | os.O_TRUNC)
         at, laid, end = 0, 0, time.monotonic() + seconds
         while time.monotonic() < end:
             if ahead and at + 16 > laid:
