@@ -16,7 +16,7 @@ use crate::payloads::Payload;
 use clock::{Clock, Judgement, Look, Offered};
 use demand_set::{Demand, Report};
 use house_io::{Disk, Failed};
-use report_journal::{Journal, JournalFault, Mended};
+use report_journal::{Hint, Journal, JournalFault, Mended, NoHint};
 use std::alloc::Global;
 use std::marker::Model;
 
@@ -89,9 +89,8 @@ impl<D: Disk> ClockBook<D> {
 impl<D: Disk> ClockBook<D> {
     ghost use Rattle.clock_book.specs.Offers.{Answers, CountsOffer};
 
-    /// Appends a report that the clock takes next, and applies it once it is on the disk. The other bytes are the payload that is likely to
-    /// be appended next.
-    fn append_and_apply(&mut self, alloc: Global, report: Report, next: &[u8]) -> Offered
+    /// Appends a report that the clock takes next, and applies it once it is on the disk.
+    fn append_and_apply<H: Hint>(&mut self, alloc: Global, report: Report, hint: &H) -> Offered
         requires settled { self.old.state.pending ≡ None }
         requires take { judgement_of self.old.state.clock report ≡ Take }
         requires fits { IsDemand self.old.state.clock.terms.goods report.demand }
@@ -108,7 +107,7 @@ impl<D: Disk> ClockBook<D> {
         self.payload.fill(self.start.terms(), &report);
         match self
             .journal
-            .append_before(alloc, self.payload.as_slice(), next)
+            .append_hinted(alloc, self.payload.as_slice(), hint)
         {
             Ok(_) => {
                 self.noted.take(alloc, report, Note::Offered);
@@ -132,7 +131,7 @@ impl<D: Disk> ClockBook<D> {
     ghost use Rattle.clock_book.specs.Offers.{Answers, IsOffer, OfferLeaves, CountsOffer};
 
     /// Judges a report behind those of the clock, where nothing is pending, and appends one that is to be taken.
-    fn judge_and_append(&mut self, alloc: Global, report: Report, next: &[u8]) -> Offered
+    fn judge_and_append<H: Hint>(&mut self, alloc: Global, report: Report, hint: &H) -> Offered
         requires settled { self.old.state.pending ≡ None }
         requires fits { IsDemand self.old.state.clock.terms.goods report.demand }
         ensures answer { Answers (owner_in self.old.origin) result self.old.state report self.new.state }
@@ -145,14 +144,14 @@ impl<D: Disk> ClockBook<D> {
     {
         let clock = self.clock();
         match clock.judge(report.bidder, report.round, &report.demand) {
-            Judgement::Take => self.append_and_apply(alloc, report, next),
+            Judgement::Take => self.append_and_apply(alloc, report, hint),
             Judgement::Again => Offered::Again,
             judgement => Offered::Refused(judgement),
         }
     }
 
     /// Mends, judges a report, and appends it where it is to be taken.
-    fn mend_and_answer(&mut self, alloc: Global, report: Report, next: &[u8]) -> Offered
+    fn mend_and_answer<H: Hint>(&mut self, alloc: Global, report: Report, hint: &H) -> Offered
         requires { IsDemand self.old.state.clock.terms.goods report.demand }
         ensures answer { IsOffer (owner_in self.old.origin) self.old.state report result self.new.state }
         ensures cause { result ≡ DiskFault → Rose (D.faults self.old.disk) (D.faults self.new.disk) }
@@ -164,7 +163,7 @@ impl<D: Disk> ClockBook<D> {
     {
         match self.settle_pending(alloc, &report) {
             Err(Failed) => Offered::DiskFault,
-            Ok(()) => self.judge_and_append(alloc, report, next),
+            Ok(()) => self.judge_and_append(alloc, report, hint),
         }
     }
 
@@ -183,18 +182,18 @@ impl<D: Disk> ClockBook<D> {
         ensures every_image { IsTrue (D.tells self.new.disk)
             → Leaves (IsEither (owner_in self.new.origin) self.new.state.clock.reports self.new.state.pending) (D.moments self.new.disk).now }
     {
-        self.offer_before(alloc, bidder, round, demand, &[])
+        self.offer_hinted(alloc, bidder, round, demand, &NoHint)
     }
 
-    /// Offers a report so, where `next` is the payload of the report that is likely to be offered next, or no bytes. It makes that one the
-    /// quicker, and has no part in any answer.
-    pub fn offer_before(
+    /// Offers a report so, and asks the hint for the payload of the report that is likely to be offered next. It makes that one the quicker,
+    /// and has no part in any answer.
+    pub fn offer_hinted<H: Hint>(
         &mut self,
         alloc: Global,
         bidder: u8,
         round: u32,
         demand: Demand,
-        next: &[u8],
+        hint: &H,
     ) -> Offered
         requires { IsDemand self.old.state.clock.terms.goods demand }
         ensures answer { IsOffer (owner_in self.old.origin) self.old.state (record { bidder = bidder; round = round; demand = demand }) result self.new.state }
@@ -214,7 +213,7 @@ impl<D: Disk> ClockBook<D> {
                 round,
                 demand,
             },
-            next,
+            hint,
         );
         let _kept = self.clock();
         answer

@@ -12,6 +12,7 @@ use clock::{Look, Offered};
 use clock_book::{ClockBook, Entry, Origin};
 use demand_set::Demand;
 use house_io::Disk;
+use report_journal::Hint;
 use std::alloc::Global;
 use std::marker::Model;
 use turn_desk::Book;
@@ -67,15 +68,15 @@ impl<D: Disk> HouseBook<D> {
 }
 
 impl<D: Disk> HouseBook<D> {
-    /// Offers a report, in the words of the history alone. It takes no memory. `next` is the payload of the report that is likely to be
-    /// offered next, or no bytes, and has no part in the answer.
-    pub fn offer(
+    /// Offers a report, in the words of the history alone. It takes no memory. The hint is asked for the payload of the report that is likely
+    /// to be offered next, and has no part in the answer.
+    pub fn offer<H: Hint>(
         &mut self,
         alloc: Global,
         bidder: u8,
         round: u32,
         demand: Demand,
-        next: &[u8],
+        hint: &H,
     ) -> Offered
         requires { IsDemand self.old.origin.terms.goods demand }
         ensures history { IsHistoryOffer (owner_in self.old.origin) self.old.state.history (record { bidder = bidder; round = round; demand = demand }) result self.new.state.history }
@@ -85,7 +86,7 @@ impl<D: Disk> HouseBook<D> {
     {
         let book: &mut ClockBook<D> = &mut self.boxed;
         let _kept = book.clock();
-        book.offer_before(alloc, bidder, round, demand, next)
+        book.offer_hinted(alloc, bidder, round, demand, hint)
     }
 
     /// What the clock shows, in the words of the history alone.

@@ -4,6 +4,7 @@
 mod closing;
 mod columns;
 mod dealing;
+mod hints;
 pub mod house_books;
 pub mod houses;
 mod laid;

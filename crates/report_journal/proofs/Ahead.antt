@@ -1,7 +1,7 @@
 -- A record that lies behind a closed gate already: its gate alone is left to open.
 use Rattle.std.proofs.Common.{◌≡◌, ◌⊎◌, inl, inr, ℕ, ◌+◌, ◌<◌, ◌≤◌, List, [], ◌∷◌, ◌++◌, length, get_or, take, drop, Option, Some, None, sym, ◌∙◌, ap, subst, arith, append_assoc, length-append, take-append-drop}
 use Rattle.std.proofs.lemmas.Bool.{cases_eq}
-use Rattle.std.proofs.lemmas.List.{length-take-le, drop_at, drop_more, drop-drop}
+use Rattle.std.proofs.lemmas.List.{length-take-le, length-drop, drop_at, drop_more, drop-drop}
 use Rattle.std.specs.Int.{w32, to_be_bytes}
 use Rattle.house_io.specs.Moments.{Torn, overlaid}
 use Rattle.house_io.proofs.Overlays.{overlaid_behind}
@@ -21,6 +21,10 @@ closed-length payload = omega (arith, length-append (body payload) (0 ∷ []), l
 
 pub closed-first : (payload bytes : List ℕ) (has : HasRecord payload bytes) → bytes ≡ closed payload ++ has.0
 closed-first payload bytes has = has.1 ∙ sym (append_assoc (body payload) (0 ∷ []) has.0)
+
+pub record-within : (payload : List ℕ) (gate : ℕ) (file : List ℕ) → gate + 1 ≤ length file → HasRecord payload (drop (gate + 1) file) → gate + 1 + (length payload + 5) ≤ length file
+record-within payload gate file some has =
+    omega (arith, some, length-drop (gate + 1) file, ap length (closed-first payload (drop (gate + 1) file) has), length-append (closed payload) has.0, closed-length payload)
 
 pub behind-record : (payload bytes : List ℕ) (has : HasRecord payload bytes) → drop (length payload + 5) bytes ≡ has.0
 behind-record payload bytes has = ap (drop (length payload + 5)) (closed-first payload bytes has) ∙ drop_at (closed payload) has.0 (length payload + 5) (closed-length payload)

@@ -14,3 +14,4 @@ pub mod Spans
 pub mod Rooms
 pub mod TwoWrites
 pub mod Ahead
+pub mod Putting

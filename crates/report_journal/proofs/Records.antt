@@ -1,14 +1,13 @@
 -- What a journal's file stands for while a record is put.
-use Rattle.std.proofs.Common.{◌≡◌, inl, inr, ℕ, ◌+◌, ◌≤◌, List, [], ◌∷◌, ◌++◌, length, get_or, drop, sym, ◌∙◌, ap, subst, arith, append_assoc, length-append}
-use Rattle.std.proofs.lemmas.Bool.{cases_eq}
+use Rattle.std.proofs.Common.{◌≡◌, ℕ, ◌+◌, ◌≤◌, List, [], ◌∷◌, ◌++◌, length, drop, sym, ◌∙◌, ap, subst, arith, append_assoc, length-append}
 use Rattle.std.proofs.lemmas.List.{append-nil}
 use Rattle.house_io.specs.Moments.{Torn, overlaid}
 use Rattle.house_io.proofs.Overlays.{overlaid_behind}
 use Rattle.report_journal.specs.Format.{Contents, records, body, header_bytes, front, StandsFor}
 use Rattle.report_journal.specs.declared.spellings.TheConstants.{OPEN}
-use Rattle.report_journal.specs.Puts.{with_one_more, IsBeforeOrAfter, Takes, HasRecord, IsStage}
+use Rattle.report_journal.specs.Puts.{with_one_more, Takes, HasRecord}
 use Rattle.report_journal.proofs.Spans.{overlaid_twice}
-use Rattle.report_journal.proofs.Files.{torn_after, torn_one}
+use Rattle.report_journal.proofs.Files.{torn_after}
 
 pub records-push : (payloads : List (List ℕ)) (payload : List ℕ) → records (payloads ++ payload ∷ []) ≡ records payloads ++ OPEN ∷ body payload
 records-push [] payload = ap (λ (l : List ℕ). OPEN ∷ l) (append-nil (body payload))
@@ -41,8 +40,8 @@ module _ (x : Contents) (payload : List ℕ) (gate : ℕ) (bytes file : List ℕ
     fits = takes.stands.fits;
   }
 
-  -- the first write leaves the gate closed
-  torn_body : (c : List ℕ) → Torn (gate + 1) (length bytes) file c → StandsFor x c
+  -- a write behind the gate leaves it closed
+  pub torn_body : (c : List ℕ) → Torn (gate + 1) (length bytes) file c → StandsFor x c
   torn_body c torn =
       still (drop (gate + 1) c) c (torn_after closed (gate + 1) length-closed (length bytes) takes.stands.free c (subst (λ (f : List ℕ). Torn (gate + 1) (length bytes) f c) is_closed torn))
 
@@ -71,17 +70,6 @@ module _ (x : Contents) (payload : List ℕ) (gate : ℕ) (bytes file : List ℕ
     fits = takes.fits;
   }
 
-  either : (y : ℕ) (c : List ℕ) → c ≡ front x ++ y ∷ after → IsBeforeOrAfter x payload c
-  either y c is = elim (cases_eq y OPEN) [
-    | inl is_open ↦ inr (with_it c (is ∙ ap (λ (g : ℕ). front x ++ g ∷ after) is_open))
-    | inr shut ↦ inl (record { gate = y; free = after; whole = is; shut = shut; fits = takes.stands.fits })
-  ]
-
-  -- the second leaves it open or closed
-  torn_gate : (c : List ℕ) → Torn gate 1 (overlaid file (gate + 1) bytes) c → IsBeforeOrAfter x payload c
-  torn_gate c torn =
-      either (get_or c gate 0) c (torn_one (front x) gate takes.at takes.stands.gate after c (subst (λ (f : List ℕ). Torn gate 1 f c) staged torn))
-
   pub has_it : (c : List ℕ) → c ≡ overlaid file gate (OPEN ∷ bytes) → StandsFor (with_one_more x payload) c
   has_it c done =
       let some : gate + 1 ≤ length file = omega (arith, ap length is_closed, length-append closed takes.stands.free, length-closed) in
@@ -89,7 +77,3 @@ module _ (x : Contents) (payload : List ℕ) (gate : ℕ) (bytes file : List ℕ
       ap (λ (f : List ℕ). overlaid f gate (OPEN ∷ [])) staged ∙ overlaid_behind (front x) gate takes.at (takes.stands.gate ∷ after) (OPEN ∷ [])
       ∙ append_assoc (front x) (OPEN ∷ []) after in
       with_it c (done ∙ sym (overlaid_twice file gate some bytes OPEN) ∙ opened)
-
-  pub stage : (c : List ℕ) → IsStage gate bytes file c → IsBeforeOrAfter x payload c
-  stage c (inl torn) = inl (torn_body c torn)
-  stage c (inr torn) = torn_gate c torn

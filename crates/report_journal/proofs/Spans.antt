@@ -1,9 +1,9 @@
 -- What two writes within one range change of a file.
 use Rattle.std.proofs.Common.{◌≡◌, ◌⊎◌, inl, inr, ℕ, suc, ◌+◌, ◌<◌, ◌≤◌, List, [], ◌∷◌, ◌++◌, length, get_or, take, drop, refl, sym, ◌∙◌, ap, subst, arith, append_assoc, length-append, take-append-drop}
-use Rattle.std.proofs.lemmas.List.{length-take-le, drop_more, drop-drop}
+use Rattle.std.proofs.lemmas.List.{length-take-le, drop_at, drop_more, drop-drop}
 use Rattle.house_io.specs.Moments.{Moment, Moments, Torn, overlaid, AtEach, IsSettled, settled}
 use Rattle.house_io.proofs.Moments.{at_start, at_both, at_weaker, at_now, leaves_here, settled_torn}
-use Rattle.report_journal.specs.Puts.{IsStage}
+use Rattle.report_journal.specs.Puts.{IsStage, LieAt}
 use Rattle.house_io.proofs.Overlays.{overlaid_behind}
 
 -- nothing was written
@@ -60,7 +60,7 @@ module _ (file : List ℕ) (at : ℕ) (some : at + 1 ≤ length file) (bytes : L
   split : file ≡ pre ++ y ∷ rest
   split = sym (take-append-drop at file) ∙ ap (λ (l : List ℕ). pre ++ l) (drop_more file at 0 (omega (arith, some)))
 
-  first : overlaid file (at + 1) bytes ≡ pre ++ y ∷ after
+  pub first : overlaid file (at + 1) bytes ≡ pre ++ y ∷ after
   first =
       ap (λ (l : List ℕ). overlaid l (at + 1) bytes) (split ∙ sym (append_assoc pre (y ∷ []) rest))
       ∙ overlaid_behind (pre ++ y ∷ []) (at + 1) (omega (arith, length-append pre (y ∷ []), pre_is)) rest bytes
@@ -75,6 +75,44 @@ module _ (file : List ℕ) (at : ℕ) (some : at + 1 ≤ length file) (bytes : L
       ∙ sym (append_assoc pre (x ∷ bytes) (drop (length bytes) rest))
       ∙ sym (overlaid_behind pre at pre_is (y ∷ rest) (x ∷ bytes))
       ∙ ap (λ (l : List ℕ). overlaid l at (x ∷ bytes)) (sym split)
+
+  -- the piece lies there then
+  pub lies_behind : drop (at + 1) (overlaid file (at + 1) bytes) ≡ after
+  lies_behind =
+      ap (drop (at + 1)) (first ∙ sym (append_assoc pre (y ∷ []) after))
+      ∙ drop_at (pre ++ y ∷ []) after (at + 1) (omega (arith, length-append pre (y ∷ []), pre_is))
+
+  -- a piece, and then all of it again, with the byte before it and more behind it
+  module _ (more : List ℕ) where
+    abbrev all : List ℕ
+    all = bytes ++ more
+
+    left : drop (length all) after ≡ drop (length all) rest
+    left =
+        ap (λ (n : ℕ). drop n after) (length-append bytes more)
+        ∙ sym (drop-drop (length more) (length bytes) after)
+        ∙ ap (drop (length more)) (drop_at bytes (drop (length bytes) rest) (length bytes) refl)
+        ∙ drop-drop (length more) (length bytes) rest
+        ∙ ap (λ (n : ℕ). drop n rest) (sym (length-append bytes more))
+
+    pub overlaid_again : overlaid (overlaid file (at + 1) bytes) at (x ∷ all) ≡ overlaid file at (x ∷ all)
+    overlaid_again =
+        ap (λ (l : List ℕ). overlaid l at (x ∷ all)) first
+        ∙ overlaid_behind pre at pre_is (y ∷ after) (x ∷ all)
+        ∙ ap (λ (l : List ℕ). (pre ++ (x ∷ all)) ++ l) left
+        ∙ sym (overlaid_behind pre at pre_is (y ∷ rest) (x ∷ all))
+        ∙ ap (λ (l : List ℕ). overlaid l at (x ∷ all)) (sym split)
+
+-- a piece over bytes that are the same
+pub overlaid_same : (file bytes : List ℕ) (at : ℕ) → at ≤ length file → LieAt at bytes file → overlaid file at bytes ≡ file
+overlaid_same file bytes at within lie =
+    let pre = take at file in
+    let split : file ≡ pre ++ (bytes ++ lie.0) = sym (take-append-drop at file) ∙ ap (λ (l : List ℕ). pre ++ l) lie.1 in
+    ap (λ (l : List ℕ). overlaid l at bytes) split
+    ∙ overlaid_behind pre at (length-take-le at file within) (bytes ++ lie.0) bytes
+    ∙ ap (λ (l : List ℕ). (pre ++ bytes) ++ l) (drop_at bytes lie.0 (length bytes) refl)
+    ∙ append_assoc pre bytes lie.0
+    ∙ sym split
 
 -- a byte that is written over
 pub overlaid_over : (file bytes : List ℕ) (x y : ℕ) → overlaid (overlaid file 0 (y ∷ [])) 0 (x ∷ bytes) ≡ overlaid file 0 (x ∷ bytes)

@@ -1,10 +1,12 @@
 -- What two writes without a sync between them leave of a settled file: that of one byte, and one behind it.
-use Rattle.std.proofs.Common.{◌≡◌, inl, ℕ, ◌+◌, ◌<◌, ◌≤◌, List, ◌∷◌, ◌++◌, length, get_or, take, drop, sym, ◌∙◌, ap, subst, arith, length-append, take-append-drop}
+use Rattle.std.proofs.Common.{◌≡◌, inl, ℕ, ◌+◌, ◌<◌, ◌≤◌, List, [], ◌∷◌, ◌++◌, length, get_or, take, drop, sym, ◌∙◌, ap, subst, arith, length-append, take-append-drop}
 use Rattle.std.proofs.lemmas.List.{length-take-le, get_or-take, get_or_append_left}
-use Rattle.house_io.specs.Moments.{Moment, Moments, IsImage, IsSettled, Torn, written, settled, then, Leaves, AtEach}
+use Rattle.house_io.specs.Moments.{Moment, Moments, IsImage, IsSettled, Torn, overlaid, written, settled, then, Leaves, AtEach}
 use Rattle.house_io.proofs.Moments.{at_weaker, at_both, at_next, at_now, leaves_settled}
 use Rattle.report_journal.specs.Puts.{TornTwice}
+use Rattle.report_journal.specs.declared.spellings.TheConstants.{OPEN}
 use Rattle.report_journal.proofs.Files.{torn_one}
+use Rattle.report_journal.proofs.Writes.{after_write}
 
 pub image_twice : (file mid read image : List ℕ) (a n b k : ℕ) → IsImage (written b k read (written a n mid (settled file))) image → TornTwice a n b k file image
 image_twice file mid read image a n b k is = record {
@@ -72,3 +74,11 @@ torn_both a n b k file mid c one two = record {
   no_longer = omega (arith, one.no_longer, two.no_longer);
   same = λ i below out-one out-two. two.same i (omega (arith, below, one.no_shorter)) out-two ∙ one.same i below out-one;
 }
+
+-- the gate was opened, and then these bytes were written at an offset, with this left
+module _ (gate from k : ℕ) (old : Moments) (is_settled : IsSettled old.now) (within : gate ≤ length old.now.read) (mid : Moments) (opened : mid ≡ then old (written gate 1 (overlaid old.now.read gate (OPEN ∷ [])) old.now)) where
+  pub laid_each : (read : List ℕ) (new : Moments) → Torn from k mid.now.read read → new ≡ then mid (written from k read mid.now) → AtEach (TornTwice gate 1 from k old.now.read) old new
+  laid_each read new torn is =
+      let one : AtEach (Torn gate 1 old.now.read) old mid = after_write gate (OPEN ∷ []) old is_settled within mid opened in
+      second_each gate 1 from k old is_settled (overlaid old.now.read gate (OPEN ∷ [])) mid opened (first_each gate 1 from k old is_settled mid one) read new
+      (torn_both gate 1 from k old.now.read mid.now.read read (at_now (Torn gate 1 old.now.read) old mid one).read torn) is

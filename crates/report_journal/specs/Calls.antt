@@ -130,6 +130,12 @@ pub record AppendLeaves (payload behind : List ℕ) (contents : Contents) (end :
   pub stand : AtEach (IsBeforeOrAfter contents payload) old new
   pub range : AtEach (Torn end (6 + length payload + length behind) old.now.read) old new
 
+-- what an append has written, where this payload was likely to come next
+pub record Writes {D : Type 0} (tells : D → Bool) (moments : D → Moments) (payload next : List ℕ) (old new : JournalOf D) (result : Result ℕ JournalFault) : Type 0 where
+  pub laid : LaidBy payload next old new result
+  pub end : IsTrue (tells new.disk) → AppendEnds payload (behind payload next old) old.contents new.contents old.end (moments old.disk) (moments new.disk) result
+  pub leaves : old.pending ≡ None → IsTrue (tells new.disk) → AppendLeaves payload (behind payload next old) old.contents old.end (moments old.disk) (moments new.disk)
+
 -- A mend. A record that it drops is spare again.
 abbrev pub Mends : {D : Type 0} → JournalOf D → JournalOf D → Result Mended JournalFault → Type 0
 Mends old new (Ok Nothing) = (old.pending ≡ None) × (new ≡ old)

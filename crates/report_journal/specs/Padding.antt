@@ -32,3 +32,7 @@ abbrev pub behind_of : ℕ → ℕ → List ℕ → List ℕ → List ℕ
 behind_of gate laid payload next =
     let ahead = laid_of gate payload next in
     ahead ++ replicate (pad_of gate laid (length payload + length ahead)) 0
+
+-- the bytes that are put behind the gate of such a record: it, a closed gate, and what is written behind
+abbrev pub put_of : ℕ → ℕ → List ℕ → List ℕ → List ℕ
+put_of gate laid payload next = body payload ++ 0 ∷ behind_of gate laid payload next

@@ -1,6 +1,6 @@
 -- What the calls of a journal change of the contents that its file stands for.
-use Rattle.std.specs.Prelude.{◌≡◌, ◌≢◌, ◌⊎◌, ℕ, ◌+◌, ◌<◌, ◌≤◌, max, List, [], ◌∷◌, ◌++◌, length, slice_index}
-use Rattle.house_io.specs.Moments.{Moments, Torn, overlaid, synced_at}
+use Rattle.std.specs.Prelude.{◌≡◌, ◌≢◌, ◌⊎◌, ℕ, ◌+◌, ◌<◌, ◌≤◌, max, Bool, IsTrue, List, [], ◌∷◌, ◌++◌, length, drop, slice_index, Result, Ok, Err, OnOk}
+use Rattle.house_io.specs.Moments.{Moments, AtEach, Torn, overlaid, settled, synced_at}
 use Rattle.report_journal.specs.declared.headers.Header.{Header}
 use Rattle.report_journal.specs.declared.spellings.TheConstants.{OPEN}
 use Rattle.report_journal.specs.Format.{Contents, IsHeader, header_bytes, body, front, Fits, StandsFor, IsUnformed}
@@ -27,11 +27,27 @@ pub record Takes (x : Contents) (payload : List ℕ) (gate : ℕ) (file : List �
 abbrev pub HasRecord : List ℕ → List ℕ → Type 0
 HasRecord payload bytes = (behind : List ℕ) × (bytes ≡ body payload ++ 0 ∷ behind)
 
+-- these bytes lie in the file at this offset
+abbrev pub LieAt : ℕ → List ℕ → List ℕ → Type 0
+LieAt at bytes file = (behind : List ℕ) × (drop at file ≡ bytes ++ behind)
+
+-- what a hint said: who answers Ok has asked, and who fails may not have come to it
+abbrev pub IsAsked : {T E : Type 0} → (List ℕ → Type 0) → List ℕ → Result T E → Type 0
+IsAsked says next (Ok answer) = says next
+IsAsked says next (Err fault) = (next ≡ []) ⊎ says next
+
 -- any bytes in both ranges and past the old end, the same elsewhere
 pub record TornTwice (a n b k : ℕ) (old new : List ℕ) : Type 0 where
   pub no_shorter : length old ≤ length new
   pub no_longer : length new ≤ max (b + k) (max (a + n) (length old))
   pub same : (i : ℕ) → i < length old → (i < a) ⊎ (a + n ≤ i) → (i < b) ⊎ (b + k ≤ i) → slice_index new i ≡ slice_index old i
+
+-- what opening a gate before these bytes leaves, which begin with the record of a payload: the file with them, at each moment the payloads
+-- before or these and the new one, and no other byte that differs
+pub record Opens {D T E : Type 0} (tells : D → Bool) (moments : D → Moments) (gate : ℕ) (payload bytes : List ℕ) (old new : D) (result : Result T E) : Type 0 where
+  pub done : OnOk result (IsTrue (tells new) → (moments new).now ≡ settled (overlaid (moments old).now.read gate (OPEN ∷ bytes)))
+  pub stand : IsTrue (tells new) → (x : Contents) → Takes x payload gate (moments old).now.read → AtEach (IsBeforeOrAfter x payload) (moments old) (moments new)
+  pub range : IsTrue (tells new) → AtEach (Torn gate (1 + length bytes) (moments old).now.read) (moments old) (moments new)
 
 -- What a crash may leave of a file while these bytes are put after this gate: first they are torn, and once they are there
 -- the gate is.

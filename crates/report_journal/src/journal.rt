@@ -1,15 +1,17 @@
 //! A journal of payloads, each on the disk before it is acknowledged.
-ghost use Rattle.std.specs.Prelude.{◌≡◌, ◌+◌, ◌-◌, ◌≤◌, ◌<◌, ◌↔◌, ◌++◌, [], ◌∷◌, length, vec_len, vec_capacity, slice_get, max, IsTrue, IfOk, OnOk, OnErr, IfErr, IfSome, None, Some};
+ghost use Rattle.std.specs.Prelude.{◌≡◌, ℕ, ◌+◌, ◌-◌, ◌≤◌, ◌<◌, ◌↔◌, ◌++◌, List, [], ◌∷◌, length, vec_len, vec_capacity, slice_get, max, IsTrue, IfOk, OnOk, OnErr, IfErr, IfSome, None, Some};
 ghost use Rattle.house_io.specs.Moments.{IsSettled};
 ghost use Rattle.lot_base.specs.declared.limits.TheConstants.{GREATEST_PAYLOAD, GREATEST_FILE};
-ghost use Rattle.report_journal.specs.Calls.{OnlyReads, CountsFaults, CountsReading, Appends, behind, LaidBy, AppendEnds, AppendLeaves, IsReady, Mends, MendEnds, MendLeaves, KeepsAll, Forms, FailsToForm, Attaches};
+ghost use Rattle.report_journal.specs.Calls.{OnlyReads, CountsFaults, CountsReading, Appends, Writes, IsReady, Mends, MendEnds, MendLeaves, KeepsAll, Forms, FailsToForm, Attaches};
 ghost use Rattle.report_journal.specs.Format.{IsHeader, IsUnformed};
 ghost use Rattle.report_journal.specs.Journals.{IsKept, HasAhead, payload_at};
+ghost use Rattle.report_journal.specs.Puts.{IsAsked};
 ghost use Rattle.report_journal.specs.declared.spellings.TheConstants.{LONGEST_RECORD};
 ghost use Rattle.report_journal.specs.Scans.{IsFormed, IsScan, IsInOrder};
 
 use crate::faults::{JournalFault, Mended, NotFormed};
 use crate::headers::{Header, head_bytes};
+use crate::hints::{Hint, NoHint};
 use crate::places::Place;
 use crate::scanning::Scanned;
 use crate::spellings::{LONGEST_RECORD, begins_with_record, fill_record};
@@ -121,34 +123,26 @@ impl<D: Disk> Journal<D> {
     pub fn append(&mut self, alloc: Global, payload: &[u8]) -> Result<u32, JournalFault>
         requires { length payload.now ≤ GREATEST_PAYLOAD }
         ensures answer { Appends payload.now self.old self.new result }
-        ensures laid { LaidBy payload.now [] self.old self.new result }
-        ensures end { IsTrue (D.tells self.new.disk) → AppendEnds payload.now (behind payload.now [] self.old) self.old.contents self.new.contents
-            self.old.end (D.moments self.old.disk) (D.moments self.new.disk) result }
-        ensures moments { self.old.pending ≡ None → IsTrue (D.tells self.new.disk)
-            → AppendLeaves payload.now (behind payload.now [] self.old) self.old.contents self.old.end (D.moments self.old.disk) (D.moments self.new.disk) }
+        ensures writes { Writes D.tells D.moments payload.now [] self.old self.new result }
         ensures tells { IsTrue (D.tells self.new.disk) → IsTrue (D.tells self.old.disk) }
         ensures faults { CountsFaults (D.faults self.old.disk) (D.faults self.new.disk) result }
     {
-        self.append_before(alloc, payload, &[])
+        self.append_hinted(alloc, payload, &NoHint)
     }
 
-    /// Appends so, where `next` is the payload that is likely to be appended next; no bytes are none. From 4,096 bytes on a journal writes
-    /// the next record behind this one, where both are short: where it comes, its gate alone is left to open, with one sync in place of two.
-    /// Where it does not come, what lies there is nothing. Such a journal also writes zeros where its file would end: a sync of bytes that a
-    /// file has is the shorter.
-    pub fn append_before(
+    /// Appends so, and asks the hint for the payload that is likely to be appended next. From 4,096 bytes on a journal writes the next record
+    /// behind this one, where both are short: where it comes, its gate alone is left to open, with one sync in place of two. Where it does not
+    /// come, what lies there is nothing. Such a journal also writes zeros where its file would end: a sync of bytes that a file has is the
+    /// shorter.
+    pub fn append_hinted<H: Hint>(
         &mut self,
         alloc: Global,
         payload: &[u8],
-        next: &[u8],
+        hint: &H,
     ) -> Result<u32, JournalFault>
         requires { length payload.now ≤ GREATEST_PAYLOAD }
         ensures answer { Appends payload.now self.old self.new result }
-        ensures laid { LaidBy payload.now next.now self.old self.new result }
-        ensures end { IsTrue (D.tells self.new.disk) → AppendEnds payload.now (behind payload.now next.now self.old) self.old.contents self.new.contents
-            self.old.end (D.moments self.old.disk) (D.moments self.new.disk) result }
-        ensures moments { self.old.pending ≡ None → IsTrue (D.tells self.new.disk)
-            → AppendLeaves payload.now (behind payload.now next.now self.old) self.old.contents self.old.end (D.moments self.old.disk) (D.moments self.new.disk) }
+        ensures writes { (next : List ℕ) × IsAsked (H.says hint.now) next result × Writes D.tells D.moments payload.now next self.old self.new result }
         ensures tells { IsTrue (D.tells self.new.disk) → IsTrue (D.tells self.old.disk) }
         ensures faults { CountsFaults (D.faults self.old.disk) (D.faults self.new.disk) result }
     {
@@ -161,33 +155,31 @@ impl<D: Disk> Journal<D> {
         }
         match self.reserve(alloc, 1) {
             Err(NoMemory) => Err(JournalFault::NoMemory),
-            Ok(()) => self.put(payload, next),
+            Ok(()) => self.put(payload, hint),
         }
     }
 
     /// Adds a record that fits and for which there is room. Takes no memory.
-    fn put(&mut self, payload: &[u8], next: &[u8]) -> Result<u32, JournalFault>
+    fn put<H: Hint>(&mut self, payload: &[u8], hint: &H) -> Result<u32, JournalFault>
         requires short { length payload.now ≤ GREATEST_PAYLOAD }
         requires ready { IsReady payload.now self.old }
         requires spare { 1 ≤ self.old.spare }
         ensures answer { Appends payload.now self.old self.new result }
-        ensures laid { LaidBy payload.now next.now self.old self.new result }
-        ensures end { IsTrue (D.tells self.new.disk) → AppendEnds payload.now (behind payload.now next.now self.old) self.old.contents self.new.contents
-            self.old.end (D.moments self.old.disk) (D.moments self.new.disk) result }
-        ensures moments { IsTrue (D.tells self.new.disk)
-            → AppendLeaves payload.now (behind payload.now next.now self.old) self.old.contents self.old.end (D.moments self.old.disk) (D.moments self.new.disk) }
+        ensures writes { (next : List ℕ) × IsAsked (H.says hint.now) next result × Writes D.tells D.moments payload.now next self.old self.new result }
         ensures tells { IsTrue (D.tells self.new.disk) → IsTrue (D.tells self.old.disk) }
         ensures faults { CountsFaults (D.faults self.old.disk) (D.faults self.new.disk) result }
     {
         let size = payload.len() as u32;
         let lies_there = is_ahead(&self.buffer, self.ahead, payload);
-        fill_record(&mut self.buffer, self.end, self.laid, payload, next);
+        fill_record(&mut self.buffer, payload);
         match put_record(
             &mut self.disk,
-            self.end as u64,
+            self.end,
+            self.laid,
             payload,
-            &self.buffer,
+            &mut self.buffer,
             lies_there,
+            hint,
         ) {
             Err(Failed) => {
                 self.ahead = None;

@@ -5,6 +5,7 @@ mod chunks;
 mod faults;
 mod headers;
 mod heads;
+mod hints;
 mod journal;
 pub mod laws;
 mod padding;
@@ -15,6 +16,7 @@ mod steps;
 
 pub use faults::{JournalFault, Mended, NotFormed};
 pub use headers::Header;
+pub use hints::{Hint, LONGEST_HINT, NoHint};
 pub use journal::{Journal, read_payload};
 pub use places::{Place, Places};
 pub use scanning::{Scanned, scan};

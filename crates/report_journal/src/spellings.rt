@@ -1,12 +1,13 @@
 //! The bytes of gates and records. Numbers are big-endian.
-ghost use Rattle.std.specs.Prelude.{◌≡◌, ◌+◌, ◌≤◌, ◌↔◌, ◌++◌, ◌∷◌, [], length, vec_capacity, IsTrue};
+ghost use Rattle.std.specs.Prelude.{◌≡◌, ◌+◌, ℕ, ◌≤◌, ◌↔◌, ◌++◌, ◌∷◌, List, [], length, vec_capacity, IsTrue};
 ghost use Rattle.std.specs.Int.{w32, to_be_bytes, from_be_bytes};
 ghost use Rattle.lot_base.specs.declared.limits.TheConstants.{GREATEST_PAYLOAD, GREATEST_FILE};
 ghost use Rattle.report_journal.specs.Format.{body};
-ghost use Rattle.report_journal.specs.Padding.{behind_of};
+ghost use Rattle.report_journal.specs.Padding.{put_of};
 ghost use Rattle.report_journal.specs.Puts.{HasRecord};
 ghost use Rattle.report_journal.specs.declared.spellings.TheConstants.{LONGEST_RECORD};
 
+use crate::hints::{Hint, LONGEST_HINT};
 use crate::padding::{lays_next, pad_behind};
 use lot_base::limits::GREATEST_PAYLOAD;
 
@@ -22,17 +23,41 @@ pub const LONGEST_RECORD: usize = GREATEST_PAYLOAD as usize + 5;
 /// The bytes of the shortest file that is formed: its gate, a header of version 1, and the gate of record 1.
 pub const SHORTEST_FORMED: usize = 42;
 
-/// Fills the buffer with the record of a payload, put at this gate of a file that has bytes up to `laid`, and with what is written behind
-/// it. Takes no memory.
-pub fn fill_record(bytes: &mut Vec<u8>, gate: u32, laid: u32, payload: &[u8], next: &[u8])
+/// Fills the buffer with the record of a payload, behind its gate. Takes no memory.
+pub fn fill_record(bytes: &mut Vec<u8>, payload: &[u8])
     requires short { length payload.now ≤ GREATEST_PAYLOAD }
-    requires fits { gate + 6 + length payload.now ≤ GREATEST_FILE }
     requires room { LONGEST_RECORD ≤ vec_capacity bytes.old }
-    ensures record { bytes.new.items ≡ body payload.now ++ 0 ∷ behind_of gate laid payload.now next.now }
+    ensures record { bytes.new.items ≡ body payload.now ++ 0 ∷ [] }
     ensures room { vec_capacity bytes.old ≤ vec_capacity bytes.new }
 {
     bytes.clear();
     push_record(bytes, payload);
+}
+
+/// Puts behind the record of a payload, put at this gate of a file that has bytes up to `laid`, what is written behind it: the record that
+/// is hinted at, and zeros. Takes no memory.
+pub fn lay_behind<H: Hint>(bytes: &mut Vec<u8>, gate: u32, laid: u32, payload: &[u8], hint: &H)
+    requires fits { gate + 6 + length payload.now ≤ GREATEST_FILE }
+    requires record { bytes.old.items ≡ body payload.now ++ 0 ∷ [] }
+    requires room { LONGEST_RECORD ≤ vec_capacity bytes.old }
+    ensures behind { (next : List ℕ) × H.says hint.now next × (bytes.new.items ≡ put_of gate laid payload.now next) }
+    ensures long { gate + 1 + length bytes.new.items ≤ GREATEST_FILE }
+    ensures room { vec_capacity bytes.old ≤ vec_capacity bytes.new }
+{
+    let mut next = [0; LONGEST_HINT];
+    let length = hint.next(&mut next);
+    push_behind(bytes, gate, laid, payload, &next[..length]);
+}
+
+/// Puts behind it what is written where `next` is the payload that is likely to come next. Takes no memory.
+fn push_behind(bytes: &mut Vec<u8>, gate: u32, laid: u32, payload: &[u8], next: &[u8])
+    requires fits { gate + 6 + length payload.now ≤ GREATEST_FILE }
+    requires record { bytes.old.items ≡ body payload.now ++ 0 ∷ [] }
+    requires room { LONGEST_RECORD ≤ vec_capacity bytes.old }
+    ensures behind { bytes.new.items ≡ put_of gate laid payload.now next.now }
+    ensures long { gate + 1 + length bytes.new.items ≤ GREATEST_FILE }
+    ensures room { vec_capacity bytes.old ≤ vec_capacity bytes.new }
+{
     let mut size = payload.len() as u32;
     if lays_next(gate, size, next.len()) {
         push_record(bytes, next);

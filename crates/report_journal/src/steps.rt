@@ -1,14 +1,16 @@
 //! The steps of a journal's calls on its disk: each writes a piece and syncs it.
-ghost use Rattle.std.specs.Prelude.{◌≡◌, ◌+◌, ◌^◌, ◌<◌, ◌≤◌, ◌↔◌, ◌⊎◌, [], ◌∷◌, length, drop, slice_index, IsTrue, IfOk, OnOk};
+ghost use Rattle.std.specs.Prelude.{◌≡◌, ℕ, ◌+◌, ◌^◌, ◌<◌, ◌≤◌, ◌↔◌, ◌⊎◌, List, [], ◌∷◌, ◌++◌, length, drop, vec_capacity, slice_index, IsTrue, IfOk, OnOk};
 ghost use Rattle.house_io.specs.Faults.{HasCause};
-ghost use Rattle.lot_base.specs.declared.limits.TheConstants.{GREATEST_PAYLOAD};
+ghost use Rattle.lot_base.specs.declared.limits.TheConstants.{GREATEST_PAYLOAD, GREATEST_FILE};
 ghost use Rattle.house_io.specs.Moments.{settled, IsSettled, overlaid, Torn, AtEach};
-ghost use Rattle.report_journal.specs.Format.{Contents, StandsFor, IsUnformed};
-ghost use Rattle.report_journal.specs.Puts.{Takes, HasRecord, TornTwice, IsStage, empty, IsBeforeOrAfter, IsUnformedOrEmpty, IsShut, IsHead, IsSynced};
+ghost use Rattle.report_journal.specs.Format.{Contents, StandsFor, IsUnformed, body};
+ghost use Rattle.report_journal.specs.Padding.{put_of};
+ghost use Rattle.report_journal.specs.Puts.{HasRecord, LieAt, Opens, IsAsked, TornTwice, IsStage, empty, IsUnformedOrEmpty, IsShut, IsHead, IsSynced};
 ghost use Rattle.report_journal.specs.declared.headers.Header.{Header};
-ghost use Rattle.report_journal.specs.declared.spellings.TheConstants.{OPEN};
+ghost use Rattle.report_journal.specs.declared.spellings.TheConstants.{OPEN, LONGEST_RECORD};
 
-use crate::spellings::{OPEN, SHORTEST_FORMED, SHUT};
+use crate::hints::Hint;
+use crate::spellings::{OPEN, SHORTEST_FORMED, SHUT, lay_behind};
 use house_io::{Disk, Failed};
 
 /// Writes and syncs.
@@ -43,16 +45,40 @@ fn put_after_gate<D: Disk>(disk: &mut D, gate: u64, bytes: &[u8]) -> Result<(), 
     ensures tells { IsTrue (D.tells disk.new) → IsTrue (D.tells disk.old) }
     ensures cause { HasCause (D.faults disk.old) (D.faults disk.new) result }
 {
-    // The bytes are on the disk before the gate is open: the other way round a crash could leave an open gate, and after it
-    // neither a record nor a header (must-fail/gate_first.edit).
+    // The bytes are on the disk before the gate is open, as those of a record are: the other way round a crash could leave an open gate, and
+    // after it no header.
     write_synced(disk, gate + 1, bytes)?;
     write_synced(disk, gate, &[OPEN])
 }
 
-/// Opens the gate, and writes bytes at an offset behind it, with one sync.
+/// Writes the bytes of a record behind its closed gate, unless they lie there.
+fn write_record<D: Disk>(
+    disk: &mut D,
+    gate: u64,
+    bytes: &[u8],
+    lies_there: bool,
+) -> Result<(), Failed>
+    requires room { gate < 2 ^ 63 }
+    requires settled { IsTrue (D.tells disk.old) → IsSettled (D.moments disk.old).now }
+    requires within { IsTrue (D.tells disk.old) → gate + 1 ≤ length (D.moments disk.old).now.read }
+    requires there { IsTrue lies_there → IsTrue (D.tells disk.old) → LieAt (gate + 1) bytes.now (D.moments disk.old).now.read }
+    ensures done { OnOk result (IsTrue (D.tells disk.new)
+        → (D.moments disk.new).now ≡ settled (overlaid (D.moments disk.old).now.read (gate + 1) bytes.now)) }
+    ensures moments { IsTrue (D.tells disk.new)
+        → AtEach (Torn (gate + 1) (length bytes.now) (D.moments disk.old).now.read) (D.moments disk.old) (D.moments disk.new) }
+    ensures tells { IsTrue (D.tells disk.new) → IsTrue (D.tells disk.old) }
+    ensures cause { HasCause (D.faults disk.old) (D.faults disk.new) result }
+{
+    if lies_there {
+        return Ok(());
+    }
+    write_synced(disk, gate + 1, bytes)
+}
+
+/// Opens the gate, and writes bytes at an offset behind it, if there are any, with one sync.
 fn open_and_lay<D: Disk>(disk: &mut D, gate: u64, from: u64, bytes: &[u8]) -> Result<(), Failed>
     requires settled { IsTrue (D.tells disk.old) → IsSettled (D.moments disk.old).now }
-    requires within { IsTrue (D.tells disk.old) → gate ≤ length (D.moments disk.old).now.read }
+    requires within { IsTrue (D.tells disk.old) → (gate ≤ length (D.moments disk.old).now.read) × (from ≤ length (D.moments disk.old).now.read) }
     ensures done { OnOk result (IsTrue (D.tells disk.new)
         → (D.moments disk.new).now ≡ settled (overlaid (overlaid (D.moments disk.old).now.read gate (OPEN ∷ [])) from bytes.now)) }
     ensures moments { IsTrue (D.tells disk.new)
@@ -60,44 +86,62 @@ fn open_and_lay<D: Disk>(disk: &mut D, gate: u64, from: u64, bytes: &[u8]) -> Re
     ensures tells { IsTrue (D.tells disk.new) → IsTrue (D.tells disk.old) }
     ensures cause { HasCause (D.faults disk.old) (D.faults disk.new) result }
 {
+    if bytes.is_empty() {
+        return write_synced(disk, gate, &[OPEN]);
+    }
     disk.write_at(gate, &[OPEN])?;
     disk.write_at(from, bytes)?;
     disk.sync()?;
     Ok(())
 }
 
-/// Puts a record at the closed gate, with what is written behind it. Where the record lies there already, its gate is left to open: then
-/// one sync is for that and for what is written behind.
-pub fn put_record<D: Disk>(
-    disk: &mut D,
-    gate: u64,
-    payload: &[u8],
-    bytes: &[u8],
-    lies_there: bool,
-) -> Result<(), Failed>
+/// Opens the gate of a record that lies there, and writes what comes behind it.
+fn open_record<D: Disk>(disk: &mut D, gate: u64, payload: &[u8], bytes: &[u8]) -> Result<(), Failed>
     requires room { (gate < 2 ^ 63) × (length payload.now ≤ GREATEST_PAYLOAD) }
     requires spelled { HasRecord payload.now bytes.now }
     requires settled { IsTrue (D.tells disk.old) → IsSettled (D.moments disk.old).now }
-    requires within { IsTrue (D.tells disk.old) → gate + 1 ≤ length (D.moments disk.old).now.read }
-    requires there { IsTrue lies_there → IsTrue (D.tells disk.old) → HasRecord payload.now (drop (gate + 1) (D.moments disk.old).now.read) }
-    ensures done { OnOk result (IsTrue (D.tells disk.new)
-        → (D.moments disk.new).now ≡ settled (overlaid (D.moments disk.old).now.read gate (OPEN ∷ bytes.now))) }
-    ensures moments { IsTrue (D.tells disk.new) → (x : Contents) → Takes x payload.now gate (D.moments disk.old).now.read
-        → AtEach (IsBeforeOrAfter x payload.now) (D.moments disk.old) (D.moments disk.new) }
-    ensures range { IsTrue (D.tells disk.new)
-        → AtEach (Torn gate (1 + length bytes.now) (D.moments disk.old).now.read) (D.moments disk.old) (D.moments disk.new) }
+    requires there { IsTrue (D.tells disk.old)
+        → (gate + 1 ≤ length (D.moments disk.old).now.read) × HasRecord payload.now (drop (gate + 1) (D.moments disk.old).now.read) }
+    ensures opens { Opens D.tells D.moments gate payload.now bytes.now disk.old disk.new result }
     ensures tells { IsTrue (D.tells disk.new) → IsTrue (D.tells disk.old) }
     ensures cause { HasCause (D.faults disk.old) (D.faults disk.new) result }
 {
-    if lies_there {
-        // The record was synced with the gate before it, so a crash finds an open gate and the whole record, or a closed one. Over
-        // anything else an open gate would count what nobody appended (must-fail/a_gate_is_opened_before_another_record.edit).
-        let size = payload.len() + 5;
-        let behind = bytes.split_at(size).1;
-        open_and_lay(disk, gate, gate + 1 + size as u64, behind)
-    } else {
-        put_after_gate(disk, gate, bytes)
-    }
+    let size = payload.len() + 5;
+    open_and_lay(disk, gate, gate + 1 + size as u64, bytes.split_at(size).1)
+}
+
+/// Puts the record of a payload, which the buffer has, at the closed gate of a file that has bytes up to `laid`, with what is written behind
+/// it. Where the record lies there already, its gate is left to open: then one sync is for that and for what is written behind. The buffer
+/// gets what is written behind.
+pub fn put_record<D: Disk, H: Hint>(
+    disk: &mut D,
+    gate: u32,
+    laid: u32,
+    payload: &[u8],
+    bytes: &mut Vec<u8>,
+    lies_there: bool,
+    hint: &H,
+) -> Result<(), Failed>
+    requires fits { (gate + 6 + length payload.now ≤ GREATEST_FILE) × (length payload.now ≤ GREATEST_PAYLOAD) }
+    requires buffer { (bytes.old.items ≡ body payload.now ++ 0 ∷ []) × (LONGEST_RECORD ≤ vec_capacity bytes.old) }
+    requires settled { IsTrue (D.tells disk.old) → IsSettled (D.moments disk.old).now }
+    requires there { IsTrue (D.tells disk.old)
+        → (gate + 1 ≤ length (D.moments disk.old).now.read) × (IsTrue lies_there → HasRecord payload.now (drop (gate + 1) (D.moments disk.old).now.read)) }
+    ensures puts { (next : List ℕ) × IsAsked (H.says hint.now) next result
+        × OnOk result (bytes.new.items ≡ put_of gate laid payload.now next)
+        × Opens D.tells D.moments gate payload.now (put_of gate laid payload.now next) disk.old disk.new result }
+    ensures spelled { HasRecord payload.now bytes.new.items }
+    ensures room { (gate + 1 + length bytes.new.items ≤ GREATEST_FILE) × (vec_capacity bytes.old ≤ vec_capacity bytes.new) }
+    ensures tells { IsTrue (D.tells disk.new) → IsTrue (D.tells disk.old) }
+    ensures cause { HasCause (D.faults disk.old) (D.faults disk.new) result }
+{
+    // The record is synced before its gate is opened, here or with the gate before it, so that a crash finds an open gate and the whole record,
+    // or a closed one. The other way round it could find an open gate and no record (must-fail/gate_first.edit), and before another record an
+    // open gate would count what nobody appended (must-fail/a_gate_is_opened_before_another_record.edit).
+    write_record(disk, gate as u64, bytes, lies_there)?;
+    // What comes next is asked behind that sync, since it may be told while it runs.
+    lay_behind(bytes, gate, laid, payload, hint);
+    open_record(disk, gate as u64, payload, bytes)
 }
 
 /// Closes the first gate of an unformed file that is too short.

@@ -1,6 +1,6 @@
 //! Calls of a disk that fail: what is answered, and what is left at each stop.
 use super::fixtures::{
-    FILE, LONG, LONGER, PAYLOAD, ROOM, Seen, Step, append, count, first_other, header, mend,
+    FILE, LONG, LONGER, PAYLOAD, ROOM, Says, Seen, Step, append, count, first_other, header, mend,
     one_good, plain, scanned_on, seen_in,
 };
 use house_io::{Disk, Fill, ListDisk};
@@ -140,11 +140,28 @@ fn a_record_that_lies_there_and_whose_sync_fails_is_counted_once(rt: HostRuntime
     assert_eq!(rt; stepped(rt.alloc(), 17, LIES_THERE_STILL), Some((8, false)));
 }
 
+/// Its gate was open when the write of the zeros failed, or the sync of both.
+const PADDED_ONCE: &[Step] = &[
+    Step::Appends(&LONG, Ok(1)),
+    Step::Appends(&PAYLOAD, Err(JournalFault::DiskFault)),
+    Step::Counts(1),
+    Step::Mends(Ok(Mended::Counted)),
+    Step::Appends(&LONGER, Ok(3)),
+    Step::Holds(2, &PAYLOAD),
+    Step::Holds(3, &LONGER),
+];
+
 #[test]
-fn a_record_with_zeros_behind_it_is_dropped_and_put_again(rt: HostRuntime) {
-    for failing in 11..14 {
+fn a_record_with_zeros_behind_it_is_dropped_or_counted(rt: HostRuntime) {
+    for (failing, steps) in [
+        (11, PADDED_AGAIN),
+        (12, PADDED_AGAIN),
+        (13, PADDED_AGAIN),
+        (14, PADDED_ONCE),
+        (15, PADDED_ONCE),
+    ] {
         assert_eq!(rt;
-            stepped(rt.alloc(), failing, PADDED_AGAIN),
+            stepped(rt.alloc(), failing, steps),
             Some((7, false)),
             "at {failing}"
         );
@@ -301,7 +318,7 @@ fn first_other_failing(alloc: Global, failing: u64, steps: &[Step]) -> Option<us
 }
 
 /// The third record lies behind the second, and the fourth behind the third: each takes a write of its gate, one of what is laid behind it,
-/// and a sync.
+/// if there is any, and a sync.
 const LIE_THERE: &[Step] = &[
     Step::Appends(&LONG, Ok(1)),
     Step::Lays(&PAYLOAD, &PAYLOAD, Ok(2)),
@@ -313,10 +330,10 @@ const LIE_THERE: &[Step] = &[
 fn a_record_that_lies_there_takes_one_sync(rt: HostRuntime) {
     for (failing, step) in [
         (11, 1),
-        (14, 1),
-        (15, 2),
-        (17, 2),
-        (18, 3),
+        (15, 1),
+        (16, 2),
+        (18, 2),
+        (19, 3),
         (20, 3),
         (21, 4),
     ] {
@@ -325,6 +342,22 @@ fn a_record_that_lies_there_takes_one_sync(rt: HostRuntime) {
             Some(step),
             "at {failing}"
         );
+    }
+}
+
+/// How often a hint is asked by an append whose call of this number fails, to a journal that has grown.
+fn asks(alloc: Global, failing: u64) -> Option<u32> {
+    let mut journal = listed_journal(alloc, failing, plain())?;
+    append(alloc, &mut journal, &LONG, &[])?.ok()?;
+    let hint = Says::new(&PAYLOAD);
+    let _ = journal.append_hinted(alloc, &PAYLOAD, &hint);
+    Some(hint.asked())
+}
+
+#[test]
+fn a_hint_is_asked_behind_the_sync_of_the_record(rt: HostRuntime) {
+    for (failing, times) in [(11, 0), (12, 0), (13, 1), (15, 1), (16, 1)] {
+        assert_eq!(rt; asks(rt.alloc(), failing), Some(times), "at {failing}");
     }
 }
 

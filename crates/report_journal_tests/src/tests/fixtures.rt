@@ -4,8 +4,10 @@ ghost use Rattle.report_journal.specs.Format.{IsHeader};
 use house_io::{Disk, SureDisk};
 use lot_base::Prices;
 use lot_base::limits::GREATEST_PAYLOAD;
-use report_journal::{Header, Journal, JournalFault, Mended, Scanned, scan};
+use report_journal::{Header, Hint, Journal, JournalFault, LONGEST_HINT, Mended, Scanned, scan};
 use std::alloc::Global;
+use std::sync::atomic::AtomicU32;
+use std::sync::atomic::Ordering::SeqCst;
 
 /// A report of bidder 1 in round 1 on the bundle of two.
 pub(super) const PAYLOAD: [u8; 10] = [1, 0, 0, 0, 1, 1, 0, 1, 0, 2];
@@ -145,6 +147,39 @@ fn reserve<D: Disk>(alloc: Global, journal: &mut Journal<D>, records: u32) -> bo
     journal.reserve(alloc, records).is_ok()
 }
 
+/// A hint at a payload.
+#[derive(Drop)]
+pub(super) struct Says<'a> {
+    payload: &'a [u8],
+    /// How often it was asked.
+    asked: AtomicU32,
+}
+
+impl<'a> Says<'a> {
+    pub(super) fn new(payload: &'a [u8]) -> Says<'a> {
+        let asked = AtomicU32::new(0);
+        Says { payload, asked }
+    }
+
+    pub(super) fn asked(&self) -> u32 {
+        self.asked.load(SeqCst)
+    }
+}
+
+impl<'a> Hint for Says<'a> {
+    ghost says = { λ hint next. Unit {0} };
+
+    fn next(&self, into: &mut [u8; LONGEST_HINT]) -> usize {
+        self.asked.fetch_add(1, SeqCst);
+        let length = self.payload.len();
+        if length > LONGEST_HINT {
+            return 0;
+        }
+        into[..length].copy_from_slice(self.payload);
+        length
+    }
+}
+
 /// What an append answers, where another payload is likely to come next, if the payload is not too long for a journal.
 pub(super) fn append<D: Disk>(
     alloc: Global,
@@ -158,7 +193,7 @@ pub(super) fn append<D: Disk>(
     Some(if next.is_empty() {
         journal.append(alloc, payload)
     } else {
-        journal.append_before(alloc, payload, next)
+        journal.append_hinted(alloc, payload, &Says::new(next))
     })
 }
 

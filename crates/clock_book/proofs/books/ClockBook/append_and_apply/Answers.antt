@@ -21,7 +21,7 @@ pub take-requires-clause-room : goal.take-requires-clause-room
 take-requires-clause-room g c =
     let b = c.self.inside in
     let j = b.journal in
-    let k = c.append_before.new.self in
+    let k = c.append_hinted.new.self in
     let r = c.args.report in
     let owner = owner_in b.start in
     let payload = payload_of (length b.start.terms.goods) in
@@ -40,7 +40,7 @@ pub invariant_of-self : goal.invariant_of-self
 invariant_of-self g c =
     let b = c.self.inside in
     let j = b.journal in
-    let k = c.append_before.new.self in
+    let k = c.append_hinted.new.self in
     let r = c.args.report in
     let owner = owner_in b.start in
     let payload = payload_of (length b.start.terms.goods) in
@@ -51,18 +51,18 @@ invariant_of-self g c =
     let next : IsNext b.noted.clock r = subst N (ap (λ v. v.state.clock) (sym c.self.view_is)) (record { take = c.requires.take; fits = c.requires.fits }) in
     let report = next-report b.start.terms b.noted.clock r c.self.invariant.terms next in
     let A : List ℕ → Type 0 = λ p. AtEach (IsBeforeOrAfter j.contents p) (g.D.Disk.moments j.disk) (g.D.Disk.moments k.disk) in
-    let call : IsTrue (g.D.Disk.tells k.disk) → A (payload r) = λ t. subst A pay (c.append_before.ensures.moments jnone t).stand in
+    let call : IsTrue (g.D.Disk.tells k.disk) → A (payload r) = λ t. subst A pay (c.append_hinted.ensures.writes.2.leaves jnone t).stand in
     let answer = c.in-Ok.ensures.answer in
     let zero : kept_for b.pending ≡ 0 = ap kept_for none in
-    rw none (one-more j k (IsTrue (g.D.Disk.tells j.disk)) (IsTrue (g.D.Disk.tells k.disk)) (g.D.Disk.moments j.disk) (g.D.Disk.moments k.disk) (g.D.Disk.faults j.disk) (g.D.Disk.faults k.disk) b.noted b.pending b.start c.self.invariant c.append_before.ensures.tells (omega (arith, c.in-Ok.ensures.faults)) c.take.new.self r (entry.Offered r) next answer.2
-    (answer.1.end ∙ ap (λ p. j.end + 5 + length p) pay) (omega (arith, answer.3, zero)) (λ t. (c.in-Ok.ensures.end t).0 ∙ ap (with_one_more j.contents) pay) call
+    rw none (one-more j k (IsTrue (g.D.Disk.tells j.disk)) (IsTrue (g.D.Disk.tells k.disk)) (g.D.Disk.moments j.disk) (g.D.Disk.moments k.disk) (g.D.Disk.faults j.disk) (g.D.Disk.faults k.disk) b.noted b.pending b.start c.self.invariant c.append_hinted.ensures.tells (omega (arith, c.in-Ok.ensures.faults)) c.take.new.self r (entry.Offered r) next answer.2
+    (answer.1.end ∙ ap (λ p. j.end + 5 + length p) pay) (omega (arith, answer.3, zero)) (λ t. (c.in-Ok.ensures.writes.2.end t).0 ∙ ap (with_one_more j.contents) pay) call
     c.take.ensures.clock c.take.ensures.history refl refl c.take.ensures.reports c.take.ensures.quantities)
 
 pub invariant_of-self-in-Err-DiskFault : goal.invariant_of-self-in-Err-DiskFault
 invariant_of-self-in-Err-DiskFault g c =
     let b = c.self.inside in
     let j = b.journal in
-    let k = c.append_before.new.self in
+    let k = c.append_hinted.new.self in
     let r = c.args.report in
     let owner = owner_in b.start in
     let payload = payload_of (length b.start.terms.goods) in
@@ -73,21 +73,21 @@ invariant_of-self-in-Err-DiskFault g c =
     let next : IsNext b.noted.clock r = subst N (ap (λ v. v.state.clock) (sym c.self.view_is)) (record { take = c.requires.take; fits = c.requires.fits }) in
     let report = next-report b.start.terms b.noted.clock r c.self.invariant.terms next in
     let A : List ℕ → Type 0 = λ p. AtEach (IsBeforeOrAfter j.contents p) (g.D.Disk.moments j.disk) (g.D.Disk.moments k.disk) in
-    let call : IsTrue (g.D.Disk.tells k.disk) → A (payload r) = λ t. subst A pay (c.append_before.ensures.moments jnone t).stand in
-    let was : c.append_before.result ≡ Err fault.DiskFault = c.in-Err-DiskFault.is ∙ ap (λ x. Err x) c.in-Err-DiskFault.field-0-is in
-    let answer = rw was at c.append_before.ensures.answer in
-    let counts = rw was at c.append_before.ensures.faults in
+    let call : IsTrue (g.D.Disk.tells k.disk) → A (payload r) = λ t. subst A pay (c.append_hinted.ensures.writes.2.leaves jnone t).stand in
+    let was : c.append_hinted.result ≡ Err fault.DiskFault = c.in-Err-DiskFault.is ∙ ap (λ x. Err x) c.in-Err-DiskFault.field-0-is in
+    let answer = rw was at c.append_hinted.ensures.answer in
+    let counts = rw was at c.append_hinted.ensures.faults in
     let same : j.end + 6 + length c.as_slice.result.now ≡ record_end owner b.noted.clock.reports r = ap (λ p. j.end + 6 + length p) pay ∙ needed-is j j (IsTrue (g.D.Disk.tells j.disk)) (IsTrue (g.D.Disk.tells j.disk)) (g.D.Disk.moments j.disk) (g.D.Disk.moments j.disk) (g.D.Disk.faults j.disk) (g.D.Disk.faults j.disk) b.noted b.pending b.start c.self.invariant (λ t. t) (omega arith) r in
     let within : record_end owner b.noted.clock.reports r ≤ GREATEST_FILE = subst (λ m. m ≤ GREATEST_FILE) same answer.0.fits in
     let room = room-for owner b.noted (j.spare + kept_for b.pending) r c.self.invariant.room c.self.invariant.terms c.self.invariant.are report (c.clock-more.ensures.more r next.take) within in
-    put-in-doubt j k (IsTrue (g.D.Disk.tells j.disk)) (IsTrue (g.D.Disk.tells k.disk)) (g.D.Disk.moments j.disk) (g.D.Disk.moments k.disk) (g.D.Disk.faults j.disk) (g.D.Disk.faults k.disk) b.noted b.pending b.start c.self.invariant c.append_before.ensures.tells counts.0 c.mark.new.self r none next room.0 (answer.2 ∙ ap (λ p. Some p) pay) answer.1.end (omega (arith, answer.3))
-    (λ t. rw was at (c.append_before.ensures.end t)) counts.1 call c.mark.ensures.clock c.mark.ensures.history c.mark.ensures.reports c.mark.ensures.quantities
+    put-in-doubt j k (IsTrue (g.D.Disk.tells j.disk)) (IsTrue (g.D.Disk.tells k.disk)) (g.D.Disk.moments j.disk) (g.D.Disk.moments k.disk) (g.D.Disk.faults j.disk) (g.D.Disk.faults k.disk) b.noted b.pending b.start c.self.invariant c.append_hinted.ensures.tells counts.0 c.mark.new.self r none next room.0 (answer.2 ∙ ap (λ p. Some p) pay) answer.1.end (omega (arith, answer.3))
+    (λ t. rw was at (c.append_hinted.ensures.writes.2.end t)) counts.1 call c.mark.ensures.clock c.mark.ensures.history c.mark.ensures.reports c.mark.ensures.quantities
 
 pub returns-in-Ok-clause-moments : goal.returns-in-Ok-clause-moments
 returns-in-Ok-clause-moments g c =
     let b = c.self.inside in
     let j = b.journal in
-    let k = c.append_before.new.self in
+    let k = c.append_hinted.new.self in
     let r = c.args.report in
     let owner = owner_in b.start in
     let payload = payload_of (length b.start.terms.goods) in
@@ -98,14 +98,14 @@ returns-in-Ok-clause-moments g c =
     let next : IsNext b.noted.clock r = subst N (ap (λ v. v.state.clock) (sym c.self.view_is)) (record { take = c.requires.take; fits = c.requires.fits }) in
     let report = next-report b.start.terms b.noted.clock r c.self.invariant.terms next in
     let A : List ℕ → Type 0 = λ p. AtEach (IsBeforeOrAfter j.contents p) (g.D.Disk.moments j.disk) (g.D.Disk.moments k.disk) in
-    let call : IsTrue (g.D.Disk.tells k.disk) → A (payload r) = λ t. subst A pay (c.append_before.ensures.moments jnone t).stand in
-    rw (← c.self.view_is) (λ t. at-either owner b.noted.clock.reports r j.contents (g.D.Disk.moments j.disk) (g.D.Disk.moments k.disk) c.self.invariant.are report (c.self.invariant.contents (c.append_before.ensures.tells t)) (call t))
+    let call : IsTrue (g.D.Disk.tells k.disk) → A (payload r) = λ t. subst A pay (c.append_hinted.ensures.writes.2.leaves jnone t).stand in
+    rw (← c.self.view_is) (λ t. at-either owner b.noted.clock.reports r j.contents (g.D.Disk.moments j.disk) (g.D.Disk.moments k.disk) c.self.invariant.are report (c.self.invariant.contents (c.append_hinted.ensures.tells t)) (call t))
 
 pub returns-in-Err-Full-clause-moments : goal.returns-in-Err-Full-clause-moments
 returns-in-Err-Full-clause-moments g c =
     let b = c.self.inside in
     let j = b.journal in
-    let k = c.append_before.new.self in
+    let k = c.append_hinted.new.self in
     let r = c.args.report in
     let owner = owner_in b.start in
     let payload = payload_of (length b.start.terms.goods) in
@@ -116,14 +116,14 @@ returns-in-Err-Full-clause-moments g c =
     let next : IsNext b.noted.clock r = subst N (ap (λ v. v.state.clock) (sym c.self.view_is)) (record { take = c.requires.take; fits = c.requires.fits }) in
     let report = next-report b.start.terms b.noted.clock r c.self.invariant.terms next in
     let A : List ℕ → Type 0 = λ p. AtEach (IsBeforeOrAfter j.contents p) (g.D.Disk.moments j.disk) (g.D.Disk.moments k.disk) in
-    let call : IsTrue (g.D.Disk.tells k.disk) → A (payload r) = λ t. subst A pay (c.append_before.ensures.moments jnone t).stand in
-    rw (← c.self.view_is) (λ t. at-either owner b.noted.clock.reports r j.contents (g.D.Disk.moments j.disk) (g.D.Disk.moments k.disk) c.self.invariant.are report (c.self.invariant.contents (c.append_before.ensures.tells t)) (call t))
+    let call : IsTrue (g.D.Disk.tells k.disk) → A (payload r) = λ t. subst A pay (c.append_hinted.ensures.writes.2.leaves jnone t).stand in
+    rw (← c.self.view_is) (λ t. at-either owner b.noted.clock.reports r j.contents (g.D.Disk.moments j.disk) (g.D.Disk.moments k.disk) c.self.invariant.are report (c.self.invariant.contents (c.append_hinted.ensures.tells t)) (call t))
 
 pub returns-in-Err-DiskFault-clause-moments : goal.returns-in-Err-DiskFault-clause-moments
 returns-in-Err-DiskFault-clause-moments g c =
     let b = c.self.inside in
     let j = b.journal in
-    let k = c.append_before.new.self in
+    let k = c.append_hinted.new.self in
     let r = c.args.report in
     let owner = owner_in b.start in
     let payload = payload_of (length b.start.terms.goods) in
@@ -134,5 +134,5 @@ returns-in-Err-DiskFault-clause-moments g c =
     let next : IsNext b.noted.clock r = subst N (ap (λ v. v.state.clock) (sym c.self.view_is)) (record { take = c.requires.take; fits = c.requires.fits }) in
     let report = next-report b.start.terms b.noted.clock r c.self.invariant.terms next in
     let A : List ℕ → Type 0 = λ p. AtEach (IsBeforeOrAfter j.contents p) (g.D.Disk.moments j.disk) (g.D.Disk.moments k.disk) in
-    let call : IsTrue (g.D.Disk.tells k.disk) → A (payload r) = λ t. subst A pay (c.append_before.ensures.moments jnone t).stand in
-    rw (← c.self.view_is) (λ t. at-either owner b.noted.clock.reports r j.contents (g.D.Disk.moments j.disk) (g.D.Disk.moments k.disk) c.self.invariant.are report (c.self.invariant.contents (c.append_before.ensures.tells t)) (call t))
+    let call : IsTrue (g.D.Disk.tells k.disk) → A (payload r) = λ t. subst A pay (c.append_hinted.ensures.writes.2.leaves jnone t).stand in
+    rw (← c.self.view_is) (λ t. at-either owner b.noted.clock.reports r j.contents (g.D.Disk.moments j.disk) (g.D.Disk.moments k.disk) c.self.invariant.are report (c.self.invariant.contents (c.append_hinted.ensures.tells t)) (call t))

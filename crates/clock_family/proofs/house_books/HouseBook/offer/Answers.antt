@@ -9,8 +9,8 @@ use Rattle.clock_family.specs.Turns.{IsHistoryOffer}
 use Rattle.clock_family.proofs.Offering.{history-offer, goes-on}
 use Rattle.clock_family.proofs.house_books.HouseBook.offer.Goals as goal
 
-pub offer_before-requires : goal.offer_before-requires
-offer_before-requires g c =
+pub offer_hinted-requires : goal.offer_hinted-requires
+offer_hinted-requires g c =
     let kept = c.clock-kept.ensures.kept in
     let P : Terms → Type 0 = λ t. IsDemand t.goods c.args.demand in
     let here : c.args.self.now ≡ c.deref_mut-book.result.now = search rules in
@@ -22,9 +22,9 @@ returns-clause-history g c =
     let b = c.deref_mut-book.result.now in
     let here : b ≡ c.args.self.now = search rules in
     let r : Report = record { bidder = c.args.bidder; round = c.args.round; demand = c.args.demand } in
-    let Is : BookOf g.row.D.Denot → Type 0 = λ x. IsHistoryOffer (owner_in x.origin) x.state.history r c.offer_before.result c.offer_before.new.self.state.history in
-    subst Is here (history-offer (owner_in b.origin) b.state c.offer_before.new.self.state r c.offer_before.result
-    (λ i. record { terms = kept.terms i; number = kept.number i; reports = sym kept.reports i }) kept.doubt c.offer_before.ensures.answer)
+    let Is : BookOf g.row.D.Denot → Type 0 = λ x. IsHistoryOffer (owner_in x.origin) x.state.history r c.offer_hinted.result c.offer_hinted.new.self.state.history in
+    subst Is here (history-offer (owner_in b.origin) b.state c.offer_hinted.new.self.state r c.offer_hinted.result
+    (λ i. record { terms = kept.terms i; number = kept.number i; reports = sym kept.reports i }) kept.doubt c.offer_hinted.ensures.answer)
 
 pub returns-clause-goes_on : goal.returns-clause-goes_on
 returns-clause-goes_on g c =
@@ -32,6 +32,6 @@ returns-clause-goes_on g c =
     let b = c.deref_mut-book.result.now in
     let here : b ≡ c.args.self.now = search rules in
     let r : Report = record { bidder = c.args.bidder; round = c.args.round; demand = c.args.demand } in
-    subst (λ (x : BookOf g.row.D.Denot). GoesOn x.state.history c.offer_before.new.self.state.history) here (goes-on (owner_in b.origin) b.state.history c.offer_before.new.self.state.history r c.offer_before.result
-    (history-offer (owner_in b.origin) b.state c.offer_before.new.self.state r c.offer_before.result
-    (λ i. record { terms = kept.terms i; number = kept.number i; reports = sym kept.reports i }) kept.doubt c.offer_before.ensures.answer))
+    subst (λ (x : BookOf g.row.D.Denot). GoesOn x.state.history c.offer_hinted.new.self.state.history) here (goes-on (owner_in b.origin) b.state.history c.offer_hinted.new.self.state.history r c.offer_hinted.result
+    (history-offer (owner_in b.origin) b.state c.offer_hinted.new.self.state r c.offer_hinted.result
+    (λ i. record { terms = kept.terms i; number = kept.number i; reports = sym kept.reports i }) kept.doubt c.offer_hinted.ensures.answer))

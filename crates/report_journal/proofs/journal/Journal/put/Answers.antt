@@ -1,9 +1,10 @@
-use Rattle.std.proofs.Common.{◌≡◌, ◌+◌, [], ◌∷◌, length, None, refl, ◌∙◌, ap, subst, arith, length-append}
-use Rattle.house_io.specs.Moments.{Torn, AtEach, overlaid}
+use Rattle.std.proofs.Common.{◌≡◌, ◌+◌, ◌-◌, [], ◌∷◌, ◌++◌, length, Some, None, refl, sym, ◌∙◌, ap, subst, arith, length-append}
+use Rattle.std.proofs.lemmas.List.{length-map}
+use Rattle.house_io.specs.Moments.{Torn, AtEach}
 use Rattle.house_io.proofs.Moments.{at_now, leaves_here}
-use Rattle.report_journal.specs.declared.spellings.TheConstants.{OPEN}
-use Rattle.report_journal.specs.Journals.{in_doubt}
-use Rattle.report_journal.specs.Padding.{behind_of}
+use Rattle.report_journal.specs.declared.places.Place.{Place}
+use Rattle.report_journal.specs.Journals.{LiesAhead, in_doubt, payload_at}
+use Rattle.report_journal.specs.Padding.{behind_of, put_of}
 use Rattle.report_journal.specs.Puts.{HasRecord}
 use Rattle.report_journal.proofs.Ahead.{lies-behind}
 use Rattle.report_journal.proofs.Kept.{takes, put_is, put_kept, doubt_is, doubt_kept, settled_is}
@@ -17,53 +18,56 @@ invariant_of-self g c =
     let may =
     may-put _ _ _ _ _ _ (length c.args.payload.now) _ c.self.invariant.0.room (no-doubt c.self.inside.buffer.items c.self.inside.pending none)
     (omega (arith, c.requires.spare, ap (λ j. j.spare) c.self.view_is)) (omega (arith, c.requires.ready.fits, ap (λ j. j.end) c.self.view_is)) in
-    let same = filled c.args.payload.now c.fill_record.new.bytes.items _ c.fill_record.ensures.record in (
+    let spelled = c.put_record.ensures.spelled in
+    let same = filled c.args.payload.now c.put_record.new.bytes.items _ spelled.1 in (
       record {
         spelled = c.self.invariant.0.spelled;
         limit = c.self.invariant.0.limit;
         roomy = c.self.invariant.0.roomy;
         room = record {
           fits = may.fits;
-          buffered = omega (arith, filled-length c.args.payload.now c.fill_record.new.bytes.items _ c.fill_record.ensures.record);
+          buffered = omega (arith, filled-length c.args.payload.now c.put_record.new.bytes.items _ spelled.1);
           below = omega (arith, may.below, c.requires.spare, ap (λ j. j.spare) c.self.view_is);
           reserved = record {
             places = omega (arith, may.reserved.places, c.requires.spare, ap (λ j. j.spare) c.self.view_is);
-            bytes = omega (arith, may.reserved.bytes, c.fill_record.ensures.room);
+            bytes = omega (arith, may.reserved.bytes, c.fill_record.ensures.room, c.put_record.ensures.room.1);
           };
         };
       },
       λ told.
           let kept = (c.self.invariant.1 (c.put_record.ensures.tells told)).0 in
           let takes_it = takes _ _ _ _ _ kept none c.args.payload.now c.requires.short may.fits in
-          (rw same (doubt_kept _ _ _ _ c.args.payload.now _ kept _ (at_now _ _ _ (c.put_record.ensures.moments told _ takes_it)) takes_it.fits), tt),
+          let opens = c.put_record.ensures.puts.3 in
+          (rw same (doubt_kept _ _ _ _ c.args.payload.now _ kept _ (at_now _ _ _ (opens.stand told _ takes_it)) takes_it.fits), tt),
     )
 
-pub returns-in-Err-clause-end : goal.returns-in-Err-clause-end
-returns-in-Err-clause-end g c =
+pub returns-in-Err-clause-writes : goal.returns-in-Err-clause-writes
+returns-in-Err-clause-writes g c =
     let none : in_doubt c.self.inside.buffer.items c.self.inside.pending ≡ None = ap (λ j. j.pending) c.self.view_is ∙ c.requires.ready.mended in
     let may =
     may-put _ _ _ _ _ _ (length c.args.payload.now) _ c.self.invariant.0.room (no-doubt c.self.inside.buffer.items c.self.inside.pending none)
     (omega (arith, c.requires.spare, ap (λ j. j.spare) c.self.view_is)) (omega (arith, c.requires.ready.fits, ap (λ j. j.end) c.self.view_is)) in
-    rw (← c.self.view_is) (λ told.
-    let kept = (c.self.invariant.1 (c.put_record.ensures.tells told)).0 in
-    let takes_it = takes _ _ _ _ _ kept none c.args.payload.now c.requires.short may.fits in
-    doubt_is _ _ _ _ c.args.payload.now _ kept (g.D.Disk.moments c.put_record.new.disk) (at_now _ _ _ (c.put_record.ensures.moments told _ takes_it)) takes_it.fits)
-
-pub returns-in-Err-clause-moments : goal.returns-in-Err-clause-moments
-returns-in-Err-clause-moments g c =
-    let none : in_doubt c.self.inside.buffer.items c.self.inside.pending ≡ None = ap (λ j. j.pending) c.self.view_is ∙ c.requires.ready.mended in
-    let may =
-    may-put _ _ _ _ _ _ (length c.args.payload.now) _ c.self.invariant.0.room (no-doubt c.self.inside.buffer.items c.self.inside.pending none)
-    (omega (arith, c.requires.spare, ap (λ j. j.spare) c.self.view_is)) (omega (arith, c.requires.ready.fits, ap (λ j. j.end) c.self.view_is)) in
-    rw (← c.self.view_is) (λ told.
-    let kept = (c.self.invariant.1 (c.put_record.ensures.tells told)).0 in
-    let takes_it = takes _ _ _ _ _ kept none c.args.payload.now c.requires.short may.fits in
-    let behind = behind_of c.self.inside.end c.self.inside.laid c.args.payload.now c.args.next.now in
-    let long : 1 + length c.deref-2.result.now ≡ 6 + length c.args.payload.now + length behind = omega (arith, filled-length c.args.payload.now c.deref-2.result.now behind (c.deref-2.ensures.value ∙ c.fill_record.ensures.record)) in
-    record {
-      stand = c.put_record.ensures.moments told _ takes_it;
-      range = subst (λ n. AtEach (Torn c.self.inside.end n (g.D.Disk.moments c.self.inside.disk).now.read) (g.D.Disk.moments c.self.inside.disk) (g.D.Disk.moments c.put_record.new.disk)) long (c.put_record.ensures.range told);
-    })
+    let next = c.in-Err.ensures.puts.0 in
+    let opens = c.in-Err.ensures.puts.3 in
+    let behind = behind_of c.self.inside.end c.self.inside.laid c.args.payload.now next in
+    let long : 1 + length (put_of c.self.inside.end c.self.inside.laid c.args.payload.now next) ≡ 6 + length c.args.payload.now + length behind = omega (arith, filled-length c.args.payload.now _ behind refl) in
+    rw (← c.self.view_is) (
+      next,
+      c.in-Err.ensures.puts.1,
+      record {
+        laid = refl;
+        end = λ told.
+            let kept = (c.self.invariant.1 (c.put_record.ensures.tells told)).0 in
+            let takes_it = takes _ _ _ _ _ kept none c.args.payload.now c.requires.short may.fits in
+            doubt_is _ _ _ _ c.args.payload.now _ kept (g.D.Disk.moments c.put_record.new.disk) (at_now _ _ _ (opens.stand told _ takes_it)) takes_it.fits;
+        leaves = λ mended told.
+            let kept = (c.self.invariant.1 (c.put_record.ensures.tells told)).0 in
+            record {
+              stand = opens.stand told _ (takes _ _ _ _ _ kept none c.args.payload.now c.requires.short may.fits);
+              range = subst (λ n. AtEach (Torn c.self.inside.end n (g.D.Disk.moments c.self.inside.disk).now.read) (g.D.Disk.moments c.self.inside.disk) (g.D.Disk.moments c.put_record.new.disk)) long (opens.range told);
+            };
+      },
+    )
 
 pub invariant_of-self-in-Ok : goal.invariant_of-self-in-Ok
 invariant_of-self-in-Ok g c =
@@ -82,50 +86,75 @@ invariant_of-self-in-Ok g c =
           omega (arith, may.below),
           λ some. record {
             places = omega (arith, more, may.reserved.places, c.requires.spare, ap (λ j. j.spare) c.self.view_is, c.push_reserved.ensures.room);
-            bytes = omega (arith, may.reserved.bytes, c.fill_record.ensures.room);
+            bytes = omega (arith, may.reserved.bytes, c.fill_record.ensures.room, c.put_record.ensures.room.1);
           },
         );
       },
       λ told.
           let kept = (c.self.invariant.1 (c.put_record.ensures.tells told)).0 in
           let takes_it = takes _ _ _ _ _ kept none c.args.payload.now c.requires.short may.fits in
-          let spelled : HasRecord c.args.payload.now c.deref-2.result.now = (behind_of c.self.inside.end c.self.inside.laid c.args.payload.now c.args.next.now, c.deref-2.ensures.value ∙ c.fill_record.ensures.record) in
-          let done = c.in-Ok.ensures.done told in
-          let has = has_it _ c.args.payload.now c.self.inside.end c.deref-2.result.now _ spelled takes_it _ (ap (λ m. m.read) done) in (
+          let next = c.in-Ok.ensures.puts.0 in
+          let bytes = put_of c.self.inside.end c.self.inside.laid c.args.payload.now next in
+          let spelled : HasRecord c.args.payload.now bytes = (behind_of c.self.inside.end c.self.inside.laid c.args.payload.now next, refl) in
+          let done = c.in-Ok.ensures.puts.3.done told in
+          let has = has_it _ c.args.payload.now c.self.inside.end bytes _ spelled takes_it _ (ap (λ m. m.read) done) in (
             put_kept _ _ _ _ c.args.payload.now _ kept _ _ (settled_is _ _ done) has refl refl _ refl,
-            rw (← c.deref-2.ensures.value) (lies-behind _ c.args.payload.now c.deref-2.result.now c.self.inside.end _ _ takes_it spelled (ap (λ m. m.read) done)),
+            subst (λ bs. LiesAhead (Some (length c.args.payload.now + 5)) bs (c.self.inside.end + 5 + length c.args.payload.now) (g.D.Disk.moments c.put_record.new.disk).now.read) (sym c.in-Ok.ensures.puts.2)
+                (lies-behind _ c.args.payload.now bytes c.self.inside.end _ _ takes_it spelled (ap (λ m. m.read) done)),
           ),
     )
 
-pub returns-in-Ok-clause-end : goal.returns-in-Ok-clause-end
-returns-in-Ok-clause-end g c =
+pub returns-in-Ok-clause-writes : goal.returns-in-Ok-clause-writes
+returns-in-Ok-clause-writes g c =
     let none : in_doubt c.self.inside.buffer.items c.self.inside.pending ≡ None = ap (λ j. j.pending) c.self.view_is ∙ c.requires.ready.mended in
     let may =
     may-put _ _ _ _ _ _ (length c.args.payload.now) _ c.self.invariant.0.room (no-doubt c.self.inside.buffer.items c.self.inside.pending none)
     (omega (arith, c.requires.spare, ap (λ j. j.spare) c.self.view_is)) (omega (arith, c.requires.ready.fits, ap (λ j. j.end) c.self.view_is)) in
-    rw (← c.self.view_is, c.push_reserved.ensures.places) (λ told.
-    let kept = (c.self.invariant.1 (c.put_record.ensures.tells told)).0 in
-    let takes_it = takes _ _ _ _ _ kept none c.args.payload.now c.requires.short may.fits in
-    let spelled : HasRecord c.args.payload.now c.deref-2.result.now = (behind_of c.self.inside.end c.self.inside.laid c.args.payload.now c.args.next.now, c.deref-2.ensures.value ∙ c.fill_record.ensures.record) in
-    let done = c.in-Ok.ensures.done told in
-    let has = has_it _ c.args.payload.now c.self.inside.end c.deref-2.result.now _ spelled takes_it _ (ap (λ m. m.read) done) in (
-      put_is _ _ _ _ c.args.payload.now _ kept _ (g.D.Disk.moments c.put_record.new.disk) (settled_is _ _ done) has refl refl,
-      leaves_here _ _ (settled_is _ _ done) has,
-      ap (λ m. m.read) done ∙ ap (λ bytes. overlaid (g.D.Disk.moments c.self.inside.disk).now.read c.self.inside.end (OPEN ∷ bytes)) spelled.1,
-    ))
+    let next = c.in-Ok.ensures.puts.0 in
+    let opens = c.in-Ok.ensures.puts.3 in
+    let behind = behind_of c.self.inside.end c.self.inside.laid c.args.payload.now next in
+    let bytes = put_of c.self.inside.end c.self.inside.laid c.args.payload.now next in
+    let long : 1 + length bytes ≡ 6 + length c.args.payload.now + length behind = omega (arith, filled-length c.args.payload.now bytes behind refl) in
+    rw (← c.self.view_is, c.push_reserved.ensures.places) (
+      next,
+      c.in-Ok.ensures.puts.1,
+      record {
+        laid = omega (arith, c.max-self-inside.ensures, ap length c.in-Ok.ensures.puts.2, long);
+        end = λ told.
+            let kept = (c.self.invariant.1 (c.put_record.ensures.tells told)).0 in
+            let takes_it = takes _ _ _ _ _ kept none c.args.payload.now c.requires.short may.fits in
+            let done = c.in-Ok.ensures.puts.3.done told in
+            let has = has_it _ c.args.payload.now c.self.inside.end bytes _ (behind, refl) takes_it _ (ap (λ m. m.read) done) in (
+              put_is _ _ _ _ c.args.payload.now _ kept _ (g.D.Disk.moments c.put_record.new.disk) (settled_is _ _ done) has refl refl,
+              leaves_here _ _ (settled_is _ _ done) has,
+              ap (λ m. m.read) done,
+            );
+        leaves = λ mended told.
+            let kept = (c.self.invariant.1 (c.put_record.ensures.tells told)).0 in
+            record {
+              stand = opens.stand told _ (takes _ _ _ _ _ kept none c.args.payload.now c.requires.short may.fits);
+              range = subst (λ n. AtEach (Torn c.self.inside.end n (g.D.Disk.moments c.self.inside.disk).now.read) (g.D.Disk.moments c.self.inside.disk) (g.D.Disk.moments c.put_record.new.disk)) long (opens.range told);
+            };
+      },
+    )
 
-pub returns-in-Ok-clause-moments : goal.returns-in-Ok-clause-moments
-returns-in-Ok-clause-moments g c =
+pub returns-in-Ok-clause-answer : goal.returns-in-Ok-clause-answer
+returns-in-Ok-clause-answer g c =
     let none : in_doubt c.self.inside.buffer.items c.self.inside.pending ≡ None = ap (λ j. j.pending) c.self.view_is ∙ c.requires.ready.mended in
-    let may =
-    may-put _ _ _ _ _ _ (length c.args.payload.now) _ c.self.invariant.0.room (no-doubt c.self.inside.buffer.items c.self.inside.pending none)
-    (omega (arith, c.requires.spare, ap (λ j. j.spare) c.self.view_is)) (omega (arith, c.requires.ready.fits, ap (λ j. j.end) c.self.view_is)) in
-    rw (← c.self.view_is) (λ told.
-    let kept = (c.self.invariant.1 (c.put_record.ensures.tells told)).0 in
-    let takes_it = takes _ _ _ _ _ kept none c.args.payload.now c.requires.short may.fits in
-    let behind = behind_of c.self.inside.end c.self.inside.laid c.args.payload.now c.args.next.now in
-    let long : 1 + length c.deref-2.result.now ≡ 6 + length c.args.payload.now + length behind = omega (arith, filled-length c.args.payload.now c.deref-2.result.now behind (c.deref-2.ensures.value ∙ c.fill_record.ensures.record)) in
-    record {
-      stand = c.put_record.ensures.moments told _ takes_it;
-      range = subst (λ n. AtEach (Torn c.self.inside.end n (g.D.Disk.moments c.self.inside.disk).now.read) (g.D.Disk.moments c.self.inside.disk) (g.D.Disk.moments c.put_record.new.disk)) long (c.put_record.ensures.range told);
-    })
+    let place : Place = record { at = c.self.inside.end + 5; length = length c.args.payload.now } in
+    let more = length-append c.self.inside.places.items (place ∷ []) in
+    let places = c.push_reserved.new.places.items in
+    let file = (g.D.Disk.moments c.put_record.new.disk).now.read in
+    let was = length-map c.self.inside.places.items (payload_at (g.D.Disk.moments c.self.inside.disk).now.read) in (
+      c.requires.ready,
+      record {
+        header = ap (λ j. j.contents.header) c.self.view_is;
+        count = omega (arith, length-map places (payload_at file), ap length c.push_reserved.ensures.places, more, was, ap (λ j. length j.contents.payloads) c.self.view_is);
+        places = c.push_reserved.ensures.places ∙ ap (λ j. j.places ++ record { at = j.end + 5; length = length c.args.payload.now } ∷ []) c.self.view_is;
+        end = ap (λ j. j.end + 5 + length c.args.payload.now) c.self.view_is;
+      },
+      ap (in_doubt c.put_record.new.bytes.items) (no-doubt c.self.inside.buffer.items c.self.inside.pending none),
+      ap (λ j. j.spare - 1) c.self.view_is,
+      omega (arith, c.len-in-Ok.ensures),
+      omega (arith, c.len-in-Ok.ensures, length-map places (payload_at file)),
+    )
