@@ -16,7 +16,7 @@ use std::alloc::Global;
 use std::sync::Wait;
 
 /// The most bytes that one pull asks for.
-const CHUNK: usize = 65_536;
+const CHUNK: usize = 4_096;
 
 /// How many bytes one session may take.
 const MOST: u64 = 1_099_511_627_776;
@@ -95,7 +95,7 @@ pub fn serve_hall<H: Hall, L: Link, T: Wait>(
     ensures order { H.in_order hall.new }
     ensures stays { H.stays hall.old hall.new }
 {
-    // A piece is too long for the stack of a thread.
+    // A piece is kept off the stack of a thread.
     match vec![in alloc; 0u8; CHUNK] {
         Ok(mut chunk) => serve_pieces(rt, alloc, auction, hall, link, &mut chunk),
         Err(_) => SessionEnd::NoMemory,
