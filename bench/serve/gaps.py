@@ -2,9 +2,10 @@
 """Where the time of a report goes, on one clock: what its syncs take, one or two, and what passes from the last sync of a report to the first
 of the next.
 
-    gaps.py PROGRAM.. [--runs N] [--seconds N]
+    gaps.py PROGRAM.. [--doors N] [--runs N] [--seconds N]
 
-Twelve bidders (load.rs) report to one clock of a real house of 13 doors, in turns of the programs. The house runs over syncs.c, which notes when
+Twelve bidders (load.rs) report to one clock of a real house of 13 doors, or so many, in turns of the programs. Where there are fewer doors
+than bidders, each comes for one report a session. The house runs over syncs.c, which notes when
 each fdatasync begins and ends; cc and rustc have to be there. Printed are the reports a second, as the bidders count them, and of how many in
 100 one sync was all; the microseconds of a report from its first sync to its last and from there to the next report's first sync, in the middle
 and on the average; and the pairs that one thread alone makes, in a file that grows by them and in one that has their bytes, before the house and
@@ -24,7 +25,6 @@ from load import BIDDERS, write_auction
 from run import AHEAD, HERE, PORT, build, house_words, pairs
 
 NOTE = struct.Struct("=QQII")
-DOORS = 13
 STOOD_STILL = 1_000
 
 
@@ -56,15 +56,15 @@ def shape(micros):
     return statistics.median(short), statistics.mean(short), len(micros) - len(short)
 
 
-def measure(program, bidder, syncs, folder, seconds):
+def measure(program, bidder, syncs, folder, doors, seconds):
     shutil.rmtree(folder, ignore_errors=True)
     (folder / "journals").mkdir(parents=True)
     write_auction(folder / "auction.toml")
     alone, over = pairs(folder, 1, 1), pairs(folder, 1, 1, AHEAD)
     noted = {**os.environ, "LD_PRELOAD": str(syncs), "SYNCS": str(folder / "notes")}
-    house = subprocess.Popen(house_words(program, DOORS), cwd=folder, stdout=subprocess.DEVNULL, env=noted)
+    house = subprocess.Popen(house_words(program, doors), cwd=folder, stdout=subprocess.DEVNULL, env=noted)
     bidders = [
-        subprocess.Popen([bidder, str(PORT), str(number), "1", str(seconds), "1", "0"], stdout=subprocess.PIPE, text=True)
+        subprocess.Popen([bidder, str(PORT), str(number), "1", str(seconds), str(int(doors > BIDDERS)), "0"], stdout=subprocess.PIPE, text=True)
         for number in range(1, BIDDERS + 1)
     ]
     rate = sum(int(process.communicate()[0].split()[0]) for process in bidders) / seconds
@@ -81,6 +81,7 @@ def measure(program, bidder, syncs, folder, seconds):
 def main():
     words = argparse.ArgumentParser()
     words.add_argument("programs", nargs="+")
+    words.add_argument("--doors", type=int, default=13)
     words.add_argument("--runs", type=int, default=5)
     words.add_argument("--seconds", type=int, default=2)
     given = words.parse_args()
@@ -90,7 +91,7 @@ def main():
         subprocess.run(["cc", "-O2", "-shared", "-fPIC", "-o", str(syncs), str(HERE / "syncs.c"), "-ldl"], check=True)
         for _ in range(given.runs):
             for program in given.programs:
-                found[program].append(measure(str(Path(program).resolve()), bidder, syncs, folder, given.seconds))
+                found[program].append(measure(str(Path(program).resolve()), bidder, syncs, folder, given.doors, given.seconds))
     print("reports/s, of 100 with one sync | its syncs us: middle average still | to the next us: middle average still | pairs alone/s, over zeros/s")
     for program, rows in found.items():
         rate, ones, *parts, alone, over = (statistics.median(column) for column in zip(*rows))
