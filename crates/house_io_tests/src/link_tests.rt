@@ -424,6 +424,47 @@ fn two_real_doors_share_an_address(rt: HostRuntime) -> Result<(), Fail> {
     Ok(())
 }
 
+/// What a link pulls next: so many bytes, of the text or of none.
+fn pulls<L: Link>(link: &mut L, text: &[u8]) -> Result<bool, Failed> {
+    let mut found = [0; 8];
+    let count = pull(link, &mut found)?;
+    Ok(count == text.len() && found.get(..count) == Some(text))
+}
+
+/// Dials a door, sends more than it reads, and tells whether the reply comes whole, and the end behind it.
+fn is_answered<N: Net, D: Door>(net: &mut N, alloc: Global, address: &str, door: &mut D) -> bool {
+    let Ok(mut near) = net.dial(alloc, address) else {
+        return false;
+    };
+    let sent = send(&mut near, b"oxen");
+    let answered = match door.accept() {
+        Ok(mut far) => {
+            let mut byte = [0];
+            let read = pull(&mut far, &mut byte);
+            let replied = send(&mut far, b"hens");
+            door.hang_up(far);
+            read == Ok(1) && replied == Ok(())
+        }
+        Err(Failed) => false,
+    };
+    let reply = pulls(&mut near, b"hens");
+    let end = pulls(&mut near, b"");
+    net.hang_up(near);
+    sent == Ok(()) && answered && reply == Ok(true) && end == Ok(true)
+}
+
+#[test]
+fn a_reply_comes_whole_before_bytes_that_nobody_read(rt: HostRuntime) -> Result<(), Fail> {
+    let address = free_address(&rt, rt.alloc())?;
+    let mut net = TcpNet::new(&rt);
+    let Ok(mut doors) = net.doors(rt.alloc(), address.as_str(), 1) else {
+        return Err(Fail::new("no door"));
+    };
+    let mut door = doors.pop().unwrap();
+    assert!(rt; is_answered(&mut net, rt.alloc(), address.as_str(), &mut door));
+    Ok(())
+}
+
 #[test]
 fn nobody_answers_at_a_free_address(rt: HostRuntime) -> Result<(), Fail> {
     let address = free_address(&rt, rt.alloc())?;

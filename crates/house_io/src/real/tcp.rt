@@ -7,6 +7,7 @@ ghost use Rattle.house_io.specs.Sinks.{IsPart};
 ghost use Rattle.house_io.specs.Nets.{HasNetCause};
 ghost use Rattle.house_io.specs.LinkForms.{net_faults_after};
 
+use crate::real::closing::close;
 use crate::{Door, Failed, Link, Net, Refusal};
 use std::alloc::Global;
 use std::io::{self, ErrorKind, Read, Write};
@@ -144,7 +145,10 @@ where
         }
     }
 
-    fn hang_up(&mut self, _link: TcpLink<L::Stream>) {}
+    fn hang_up(&mut self, link: TcpLink<L::Stream>) {
+        let TcpLink { stream, faults: _ } = link;
+        close(stream);
+    }
 }
 
 /// The network, seen as the count of its faults and of those that were given back to it.
