@@ -15,3 +15,4 @@ pub mod Rooms
 pub mod TwoWrites
 pub mod Ahead
 pub mod Putting
+pub mod Appending

@@ -1,6 +1,6 @@
 -- What the calls of a journal change of the contents that its file stands for.
 use Rattle.std.specs.Prelude.{◌≡◌, ◌≢◌, ◌⊎◌, ℕ, ◌+◌, ◌<◌, ◌≤◌, max, Bool, IsTrue, List, [], ◌∷◌, ◌++◌, length, drop, slice_index, Result, Ok, Err, OnOk}
-use Rattle.house_io.specs.Moments.{Moments, AtEach, Torn, overlaid, settled, synced_at}
+use Rattle.house_io.specs.Moments.{Moment, Moments, AtEach, Torn, IsSettled, overlaid, settled, synced_at}
 use Rattle.report_journal.specs.declared.headers.Header.{Header}
 use Rattle.report_journal.specs.declared.spellings.TheConstants.{OPEN}
 use Rattle.report_journal.specs.Format.{Contents, IsHeader, header_bytes, body, front, Fits, StandsFor, IsUnformed}
@@ -26,6 +26,11 @@ pub record Takes (x : Contents) (payload : List ℕ) (gate : ℕ) (file : List �
 -- the bytes begin with the record of this payload, behind its gate, and a closed gate
 abbrev pub HasRecord : List ℕ → List ℕ → Type 0
 HasRecord payload bytes = (behind : List ℕ) × (bytes ≡ body payload ++ 0 ∷ behind)
+
+-- the file is settled, and has the bytes before this offset
+pub record IsSettledTo (offset : ℕ) (m : Moment) : Type 0 where
+  pub settled : IsSettled m
+  pub within : offset ≤ length m.read
 
 -- these bytes lie in the file at this offset
 abbrev pub LieAt : ℕ → List ℕ → List ℕ → Type 0

@@ -1,5 +1,5 @@
 -- What a scan finds in a file, gate by gate.
-use Rattle.std.specs.Prelude.{◌≡◌, ◌≢◌, ◌⊎◌, ℕ, ◌+◌, ◌≤◌, ◌<◌, Bool, true, false, List, [], ◌∷◌, ◌++◌, length, take, drop, slice_index, None}
+use Rattle.std.specs.Prelude.{◌≡◌, ◌≢◌, ◌⊎◌, ℕ, ◌+◌, ◌*◌, ◌≤◌, ◌<◌, Bool, true, false, List, [], ◌∷◌, ◌++◌, length, take, drop, slice_index, None}
 use Rattle.std.specs.Int.{w32, to_be_bytes}
 use Rattle.std.specs.List.{AllByRecursion}
 use Rattle.lot_base.specs.declared.limits.TheConstants.{GREATEST_PAYLOAD, GREATEST_FILE}
@@ -59,6 +59,13 @@ FollowFrom gate (place ∷ places) = (place.at ≡ gate + 5) × (place.length �
 abbrev pub gate_after : ℕ → List Place → ℕ
 gate_after gate [] = gate
 gate_after gate (place ∷ places) = gate_after (gate + 5 + place.length) places
+
+-- the records at these places follow one another from the first gate to this one, within the limits
+pub record FollowTo (first : ℕ) (places : List Place) (gate : ℕ) : Type 0 where
+  pub follow : FollowFrom first places
+  pub after : gate_after first places ≡ gate
+  pub limit : gate + 1 ≤ GREATEST_FILE
+  pub roomy : 5 * length places ≤ gate
 
 -- What an answer keeps to whatever the file is: its header can be spelled, its records follow one another within the limits, up to
 -- the gate that it names, and a damaged record is the one after them. The header of a file damaged in it is of version 0.

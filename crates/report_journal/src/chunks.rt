@@ -1,6 +1,7 @@
 //! A disk that is read in chunks.
 ghost use Rattle.std.specs.Prelude.{◌≡◌, ◌+◌, ◌-◌, ◌≤◌, length, take, drop, min, vec_len, IsTrue, IfOk, OnOk};
 ghost use Rattle.house_io.specs.Faults.{HasCause};
+ghost use Rattle.report_journal.specs.Calls.{OnlyReads};
 ghost use Rattle.report_journal.specs.Scans.{IsChunk};
 
 use house_io::{Disk, Failed};
@@ -51,8 +52,7 @@ impl Chunk {
         ensures chunk { OnOk result (IsTrue (D.tells disk.new) → IsChunk self.new.bytes.items self.new.at self.new.filled (D.moments disk.old).now.read) }
         ensures filled { OnOk result (IsTrue (D.tells disk.new)
             → self.new.filled ≡ min (vec_len self.new.bytes) (length (D.moments disk.old).now.read - at)) }
-        ensures moments { IsTrue (D.tells disk.new) → D.moments disk.new ≡ D.moments disk.old }
-        ensures tells { IsTrue (D.tells disk.new) → IsTrue (D.tells disk.old) }
+        ensures reads { OnlyReads D.tells D.moments disk.old disk.new }
         ensures cause { HasCause (D.faults disk.old) (D.faults disk.new) result }
     {
         match disk.read_at(at as u64, &mut self.bytes) {
@@ -92,8 +92,7 @@ pub fn read_head<D: Disk>(
         → (n ≡ min 5 (length (D.moments disk.old).now.read - gate))
         × (take n head.new ≡ take n (drop gate (D.moments disk.old).now.read))) }
     ensures chunk { OnOk result (IsTrue (D.tells disk.new) → IsChunk chunk.new.bytes.items chunk.new.at chunk.new.filled (D.moments disk.old).now.read) }
-    ensures moments { IsTrue (D.tells disk.new) → D.moments disk.new ≡ D.moments disk.old }
-    ensures tells { IsTrue (D.tells disk.new) → IsTrue (D.tells disk.old) }
+    ensures reads { OnlyReads D.tells D.moments disk.old disk.new }
     ensures cause { HasCause (D.faults disk.old) (D.faults disk.new) result }
 {
     if chunk.has(gate) {

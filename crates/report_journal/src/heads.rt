@@ -1,9 +1,9 @@
 //! What stands at a gate.
-ghost use Rattle.std.specs.Prelude.{◌≡◌, ◌+◌, ◌*◌, ◌≤◌, ℕ, length, IsTrue, IfOk, OnOk};
+ghost use Rattle.std.specs.Prelude.{◌≡◌, ◌+◌, ◌≤◌, ℕ, length, IsTrue, IfOk, OnOk};
 ghost use Rattle.house_io.specs.Faults.{HasCause};
 ghost use Rattle.lot_base.specs.declared.limits.TheConstants.{GREATEST_PAYLOAD, GREATEST_FILE};
 ghost use Rattle.report_journal.specs.Calls.{OnlyReads, CountsReading};
-ghost use Rattle.report_journal.specs.Scans.{IsChunk, IsNext, AreRead, FollowFrom, gate_after, IsEndOfList};
+ghost use Rattle.report_journal.specs.Scans.{IsChunk, IsNext, AreRead, FollowTo, IsEndOfList};
 
 use crate::chunks::{Chunk, read_head};
 use crate::faults::JournalFault;
@@ -29,13 +29,12 @@ pub fn next_record<D: Disk>(
     size: u64,
 ) -> Result<Next, Failed>
     requires room { gate + 1 ≤ GREATEST_FILE }
-    requires size { IsTrue (D.tells disk.old) → size ≡ length (D.moments disk.old).now.read }
-    requires chunk { IsTrue (D.tells disk.old) → IsChunk chunk.old.bytes.items chunk.old.at chunk.old.filled (D.moments disk.old).now.read }
+    requires file { IsTrue (D.tells disk.old) → (size ≡ length (D.moments disk.old).now.read)
+        × IsChunk chunk.old.bytes.items chunk.old.at chunk.old.filled (D.moments disk.old).now.read }
     ensures found { IfOk result (λ next. IsTrue (D.tells disk.new) → IsNext next gate (D.moments disk.old).now.read) }
     ensures limits { (n : ℕ) → result ≡ Ok (Next.Record n) → (n ≤ GREATEST_PAYLOAD) × (gate + 6 + n ≤ GREATEST_FILE) }
     ensures chunk { OnOk result (IsTrue (D.tells disk.new) → IsChunk chunk.new.bytes.items chunk.new.at chunk.new.filled (D.moments disk.old).now.read) }
-    ensures moments { IsTrue (D.tells disk.new) → D.moments disk.new ≡ D.moments disk.old }
-    ensures tells { IsTrue (D.tells disk.new) → IsTrue (D.tells disk.old) }
+    ensures reads { OnlyReads D.tells D.moments disk.old disk.new }
     ensures cause { HasCause (D.faults disk.old) (D.faults disk.new) result }
 {
     let mut bytes = [0; 5];
@@ -75,16 +74,12 @@ pub fn read_records<D: Disk>(
     size: u64,
     first: u32,
 ) -> Result<Found, JournalFault>
-    requires size { IsTrue (D.tells disk.old) → size ≡ length (D.moments disk.old).now.read }
-    requires within { IsTrue (D.tells disk.old) → first + 1 ≤ length (D.moments disk.old).now.read }
+    requires file { IsTrue (D.tells disk.old) → (size ≡ length (D.moments disk.old).now.read) × (first + 1 ≤ length (D.moments disk.old).now.read) }
     requires limit { first + 1 ≤ GREATEST_FILE }
     ensures found { IfOk result (λ found. IsTrue (D.tells disk.new)
-        → AreRead first found.places.items found.gate (D.moments disk.old).now.read) }
-    ensures ends { IfOk result (λ found. IsTrue (D.tells disk.new)
-        → IsEndOfList found.closed found.gate (D.moments disk.old).now.read) }
-    ensures limit { IfOk result (λ found. found.gate + 1 ≤ GREATEST_FILE) }
-    ensures roomy { IfOk result (λ found. 5 * length found.places.items ≤ found.gate) }
-    ensures follow { IfOk result (λ found. FollowFrom first found.places.items × (gate_after first found.places.items ≡ found.gate)) }
+        → AreRead first found.places.items found.gate (D.moments disk.old).now.read
+        × IsEndOfList found.closed found.gate (D.moments disk.old).now.read) }
+    ensures places { IfOk result (λ found. FollowTo first found.places.items found.gate) }
     ensures reads { OnlyReads D.tells D.moments disk.old disk.new }
     ensures faults { CountsReading (D.faults disk.old) (D.faults disk.new) result }
 {

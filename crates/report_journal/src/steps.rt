@@ -5,7 +5,7 @@ ghost use Rattle.lot_base.specs.declared.limits.TheConstants.{GREATEST_PAYLOAD, 
 ghost use Rattle.house_io.specs.Moments.{settled, IsSettled, overlaid, Torn, AtEach};
 ghost use Rattle.report_journal.specs.Format.{Contents, StandsFor, IsUnformed, body};
 ghost use Rattle.report_journal.specs.Padding.{put_of};
-ghost use Rattle.report_journal.specs.Puts.{HasRecord, LieAt, Opens, IsAsked, TornTwice, IsStage, empty, IsUnformedOrEmpty, IsShut, IsHead, IsSynced};
+ghost use Rattle.report_journal.specs.Puts.{IsSettledTo, HasRecord, LieAt, Opens, IsAsked, TornTwice, IsStage, empty, IsUnformedOrEmpty, IsShut, IsHead, IsSynced};
 ghost use Rattle.report_journal.specs.declared.headers.Header.{Header};
 ghost use Rattle.report_journal.specs.declared.spellings.TheConstants.{OPEN, LONGEST_RECORD};
 
@@ -15,8 +15,7 @@ use house_io::{Disk, Failed};
 
 /// Writes and syncs.
 pub fn write_synced<D: Disk>(disk: &mut D, at: u64, bytes: &[u8]) -> Result<(), Failed>
-    requires settled { IsTrue (D.tells disk.old) → IsSettled (D.moments disk.old).now }
-    requires within { IsTrue (D.tells disk.old) → at ≤ length (D.moments disk.old).now.read }
+    requires { IsTrue (D.tells disk.old) → IsSettledTo at (D.moments disk.old).now }
     ensures done { OnOk result (IsTrue (D.tells disk.new)
         → (D.moments disk.new).now ≡ settled (overlaid (D.moments disk.old).now.read at bytes.now)) }
     ensures moments { IsTrue (D.tells disk.new)
@@ -34,8 +33,7 @@ pub fn write_synced<D: Disk>(disk: &mut D, at: u64, bytes: &[u8]) -> Result<(), 
 /// Writes the bytes after the closed gate, and then opens the gate.
 fn put_after_gate<D: Disk>(disk: &mut D, gate: u64, bytes: &[u8]) -> Result<(), Failed>
     requires room { gate < 2 ^ 63 }
-    requires settled { IsTrue (D.tells disk.old) → IsSettled (D.moments disk.old).now }
-    requires within { IsTrue (D.tells disk.old) → gate + 1 ≤ length (D.moments disk.old).now.read }
+    requires file { IsTrue (D.tells disk.old) → IsSettledTo (gate + 1) (D.moments disk.old).now }
     ensures done { OnOk result (IsTrue (D.tells disk.new)
         → (D.moments disk.new).now ≡ settled (overlaid (D.moments disk.old).now.read gate (OPEN ∷ bytes.now))) }
     ensures moments { IsTrue (D.tells disk.new)
@@ -59,8 +57,7 @@ fn write_record<D: Disk>(
     lies_there: bool,
 ) -> Result<(), Failed>
     requires room { gate < 2 ^ 63 }
-    requires settled { IsTrue (D.tells disk.old) → IsSettled (D.moments disk.old).now }
-    requires within { IsTrue (D.tells disk.old) → gate + 1 ≤ length (D.moments disk.old).now.read }
+    requires file { IsTrue (D.tells disk.old) → IsSettledTo (gate + 1) (D.moments disk.old).now }
     requires there { IsTrue lies_there → IsTrue (D.tells disk.old) → LieAt (gate + 1) bytes.now (D.moments disk.old).now.read }
     ensures done { OnOk result (IsTrue (D.tells disk.new)
         → (D.moments disk.new).now ≡ settled (overlaid (D.moments disk.old).now.read (gate + 1) bytes.now)) }
@@ -77,8 +74,7 @@ fn write_record<D: Disk>(
 
 /// Opens the gate, and writes bytes at an offset behind it, if there are any, with one sync.
 fn open_and_lay<D: Disk>(disk: &mut D, gate: u64, from: u64, bytes: &[u8]) -> Result<(), Failed>
-    requires settled { IsTrue (D.tells disk.old) → IsSettled (D.moments disk.old).now }
-    requires within { IsTrue (D.tells disk.old) → (gate ≤ length (D.moments disk.old).now.read) × (from ≤ length (D.moments disk.old).now.read) }
+    requires { IsTrue (D.tells disk.old) → IsSettledTo gate (D.moments disk.old).now × IsSettledTo from (D.moments disk.old).now }
     ensures done { OnOk result (IsTrue (D.tells disk.new)
         → (D.moments disk.new).now ≡ settled (overlaid (overlaid (D.moments disk.old).now.read gate (OPEN ∷ [])) from bytes.now)) }
     ensures moments { IsTrue (D.tells disk.new)
@@ -99,9 +95,8 @@ fn open_and_lay<D: Disk>(disk: &mut D, gate: u64, from: u64, bytes: &[u8]) -> Re
 fn open_record<D: Disk>(disk: &mut D, gate: u64, payload: &[u8], bytes: &[u8]) -> Result<(), Failed>
     requires room { (gate < 2 ^ 63) × (length payload.now ≤ GREATEST_PAYLOAD) }
     requires spelled { HasRecord payload.now bytes.now }
-    requires settled { IsTrue (D.tells disk.old) → IsSettled (D.moments disk.old).now }
     requires there { IsTrue (D.tells disk.old)
-        → (gate + 1 ≤ length (D.moments disk.old).now.read) × HasRecord payload.now (drop (gate + 1) (D.moments disk.old).now.read) }
+        → IsSettledTo (gate + 1) (D.moments disk.old).now × HasRecord payload.now (drop (gate + 1) (D.moments disk.old).now.read) }
     ensures opens { Opens D.tells D.moments gate payload.now bytes.now disk.old disk.new result }
     ensures tells { IsTrue (D.tells disk.new) → IsTrue (D.tells disk.old) }
     ensures cause { HasCause (D.faults disk.old) (D.faults disk.new) result }
@@ -124,14 +119,12 @@ pub fn put_record<D: Disk, H: Hint>(
 ) -> Result<(), Failed>
     requires fits { (gate + 6 + length payload.now ≤ GREATEST_FILE) × (length payload.now ≤ GREATEST_PAYLOAD) }
     requires buffer { (bytes.old.items ≡ body payload.now ++ 0 ∷ []) × (LONGEST_RECORD ≤ vec_capacity bytes.old) }
-    requires settled { IsTrue (D.tells disk.old) → IsSettled (D.moments disk.old).now }
     requires there { IsTrue (D.tells disk.old)
-        → (gate + 1 ≤ length (D.moments disk.old).now.read) × (IsTrue lies_there → HasRecord payload.now (drop (gate + 1) (D.moments disk.old).now.read)) }
+        → IsSettledTo (gate + 1) (D.moments disk.old).now × (IsTrue lies_there → HasRecord payload.now (drop (gate + 1) (D.moments disk.old).now.read)) }
     ensures puts { (next : List ℕ) × IsAsked (H.says hint.now) next result
         × OnOk result (bytes.new.items ≡ put_of gate laid payload.now next)
         × Opens D.tells D.moments gate payload.now (put_of gate laid payload.now next) disk.old disk.new result }
-    ensures spelled { HasRecord payload.now bytes.new.items }
-    ensures room { (gate + 1 + length bytes.new.items ≤ GREATEST_FILE) × (vec_capacity bytes.old ≤ vec_capacity bytes.new) }
+    ensures buffer { HasRecord payload.now bytes.new.items × (gate + 1 + length bytes.new.items ≤ GREATEST_FILE) × (vec_capacity bytes.old ≤ vec_capacity bytes.new) }
     ensures tells { IsTrue (D.tells disk.new) → IsTrue (D.tells disk.old) }
     ensures cause { HasCause (D.faults disk.old) (D.faults disk.new) result }
 {
@@ -166,13 +159,12 @@ pub fn shut_gate<D: Disk>(disk: &mut D) -> Result<(), Failed>
 /// Writes the header after the closed first gate, and then opens the gate.
 pub fn put_header<D: Disk>(disk: &mut D, bytes: &[u8]) -> Result<(), Failed>
     requires { IsTrue (D.tells disk.old) → IsSettled (D.moments disk.old).now × IsShut (D.moments disk.old).now.read }
-    ensures done { OnOk result (IsTrue (D.tells disk.new) → IsSettled (D.moments disk.new).now) }
     ensures formed { OnOk result (IsTrue (D.tells disk.new) → (header : Header)
         → IsHead header bytes.now → StandsFor (empty header) (D.moments disk.new).now.read) }
     ensures moments { IsTrue (D.tells disk.new) → (header : Header)
         → IsHead header bytes.now → AtEach (IsUnformedOrEmpty header) (D.moments disk.old) (D.moments disk.new) }
-    ensures written { OnOk result (IsTrue (D.tells disk.new)
-        → (D.moments disk.new).now.read ≡ overlaid (D.moments disk.old).now.read 0 (OPEN ∷ bytes.now)) }
+    ensures done { OnOk result (IsTrue (D.tells disk.new)
+        → (D.moments disk.new).now ≡ settled (overlaid (D.moments disk.old).now.read 0 (OPEN ∷ bytes.now))) }
     ensures range { IsTrue (D.tells disk.new)
         → AtEach (Torn 0 (1 + length bytes.now) (D.moments disk.old).now.read) (D.moments disk.old) (D.moments disk.new) }
     ensures tells { IsTrue (D.tells disk.new) → IsTrue (D.tells disk.old) }
@@ -184,13 +176,12 @@ pub fn put_header<D: Disk>(disk: &mut D, bytes: &[u8]) -> Result<(), Failed>
 /// Forms an unformed file.
 pub fn form_file<D: Disk>(disk: &mut D, bytes: &[u8]) -> Result<(), Failed>
     requires { IsTrue (D.tells disk.old) → IsSettled (D.moments disk.old).now × IsUnformed (D.moments disk.old).now.read }
-    ensures done { OnOk result (IsTrue (D.tells disk.new) → IsSettled (D.moments disk.new).now) }
     ensures formed { OnOk result (IsTrue (D.tells disk.new) → (header : Header)
         → IsHead header bytes.now → StandsFor (empty header) (D.moments disk.new).now.read) }
     ensures moments { IsTrue (D.tells disk.new) → (header : Header)
         → IsHead header bytes.now → AtEach (IsUnformedOrEmpty header) (D.moments disk.old) (D.moments disk.new) }
-    ensures written { OnOk result (IsTrue (D.tells disk.new)
-        → (D.moments disk.new).now.read ≡ overlaid (D.moments disk.old).now.read 0 (OPEN ∷ bytes.now)) }
+    ensures done { OnOk result (IsTrue (D.tells disk.new)
+        → (D.moments disk.new).now ≡ settled (overlaid (D.moments disk.old).now.read 0 (OPEN ∷ bytes.now))) }
     ensures range { IsTrue (D.tells disk.new)
         → AtEach (Torn 0 (1 + length bytes.now) (D.moments disk.old).now.read) (D.moments disk.old) (D.moments disk.new) }
     ensures tells { IsTrue (D.tells disk.new) → IsTrue (D.tells disk.old) }

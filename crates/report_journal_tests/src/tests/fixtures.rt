@@ -156,11 +156,13 @@ pub(super) struct Says<'a> {
 }
 
 impl<'a> Says<'a> {
+    /// A hint at this payload, which nobody has asked yet.
     pub(super) fn new(payload: &'a [u8]) -> Says<'a> {
         let asked = AtomicU32::new(0);
         Says { payload, asked }
     }
 
+    /// How often it was asked.
     pub(super) fn asked(&self) -> u32 {
         self.asked.load(SeqCst)
     }

@@ -14,7 +14,7 @@ returns-then-end-gt-GREATEST_FILE-clause-found g c told =
     let read = c.in_ok-count.ensures.bytes told in
     let is = five _ c.read_head.new.head c.args.gate c.in_ok-count.count c.if-count-lt5.false read.0 read.1 in
     let value = c.number_of-length.ensures.value in
-    let size = c.requires.size (c.read_head.ensures.tells told) in (
+    let size = (c.requires.file (c.read_head.ensures.reads.told told)).0 in (
       is.head ∙ c.if-bytes.false,
       rw is.bytes (elim c.then-end-gt-GREATEST_FILE.branch [
         | then-end-gt-GREATEST_FILE-via-then-end-gt-GREATEST_FILE w ↦ inr (inr (inr (omega (arith, w.if-end-gt-GREATEST_FILE, value))))
@@ -26,4 +26,4 @@ pub returns-clause-found : goal.returns-clause-found
 returns-clause-found g c told =
     let read = c.in_ok-count.ensures.bytes told in
     let is = five _ c.read_head.new.head c.args.gate c.in_ok-count.count c.if-count-lt5.false read.0 read.1 in
-    (is.head ∙ c.if-bytes.false, is.bytes ∙ sym c.number_of-length.ensures.spelled, omega (arith, c.if-end-size.false, c.requires.size (c.read_head.ensures.tells told)))
+    (is.head ∙ c.if-bytes.false, is.bytes ∙ sym c.number_of-length.ensures.spelled, omega (arith, c.if-end-size.false, (c.requires.file (c.read_head.ensures.reads.told told)).0))

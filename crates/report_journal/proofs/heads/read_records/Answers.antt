@@ -1,4 +1,4 @@
-use Rattle.std.proofs.Common.{◌≡◌, ◌+◌, ◌++◌, [], ◌∷◌, refl, sym, ◌∙◌, ap, subst, arith, length-append, Ok}
+use Rattle.std.proofs.Common.{◌≡◌, ◌+◌, ◌++◌, [], ◌∷◌, length, refl, sym, ◌∙◌, ap, subst, arith, length-append, Ok}
 use Rattle.report_journal.specs.Scans.{IsChunk, AreRead, IsNext}
 use Rattle.report_journal.specs.declared.places.Place.{Place}
 use Rattle.report_journal.specs.declared.heads.Next.TheVariants.{Record}
@@ -9,14 +9,11 @@ use Rattle.report_journal.proofs.heads.read_records.Goals as goal
 
 pub records-init : goal.records-init
 records-init g c = rw c.new-places.ensures.items (record {
-  limit = c.requires.limit;
-  roomy = omega arith;
   tells = λ told. told;
   moments = λ told. refl;
-  read = λ told. read_start _ c.args.first (c.requires.within told);
+  read = λ told. read_start _ c.args.first (c.requires.file told).1;
   chunk = λ told. chunk_none c.in_ok-chunk.chunk.bytes.items _ c.in_ok-chunk.chunk.at c.in_ok-chunk.chunk.filled c.in_ok-chunk.ensures;
-  follow = tt;
-  after = refl;
+  follows = record { follow = tt; after = refl; limit = c.requires.limit; roomy = omega arith };
   faults = refl;
 })
 
@@ -26,12 +23,10 @@ records-preserved g c =
     let limits = c.next_record.ensures.limits c.in-Record.length (c.in_ok-next_record.was ∙ ap Ok c.in-Record.is) in
     let place : Place = record { at = c.records.gate + 5; length = c.in-Record.length } in
     rw c.in_ok-push-in-Record.ensures.items (record {
-      limit = omega (arith, limits);
-      roomy = omega (arith, before.roomy, length-append c.records.places.items (place ∷ []));
-      tells = λ told. before.tells (c.next_record.ensures.tells told);
-      moments = λ told. c.next_record.ensures.moments told ∙ before.moments (c.next_record.ensures.tells told);
+      tells = λ told. before.tells (c.next_record.ensures.reads.told told);
+      moments = λ told. c.next_record.ensures.reads.same told ∙ before.moments (c.next_record.ensures.reads.told told);
       read = λ told.
-          let told_before = c.next_record.ensures.tells told in
+          let told_before = c.next_record.ensures.reads.told told in
           let file = (g.D.Disk.moments c.args.disk.now).now.read in
           let next = subst (λ n. IsNext n c.records.gate (g.D.Disk.moments c.records.disk).now.read) c.in-Record.is (c.in_ok-next_record.ensures.found told) in
           let next_there = subst (λ ms. IsNext (Record c.in-Record.length) c.records.gate ms.now.read) (before.moments told_before) next in
@@ -39,14 +34,20 @@ records-preserved g c =
           let e : c.records.gate + 5 + c.in-Record.length ≡ c.records.gate + (5 + c.in-Record.length) = omega arith in
           subst (λ gate. AreRead c.args.first (c.records.places.items ++ place ∷ []) gate file) e more;
       chunk = λ told.
-          let told_before = c.next_record.ensures.tells told in
+          let told_before = c.next_record.ensures.reads.told told in
           subst (λ ms. IsChunk c.next_record.new.chunk.bytes.items c.next_record.new.chunk.at c.next_record.new.chunk.filled ms.now.read) (before.moments told_before) (c.in_ok-next_record.ensures.chunk told);
-      follow = follow_push c.records.places.items place c.args.first before.follow (omega (arith, before.after)) limits.0;
-      after = omega (arith, after_push c.records.places.items place c.args.first, before.after);
+      follows = record {
+        follow = follow_push c.records.places.items place c.args.first before.follows.follow (omega (arith, before.follows.after)) limits.0;
+        after = omega (arith, after_push c.records.places.items place c.args.first, before.follows.after);
+        limit = omega (arith, limits);
+        roomy = omega (arith, before.follows.roomy, length-append c.records.places.items (place ∷ []));
+      };
       faults = c.in_ok-next_record.ensures.cause.steady ∙ before.faults;
     })
 
-pub next_record-requires-clause-chunk : goal.next_record-requires-clause-chunk
-next_record-requires-clause-chunk g c told =
-    let before = c.records.invariant in
-    subst (λ ms. IsChunk c.records.chunk.bytes.items c.records.chunk.at c.records.chunk.filled ms.now.read) (sym (before.moments told)) (before.chunk told)
+pub next_record-requires-clause-file : goal.next_record-requires-clause-file
+next_record-requires-clause-file g c told =
+    let before = c.records.invariant in (
+      (c.requires.file (before.tells told)).0 ∙ ap (λ ms. length ms.now.read) (sym (before.moments told)),
+      subst (λ ms. IsChunk c.records.chunk.bytes.items c.records.chunk.at c.records.chunk.filled ms.now.read) (sym (before.moments told)) (before.chunk told),
+    )

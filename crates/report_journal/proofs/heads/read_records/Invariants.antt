@@ -1,18 +1,15 @@
-use Rattle.std.proofs.Common.{◌≡◌, ◌+◌, ◌*◌, ◌-◌, ◌≤◌, length, IsTrue}
+use Rattle.std.proofs.Common.{◌≡◌, ◌-◌, IsTrue}
 use Rattle.lot_base.specs.declared.limits.TheConstants.{GREATEST_FILE}
-use Rattle.report_journal.specs.Scans.{AreRead, IsChunk, FollowFrom, gate_after}
+use Rattle.report_journal.specs.Scans.{AreRead, IsChunk, FollowTo}
 use Rattle.report_journal.proofs.heads.read_records.Given as goal
 
 abbrev pub invariant-records : goal.invariant-records
 invariant-records g l = record {
-  limit : l.gate + 1 ≤ GREATEST_FILE;
-  roomy : 5 * length l.places.items ≤ l.gate;
   tells : IsTrue (g.D.Disk.tells l.disk) → IsTrue (g.D.Disk.tells l.initial.disk);
   moments : IsTrue (g.D.Disk.tells l.disk) → g.D.Disk.moments l.disk ≡ g.D.Disk.moments l.initial.disk;
   read : IsTrue (g.D.Disk.tells l.disk) → AreRead l.first l.places.items l.gate (g.D.Disk.moments l.initial.disk).now.read;
   chunk : IsTrue (g.D.Disk.tells l.disk) → IsChunk l.chunk.bytes.items l.chunk.at l.chunk.filled (g.D.Disk.moments l.initial.disk).now.read;
-  follow : FollowFrom l.first l.places.items;
-  after : gate_after l.first l.places.items ≡ l.gate;
+  follows : FollowTo l.first l.places.items l.gate;
   faults : g.D.Disk.faults l.disk ≡ g.D.Disk.faults l.initial.disk;
 }
 

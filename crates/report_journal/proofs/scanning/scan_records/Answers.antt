@@ -11,12 +11,12 @@ returns-then-found-clause-found g c told =
     let told_size = c.read_records.ensures.reads.told told in
     let file_is = ap (λ ms. ms.now.read) (c.size.ensures.moments told_size) in
     let has = c.requires.has_it (c.size.ensures.tells told_size) in
-    let are = rw (file_is, c.first_gate.ensures) at (c.in_ok-found.ensures.found told) in
-    let ends = rw (file_is, c.if-found.true) at (c.in_ok-found.ensures.ends told) in
+    let are = rw (file_is, c.first_gate.ensures) at (c.in_ok-found.ensures.found told).0 in
+    let ends = rw (file_is, c.if-found.true) at (c.in_ok-found.ensures.found told).1 in
     rw c.from_vec-records.ensures (
-      stands _ c.args.header has _ _ are c.in_ok-found.ensures.limit ends,
+      stands _ c.args.header has _ _ are c.in_ok-found.ensures.places.limit ends,
       are.placed,
-      size _ c.args.header has _ _ are c.in_ok-found.ensures.limit,
+      size _ c.args.header has _ _ are c.in_ok-found.ensures.places.limit,
     )
 
 pub returns-else-found-clause-found : goal.returns-else-found-clause-found
@@ -24,7 +24,7 @@ returns-else-found-clause-found g c told =
     let told_size = c.read_records.ensures.reads.told told in
     let file_is = ap (λ ms. ms.now.read) (c.size.ensures.moments told_size) in
     let has = c.requires.has_it (c.size.ensures.tells told_size) in
-    let are = rw (file_is, c.first_gate.ensures) at (c.in_ok-found.ensures.found told) in
-    let ends = rw (file_is, c.if-found.false) at (c.in_ok-found.ensures.ends told) in
+    let are = rw (file_is, c.first_gate.ensures) at (c.in_ok-found.ensures.found told).0 in
+    let ends = rw (file_is, c.if-found.false) at (c.in_ok-found.ensures.found told).1 in
     let count : c.len.result ≡ length c.in_ok-found.found.places.items = search rules in
-    rw c.from_vec-records.ensures (inr (omega (arith, count), damaged _ c.args.header has _ _ are c.in_ok-found.ensures.limit ends.0 ends.1, are.placed))
+    rw c.from_vec-records.ensures (inr (omega (arith, count), damaged _ c.args.header has _ _ are c.in_ok-found.ensures.places.limit ends.0 ends.1, are.placed))

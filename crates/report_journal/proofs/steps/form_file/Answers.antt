@@ -1,6 +1,6 @@
 use Rattle.std.proofs.Common.{◌+◌, ◌∷◌, length, inl, ⊎_elim, ◌∙◌, ap, arith}
 use Rattle.std.proofs.lemmas.Result.{on_ok_weaker}
-use Rattle.house_io.specs.Moments.{overlaid}
+use Rattle.house_io.specs.Moments.{overlaid, settled}
 use Rattle.report_journal.specs.declared.spellings.TheConstants.{OPEN}
 use Rattle.house_io.proofs.Moments.{at_both, at_weaker}
 use Rattle.report_journal.specs.Format.{IsUnformed}
@@ -26,10 +26,10 @@ pub returns-clause-range : goal.returns-clause-range
 returns-clause-range g c told =
     at_twice 0 (1 + length c.args.bytes.now) 0 1 0 (1 + length c.args.bytes.now) (omega arith) (omega arith) (omega arith) (omega arith) _ _ _ (c.shut_gate.ensures.range (c.put_header.ensures.tells told)) (c.put_header.ensures.range told)
 
-pub returns-clause-written : goal.returns-clause-written
-returns-clause-written g c = on_ok_weaker c.put_header.result (λ done told.
+pub returns-clause-done : goal.returns-clause-done
+returns-clause-done g c = on_ok_weaker c.put_header.result (λ done told.
     let file = (g.D.Disk.moments c.args.disk.now).now.read in
     ⊎_elim
-    (λ same. done told ∙ ap (λ f. overlaid f 0 (OPEN ∷ c.args.bytes.now)) same)
-    (λ shut. done told ∙ ap (λ f. overlaid f 0 (OPEN ∷ c.args.bytes.now)) shut ∙ overlaid_over file c.args.bytes.now OPEN 0)
-    (c.in_ok-shut_gate.ensures.written (c.put_header.ensures.tells told))) c.put_header.ensures.written
+    (λ same. done told ∙ ap (λ f. settled (overlaid f 0 (OPEN ∷ c.args.bytes.now))) same)
+    (λ shut. done told ∙ ap (λ f. settled (overlaid f 0 (OPEN ∷ c.args.bytes.now))) shut ∙ ap settled (overlaid_over file c.args.bytes.now OPEN 0))
+    (c.in_ok-shut_gate.ensures.written (c.put_header.ensures.tells told))) c.put_header.ensures.done

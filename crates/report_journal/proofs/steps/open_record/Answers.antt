@@ -7,10 +7,12 @@ use Rattle.report_journal.specs.Puts.{IsBeforeOrAfter, TornTwice}
 use Rattle.report_journal.proofs.Ahead.{record-within, opened_stage, range_there, overlaid_there}
 use Rattle.report_journal.proofs.steps.open_record.Goals as goal
 
-pub open_and_lay-requires-clause-within : goal.open_and_lay-requires-clause-within
-open_and_lay-requires-clause-within g c told =
-    let there = c.requires.there told in
-    (omega (arith, there.0), record-within c.args.payload.now c.args.gate _ there.0 there.1)
+pub open_and_lay-requires : goal.open_and_lay-requires
+open_and_lay-requires g c told =
+    let there = c.requires.there told in (
+      record { settled = there.0.settled; within = omega (arith, there.0.within) },
+      record { settled = there.0.settled; within = record-within c.args.payload.now c.args.gate _ there.0.within there.1 },
+    )
 
 pub returns-clause-opens : goal.returns-clause-opens
 returns-clause-opens g c =
@@ -21,7 +23,7 @@ returns-clause-opens g c =
           let there = c.requires.there (c.open_and_lay.ensures.tells told) in
           done told
           ∙ ap (λ laid. settled (overlaid (overlaid old.now.read c.args.gate (OPEN ∷ [])) from laid)) c.split_at.ensures.back
-          ∙ ap settled (overlaid_there c.args.payload.now c.args.gate _ there.1 c.args.bytes.now c.requires.spelled _ refl there.0)) c.open_and_lay.ensures.done;
+          ∙ ap settled (overlaid_there c.args.payload.now c.args.gate _ there.1 c.args.bytes.now c.requires.spelled _ refl there.0.within)) c.open_and_lay.ensures.done;
       stand = λ told x takes.
           let there = c.requires.there (c.open_and_lay.ensures.tells told) in
           at_weaker _ (IsBeforeOrAfter x c.args.payload.now) _ _ (opened_stage c.args.payload.now c.args.gate _ there.1 x takes _ _ refl) (c.open_and_lay.ensures.moments told);

@@ -30,4 +30,4 @@ returns-clause-done g c = on_ok_weaker c.write_synced-2.result (λ done told.
     let told_mid = c.write_synced-2.ensures.tells told in
     done told
     ∙ ap (λ m. settled (overlaid m.read c.args.gate (OPEN ∷ []))) (c.in_ok-write_synced.ensures.done told_mid)
-    ∙ ap settled (overlaid_twice _ c.args.gate (c.requires.within (c.write_synced.ensures.tells told_mid)) c.args.bytes.now OPEN)) c.write_synced-2.ensures.done
+    ∙ ap settled (overlaid_twice _ c.args.gate (c.requires.file (c.write_synced.ensures.tells told_mid)).within c.args.bytes.now OPEN)) c.write_synced-2.ensures.done

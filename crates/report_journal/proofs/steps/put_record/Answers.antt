@@ -6,6 +6,7 @@ use Rattle.house_io.proofs.Moments.{at_now}
 use Rattle.report_journal.specs.Padding.{behind_of}
 use Rattle.report_journal.specs.Puts.{HasRecord, LieAt, Opens}
 use Rattle.report_journal.proofs.Ahead.{closed}
+use Rattle.report_journal.proofs.Kept.{settled_is}
 use Rattle.report_journal.proofs.Putting.{err_asks, err_done, has_asked, done_too, lie_there, there_now, takes_still, first_stands, first_range, both_stand, both_range, both_done}
 use Rattle.report_journal.proofs.steps.put_record.Goals as goal
 
@@ -36,9 +37,12 @@ pub open_record-requires-clause-there : goal.open_record-requires-clause-there
 open_record-requires-clause-there g c told =
     let old = g.D.Disk.moments c.args.disk.now in
     let record_is : c.deref.result.now ≡ closed c.args.payload.now = c.deref.ensures.value ∙ c.requires.buffer.0 in
-    let some = (c.requires.there (c.write_record.ensures.tells told)).0 in
+    let some = (c.requires.there (c.write_record.ensures.tells told)).0.within in
     let now_is = ap (λ m. m.read) (c.in_ok-write_record.ensures.done told) ∙ ap (overlaid old.now.read (c.args.gate + 1)) record_is in (
-      omega (arith, some, (at_now _ _ _ (c.write_record.ensures.moments told)).read.no_shorter),
+      record {
+        settled = settled_is _ _ (c.in_ok-write_record.ensures.done told);
+        within = omega (arith, some, (at_now _ _ _ (c.write_record.ensures.moments told)).read.no_shorter);
+      },
       subst (λ file. HasRecord c.args.payload.now (drop (c.args.gate + 1) file)) (sym now_is) (there_now c.args.payload.now c.args.gate old.now.read some),
     )
 
@@ -61,7 +65,7 @@ returns-clause-puts g c =
         done = on_ok_weaker c.open_record.result (λ done told.
             let told_mid = c.open_record.ensures.tells told in
             let mid_is = c.in_ok-write_record.ensures.done told_mid ∙ ap (λ bytes. settled (overlaid old.now.read (c.args.gate + 1) bytes)) record_is in
-            both_done c.args.payload.now c.args.gate old mid (first told_mid) behind new (c.requires.there (c.write_record.ensures.tells told_mid)).0 mid_is (done told)) opens.done;
+            both_done c.args.payload.now c.args.gate old mid (first told_mid) behind new (c.requires.there (c.write_record.ensures.tells told_mid)).0.within mid_is (done told)) opens.done;
         stand = λ told x takes.
             let each = first (c.open_record.ensures.tells told) in
             both_stand c.args.payload.now c.args.gate old mid each behind new x takes (opens.stand told x (takes_still c.args.payload.now c.args.gate x old.now.read mid.now.read takes (at_now _ _ _ each).read));

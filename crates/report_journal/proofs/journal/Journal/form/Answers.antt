@@ -4,6 +4,7 @@ use Rattle.house_io.proofs.Moments.{leaves_here}
 use Rattle.report_journal.specs.declared.spellings.TheConstants.{OPEN}
 use Rattle.report_journal.specs.Puts.{IsHead}
 use Rattle.report_journal.proofs.Forming.{not_written, form_leaves, empty_size}
+use Rattle.report_journal.proofs.Kept.{settled_is}
 use Rattle.report_journal.proofs.Prefixes.{header_within}
 use Rattle.report_journal.proofs.journal.Journal.form.Goals as goal
 
@@ -35,7 +36,7 @@ invariant_of-result g c =
       },
       λ told. (
         record {
-          stands = (c.in-Ok-form_file.ensures.done told, c.in-Ok-form_file.ensures.formed told c.args.header.now is_head);
+          stands = (settled_is _ _ (c.in-Ok-form_file.ensures.done told), c.in-Ok-form_file.ensures.formed told c.args.header.now is_head);
           placed = tt;
           size = empty_size c.args.header.now ∙ sym c.first_gate-end.ensures;
         },
@@ -55,8 +56,8 @@ returns-clause-ok g c =
       laid = ap (λ gate. gate + 1) c.first_gate-end.ensures;
       steady = c.in-Ok-form_file.ensures.cause.steady;
       told = λ told. c.form_file.ensures.tells told;
-      every_image = λ told. leaves_here _ _ (c.in-Ok-form_file.ensures.done told) (c.in-Ok-form_file.ensures.formed told c.args.header.now is_head);
-      written = λ told. c.in-Ok-form_file.ensures.written told ∙ ap (λ bytes. overlaid (g.D.Disk.moments c.args.disk).now.read 0 (OPEN ∷ bytes)) is_head.spelled;
+      every_image = λ told. leaves_here _ _ (settled_is _ _ (c.in-Ok-form_file.ensures.done told)) (c.in-Ok-form_file.ensures.formed told c.args.header.now is_head);
+      written = λ told. ap (λ m. m.read) (c.in-Ok-form_file.ensures.done told) ∙ ap (λ bytes. overlaid (g.D.Disk.moments c.args.disk).now.read 0 (OPEN ∷ bytes)) is_head.spelled;
       leaves = λ told. form_leaves c.args.header.now c.deref.result.now is_head _ _ (c.form_file.ensures.moments told c.args.header.now is_head) (c.form_file.ensures.range told);
     })
 

@@ -1,12 +1,12 @@
 use Rattle.std.proofs.Common.{◌≡◌, ◌+◌, ◌-◌, [], ◌∷◌, ◌++◌, length, Some, None, refl, sym, ◌∙◌, ap, subst, arith, length-append}
 use Rattle.std.proofs.lemmas.List.{length-map}
-use Rattle.house_io.specs.Moments.{Torn, AtEach}
 use Rattle.house_io.proofs.Moments.{at_now, leaves_here}
 use Rattle.report_journal.specs.declared.places.Place.{Place}
 use Rattle.report_journal.specs.Journals.{LiesAhead, in_doubt, payload_at}
 use Rattle.report_journal.specs.Padding.{behind_of, put_of}
 use Rattle.report_journal.specs.Puts.{HasRecord}
 use Rattle.report_journal.proofs.Ahead.{lies-behind}
+use Rattle.report_journal.proofs.Appending.{put_leaves}
 use Rattle.report_journal.proofs.Kept.{takes, put_is, put_kept, doubt_is, doubt_kept, settled_is}
 use Rattle.report_journal.proofs.Records.{has_it}
 use Rattle.report_journal.proofs.Rooms.{filled, filled-length, no-doubt, may-put}
@@ -18,7 +18,7 @@ invariant_of-self g c =
     let may =
     may-put _ _ _ _ _ _ (length c.args.payload.now) _ c.self.invariant.0.room (no-doubt c.self.inside.buffer.items c.self.inside.pending none)
     (omega (arith, c.requires.spare, ap (λ j. j.spare) c.self.view_is)) (omega (arith, c.requires.ready.fits, ap (λ j. j.end) c.self.view_is)) in
-    let spelled = c.put_record.ensures.spelled in
+    let spelled = c.put_record.ensures.buffer.0 in
     let same = filled c.args.payload.now c.put_record.new.bytes.items _ spelled.1 in (
       record {
         spelled = c.self.invariant.0.spelled;
@@ -30,7 +30,7 @@ invariant_of-self g c =
           below = omega (arith, may.below, c.requires.spare, ap (λ j. j.spare) c.self.view_is);
           reserved = record {
             places = omega (arith, may.reserved.places, c.requires.spare, ap (λ j. j.spare) c.self.view_is);
-            bytes = omega (arith, may.reserved.bytes, c.fill_record.ensures.room, c.put_record.ensures.room.1);
+            bytes = omega (arith, may.reserved.bytes, c.fill_record.ensures.room, c.put_record.ensures.buffer.2);
           };
         };
       },
@@ -49,8 +49,6 @@ returns-in-Err-clause-writes g c =
     (omega (arith, c.requires.spare, ap (λ j. j.spare) c.self.view_is)) (omega (arith, c.requires.ready.fits, ap (λ j. j.end) c.self.view_is)) in
     let next = c.in-Err.ensures.puts.0 in
     let opens = c.in-Err.ensures.puts.3 in
-    let behind = behind_of c.self.inside.end c.self.inside.laid c.args.payload.now next in
-    let long : 1 + length (put_of c.self.inside.end c.self.inside.laid c.args.payload.now next) ≡ 6 + length c.args.payload.now + length behind = omega (arith, filled-length c.args.payload.now _ behind refl) in
     rw (← c.self.view_is) (
       next,
       c.in-Err.ensures.puts.1,
@@ -62,10 +60,7 @@ returns-in-Err-clause-writes g c =
             doubt_is _ _ _ _ c.args.payload.now _ kept (g.D.Disk.moments c.put_record.new.disk) (at_now _ _ _ (opens.stand told _ takes_it)) takes_it.fits;
         leaves = λ mended told.
             let kept = (c.self.invariant.1 (c.put_record.ensures.tells told)).0 in
-            record {
-              stand = opens.stand told _ (takes _ _ _ _ _ kept none c.args.payload.now c.requires.short may.fits);
-              range = subst (λ n. AtEach (Torn c.self.inside.end n (g.D.Disk.moments c.self.inside.disk).now.read) (g.D.Disk.moments c.self.inside.disk) (g.D.Disk.moments c.put_record.new.disk)) long (opens.range told);
-            };
+            put_leaves c.args.payload.now next c.self.inside.end c.self.inside.laid _ _ _ (takes _ _ _ _ _ kept none c.args.payload.now c.requires.short may.fits) (opens.stand told) (opens.range told);
       },
     )
 
@@ -86,7 +81,7 @@ invariant_of-self-in-Ok g c =
           omega (arith, may.below),
           λ some. record {
             places = omega (arith, more, may.reserved.places, c.requires.spare, ap (λ j. j.spare) c.self.view_is, c.push_reserved.ensures.room);
-            bytes = omega (arith, may.reserved.bytes, c.fill_record.ensures.room, c.put_record.ensures.room.1);
+            bytes = omega (arith, may.reserved.bytes, c.fill_record.ensures.room, c.put_record.ensures.buffer.2);
           },
         );
       },
@@ -131,10 +126,7 @@ returns-in-Ok-clause-writes g c =
             );
         leaves = λ mended told.
             let kept = (c.self.invariant.1 (c.put_record.ensures.tells told)).0 in
-            record {
-              stand = opens.stand told _ (takes _ _ _ _ _ kept none c.args.payload.now c.requires.short may.fits);
-              range = subst (λ n. AtEach (Torn c.self.inside.end n (g.D.Disk.moments c.self.inside.disk).now.read) (g.D.Disk.moments c.self.inside.disk) (g.D.Disk.moments c.put_record.new.disk)) long (opens.range told);
-            };
+            put_leaves c.args.payload.now next c.self.inside.end c.self.inside.laid _ _ _ (takes _ _ _ _ _ kept none c.args.payload.now c.requires.short may.fits) (opens.stand told) (opens.range told);
       },
     )
 
