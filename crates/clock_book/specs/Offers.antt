@@ -1,5 +1,5 @@
 -- What an offer does to a book.
-use Rattle.std.specs.Prelude.{◌≡◌, ◌≢◌, ◌⊎◌, ℕ, ◌+◌, ◌<◌, ◌≤◌, List, [], ◌∷◌, ◌++◌, length, slice_index, Option, Some, None, IsSome}
+use Rattle.std.specs.Prelude.{◌≡◌, ◌≢◌, ◌⊎◌, ℕ, ◌+◌, ◌<◌, ◌≤◌, List, [], ◌∷◌, ◌++◌, length, slice_index, Bool, IsTrue, Option, Some, None, IsSome}
 use Rattle.lot_base.specs.declared.limits.TheConstants.{GREATEST_FILE}
 use Rattle.demand_set.specs.declared.reports.Report.{Report}
 use Rattle.clock.specs.Reports.{with_report}
@@ -7,14 +7,15 @@ use Rattle.clock.specs.Judging.{judgement_of}
 use Rattle.clock.specs.declared.judging.Judgement.TheVariants as judged
 use Rattle.clock.specs.declared.judging.Offered.{Offered}
 use Rattle.clock.specs.declared.judging.Offered.TheVariants as answers
-use Rattle.house_io.specs.Moments.{Moments, AtEach}
+use Rattle.house_io.specs.Faults.{Rose}
+use Rattle.house_io.specs.Moments.{Moments, AtEach, Leaves}
 use Rattle.report_journal.specs.Format.{front}
 use Rattle.report_journal.specs.declared.spellings.TheConstants.{OPEN}
 use Rattle.recovery.specs.Entries.{payload_of}
 use Rattle.recovery.specs.Journaled.{Owner, contents_of}
 use Rattle.clock_book.specs.declared.entries.Entry.TheVariants as entry
-use Rattle.clock_book.specs.Past.{IsEither}
-use Rattle.clock_book.specs.Books.{BookState}
+use Rattle.clock_book.specs.Past.{owner_in, IsEither}
+use Rattle.clock_book.specs.Books.{BookOf, BookState}
 
 -- the report is appended, as one that was offered, or as one that was counted
 abbrev pub taken : BookState → Report → BookState
@@ -86,3 +87,14 @@ OfferLeaves owner old r answer new before after =
 abbrev pub CountsOffer : ℕ → ℕ → Offered → Type 0
 CountsOffer before now answers.DiskFault = before ≤ now
 CountsOffer before now answer = now ≡ before
+
+-- The whole of an offer to a book. Of the disk's contents it speaks where these are told at its end.
+pub record Offers {D : Type 0} (tells : D → Bool) (moments : D → Moments) (faults : D → ℕ) (r : Report) (old new : BookOf D) (result : Offered) : Type 0 where
+  pub answer : IsOffer (owner_in old.origin) old.state r result new.state
+  pub origin : new.origin ≡ old.origin
+  pub cause : result ≡ answers.DiskFault → Rose (faults old.disk) (faults new.disk)
+  pub counts : CountsOffer (faults old.disk) (faults new.disk) result
+  pub told : IsTrue (tells new.disk) → IsTrue (tells old.disk)
+  -- what a crash may leave at any moment of the call, and once it is answered
+  pub leaves : IsTrue (tells new.disk) → OfferLeaves (owner_in old.origin) old.state r result new.state (moments old.disk) (moments new.disk)
+  pub every_image : IsTrue (tells new.disk) → Leaves (IsEither (owner_in new.origin) new.state.clock.reports new.state.pending) (moments new.disk).now

@@ -2,7 +2,7 @@
 ghost use Rattle.std.specs.Prelude.{◌≡◌, ◌<◌, ◌≤◌, ◌%◌, ◌^◌, ◌↔◌, length, IsTrue, IsSome, OnOk, OnErr, Some, None};
 ghost use Rattle.lot_base.specs.Demands.{IsDemand};
 ghost use Rattle.house_io.specs.Faults.{HasCause, Rose};
-ghost use Rattle.house_io.specs.Moments.{AtEach, Leaves};
+ghost use Rattle.house_io.specs.Moments.{AtEach};
 ghost use Rattle.clock.specs.declared.judging.Judgement.TheVariants.{Take};
 ghost use Rattle.clock.specs.declared.judging.Offered.TheVariants.{DiskFault};
 ghost use Rattle.clock.specs.Judging.{judgement_of};
@@ -128,7 +128,7 @@ impl<D: Disk> ClockBook<D> {
 impl<D: Disk> ClockBook<D> {
     ghost use Rattle.clock.specs.Standing.{last_round, phase_of, prices_of};
     ghost use Rattle.clock_book.specs.Books.{IsKept};
-    ghost use Rattle.clock_book.specs.Offers.{Answers, IsOffer, OfferLeaves, CountsOffer};
+    ghost use Rattle.clock_book.specs.Offers.{Answers, IsOffer, OfferLeaves, CountsOffer, Offers};
 
     /// Judges a report behind those of the clock, where nothing is pending, and appends one that is to be taken.
     fn judge_and_append<H: Hint>(&mut self, alloc: Global, report: Report, hint: &H) -> Offered
@@ -171,16 +171,7 @@ impl<D: Disk> ClockBook<D> {
     /// be taken is on the disk before it is answered. It takes no memory.
     pub fn offer(&mut self, alloc: Global, bidder: u8, round: u32, demand: Demand) -> Offered
         requires { IsDemand self.old.state.clock.terms.goods demand }
-        ensures answer { IsOffer (owner_in self.old.origin) self.old.state (record { bidder = bidder; round = round; demand = demand }) result self.new.state }
-        ensures cause { result ≡ DiskFault → Rose (D.faults self.old.disk) (D.faults self.new.disk) }
-        ensures origin { self.new.origin ≡ self.old.origin }
-        ensures tells { IsTrue (D.tells self.new.disk) → IsTrue (D.tells self.old.disk) }
-        ensures faults { CountsOffer (D.faults self.old.disk) (D.faults self.new.disk) result }
-        // What a crash may leave at any moment of the call, and once it is answered.
-        ensures moments { IsTrue (D.tells self.new.disk)
-            → OfferLeaves (owner_in self.old.origin) self.old.state (record { bidder = bidder; round = round; demand = demand }) result self.new.state (D.moments self.old.disk) (D.moments self.new.disk) }
-        ensures every_image { IsTrue (D.tells self.new.disk)
-            → Leaves (IsEither (owner_in self.new.origin) self.new.state.clock.reports self.new.state.pending) (D.moments self.new.disk).now }
+        ensures { Offers D.tells D.moments D.faults (record { bidder = bidder; round = round; demand = demand }) self.old self.new result }
     {
         self.offer_hinted(alloc, bidder, round, demand, &NoHint)
     }
@@ -196,15 +187,7 @@ impl<D: Disk> ClockBook<D> {
         hint: &H,
     ) -> Offered
         requires { IsDemand self.old.state.clock.terms.goods demand }
-        ensures answer { IsOffer (owner_in self.old.origin) self.old.state (record { bidder = bidder; round = round; demand = demand }) result self.new.state }
-        ensures cause { result ≡ DiskFault → Rose (D.faults self.old.disk) (D.faults self.new.disk) }
-        ensures origin { self.new.origin ≡ self.old.origin }
-        ensures tells { IsTrue (D.tells self.new.disk) → IsTrue (D.tells self.old.disk) }
-        ensures faults { CountsOffer (D.faults self.old.disk) (D.faults self.new.disk) result }
-        ensures moments { IsTrue (D.tells self.new.disk)
-            → OfferLeaves (owner_in self.old.origin) self.old.state (record { bidder = bidder; round = round; demand = demand }) result self.new.state (D.moments self.old.disk) (D.moments self.new.disk) }
-        ensures every_image { IsTrue (D.tells self.new.disk)
-            → Leaves (IsEither (owner_in self.new.origin) self.new.state.clock.reports self.new.state.pending) (D.moments self.new.disk).now }
+        ensures { Offers D.tells D.moments D.faults (record { bidder = bidder; round = round; demand = demand }) self.old self.new result }
     {
         let answer = self.mend_and_answer(
             alloc,

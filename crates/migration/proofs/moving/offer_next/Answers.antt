@@ -46,7 +46,7 @@ pub returns-in-Taken-clause-goes_on : goal.returns-in-Taken-clause-goes_on
 returns-in-Taken-clause-goes_on g c =
     let source = c.args.source.now.history in
     goes-next g.D.Disk.tells g.D.Disk.moments g.D.Disk.faults source c.args.place c.args.book.now c.offer.new.self c.in-Ok.report c.offer.result c.requires.first (at-place source.reports c.args.place c.in-Ok.report c.in-Ok.ensures)
-    c.offer.ensures.answer c.offer.ensures.origin c.offer.ensures.tells c.offer.ensures.moments
+    c.offer.ensures.answer c.offer.ensures.origin c.offer.ensures.told c.offer.ensures.leaves
 
 pub returns-in-Taken-clause-first : goal.returns-in-Taken-clause-first
 returns-in-Taken-clause-first g c =
@@ -58,10 +58,10 @@ pub returns-in-Full-clause-goes_on : goal.returns-in-Full-clause-goes_on
 returns-in-Full-clause-goes_on g c =
     let source = c.args.source.now.history in
     goes-next g.D.Disk.tells g.D.Disk.moments g.D.Disk.faults source c.args.place c.args.book.now c.offer.new.self c.in-Ok.report c.offer.result c.requires.first (at-place source.reports c.args.place c.in-Ok.report c.in-Ok.ensures)
-    c.offer.ensures.answer c.offer.ensures.origin c.offer.ensures.tells c.offer.ensures.moments
+    c.offer.ensures.answer c.offer.ensures.origin c.offer.ensures.told c.offer.ensures.leaves
 
 pub returns-in-DiskFault-clause-goes_on : goal.returns-in-DiskFault-clause-goes_on
 returns-in-DiskFault-clause-goes_on g c =
     let source = c.args.source.now.history in
     goes-next g.D.Disk.tells g.D.Disk.moments g.D.Disk.faults source c.args.place c.args.book.now c.offer.new.self c.in-Ok.report c.offer.result c.requires.first (at-place source.reports c.args.place c.in-Ok.report c.in-Ok.ensures)
-    c.offer.ensures.answer c.offer.ensures.origin c.offer.ensures.tells c.offer.ensures.moments
+    c.offer.ensures.answer c.offer.ensures.origin c.offer.ensures.told c.offer.ensures.leaves
