@@ -34,8 +34,7 @@ pub(crate) fn offer_on<T: Wait, D: Disk>(
     requires desk { pass.old.desk ≡ desk.now.id }
     requires rests { pass.old.turn ≡ None }
     requires of_house { IsOf (owner_of terms.now clock digest.now) pass.old }
-    requires bidder { IsRange 1 terms.now.bidders bidder }
-    requires fits { IsDemand terms.now.goods demand }
+    requires report { IsRange 1 terms.now.bidders bidder × IsDemand terms.now.goods demand }
     ensures offers { PassOffers (record { bidder = bidder; round = round; demand = demand }) result pass.old pass.new }
     ensures of_house { IsOf (owner_of terms.now clock digest.now) pass.new }
     ensures refusal { IsOffered (bidder ≡ clock) result }

@@ -126,8 +126,7 @@ fn host_doors<T: Threads + Wait + Sync, D: Disk + Send, N: Net>(
     requires auction { house.terms ≡ auction.now.terms }
     requires passes { AreAllOf house.desks passes.items }
     requires new { AllByRecursion (IsNewPass house) passes.items }
-    requires doors { length doors.items ≡ length passes.items }
-    requires fresh { AllByRecursion (λ door. N.Door.Door.faults door ≡ 0) doors.items }
+    requires doors { (length doors.items ≡ length passes.items) × AllByRecursion (λ door. N.Door.Door.faults door ≡ 0) doors.items }
     requires sessions { (1 ≤ sessions) × (sessions ≤ 10000) }
     requires room { IsRoom (length house.desks) (length doors.items) room }
     ensures { (before : _) → IfTold before (N.told net.old) (GivesDoors N.Door.Door.told (length doors.items) doors.items)

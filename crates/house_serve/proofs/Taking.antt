@@ -61,10 +61,10 @@ fault_ends auction w fs tail place bytes f ends.LinkFault x y z go is at a h = (
   (one_of auction fs w go, (h.1, inr (f.kind, go, is, ap (λ (l : List ℕ). bytes ++ l) h.2 ∙ sym (append_assoc bytes h.0 h.1)))),
 )
 fault_ends auction w fs tail place bytes f ends.NoMemory x y z go is at a h = (
-  bytes ++ h.0,
-  (h.3.0 ∙ a.0, h.3.1 ∙ ap (λ (l : List ℕ). l ++ h.0) a.1 ∙ append_assoc x.written bytes h.0),
-  (h.0, refl),
-  (one_of auction fs w go, (h.1, inr (f.kind, go, is, ap (λ (l : List ℕ). bytes ++ l) h.2 ∙ sym (append_assoc bytes h.0 h.1)))),
+  bytes,
+  (h.0 ∙ a.0, h.1 ∙ append-nil y.written ∙ a.1),
+  ([], sym (append-nil bytes)),
+  (one_of auction fs w go, ([], inl (sym (append-nil bytes)))),
 )
 fault_ends auction w fs tail place bytes f ends.Quit x y z go is at a h = absurd h
 fault_ends auction w fs tail place bytes f ends.BadToken x y z go is at a h = absurd h

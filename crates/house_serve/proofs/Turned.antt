@@ -1,6 +1,7 @@
 -- Turns behind turns.
 use Rattle.std.proofs.Common.{◌≡◌, ℕ, ◌<◌, ◌+◌, ◌-◌, zero, suc, List, [], ◌∷◌, ◌++◌, length, take, drop, get_or, map, Option, Some, None, refl, sym, ◌∙◌, ap, subst, arith, append_assoc, append-nil, take-append-drop}
 use Rattle.std.proofs.lemmas.List.{map-append}
+use Rattle.std.specs.Prelude.{Err}
 use Rattle.std.specs.List.{AllByRecursion}
 use Rattle.house_io.specs.Told.{IfTold}
 use Rattle.house_io.specs.Links.{LinkBytes}
@@ -14,7 +15,8 @@ use Rattle.session.specs.declared.halls.Asked.{Asked}
 use Rattle.session.specs.Table.{bidder_after}
 use Rattle.session.specs.Turns.{Turn, IsTurn, AreTurns, frames_of, bytes_of, bidder_behind}
 use Rattle.house_serve.specs.declared.ends.SessionEnd.{SessionEnd}
-use Rattle.house_serve.specs.Pieces.{Adds, AreWhole, WritesBy, GoesBy, Answers, earlier_bytes}
+use Rattle.house_serve.specs.declared.answering.Cut.{Cut}
+use Rattle.house_serve.specs.Pieces.{Adds, IsSentBy, AreWhole, WritesBy, GoesBy, Answers, earlier_bytes}
 use Rattle.house_serve.proofs.Behind.{goes_join, writes_join}
 
 pub bytes_on : {M : Type 0} (ts us : List (Turn M)) → bytes_of (ts ++ us) ≡ bytes_of ts ++ bytes_of us
@@ -136,3 +138,9 @@ pub cut_short : (t t1 : Option LinkBytes) (text : List ℕ) (end : Option Sessio
     → IfTold t t1 (λ b a. (given : List ℕ) × (more : List ℕ) × (text ≡ given ++ more) × Adds given b a) → IfTold t t1 (λ b a. (given : List ℕ) × Adds given b a × WritesBy end text given)
 cut_short t t1 text end w h =
     told-map t t1 (λ b a. (given : List ℕ) × (more : List ℕ) × (text ≡ given ++ more) × Adds given b a) (λ b a. (given : List ℕ) × Adds given b a × WritesBy end text given) h (λ x y g. (g.0, g.3, w g.0 g.1 g.2))
+
+pub left_out : (t t1 : Option LinkBytes) (text : List ℕ) (end : Option SessionEnd) → WritesBy end text [] → IfTold t t1 (Adds []) → IfTold t t1 (λ b a. (given : List ℕ) × Adds given b a × WritesBy end text given)
+left_out t t1 text end w h = told-map t t1 (Adds []) (λ b a. (given : List ℕ) × Adds given b a × WritesBy end text given) h (λ x y g. ([], g, w))
+
+pub sent_as : (t t1 : Option LinkBytes) (text : List ℕ) (found cut : Cut) → found ≡ cut → IfTold t t1 (IsSentBy (Err found) text) → IfTold t t1 (IsSentBy (Err cut) text)
+sent_as t t1 text found cut is h = subst (λ (c : Cut). IfTold t t1 (IsSentBy (Err c) text)) is h

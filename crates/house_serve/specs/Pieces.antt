@@ -93,16 +93,17 @@ pub record Takes {M : Type 0} (allows : M → Asked → M → Type 0) (auction :
   pub sent : IfTold told told_after (λ b a. (given : List ℕ) × Adds given b a × AreWhole turns given
       × MatchOption end (given ≡ bytes_of turns) (λ e. EndsBy auction who (frames_of turns) tail ((reader.place + length (stream_of (map house_sent (frames_of turns)) [])) % 2 ^ 64) a.left (bytes_of turns) given e))
 
--- a reply was sent whole, or a front of it
+-- a reply was sent whole, or a front of it where the link failed, or nothing where memory ran out
 abbrev pub IsSentBy : Result (Unit {0}) Cut → List ℕ → LinkBytes → LinkBytes → Type 0
 IsSentBy (Ok done) bytes before after = Adds bytes before after
-IsSentBy (Err cut) bytes before after = (given : List ℕ) × (more : List ℕ) × (bytes ≡ given ++ more) × Adds given before after
+IsSentBy (Err cut.LinkFault) bytes before after = (given : List ℕ) × (more : List ℕ) × (bytes ≡ given ++ more) × Adds given before after
+IsSentBy (Err cut.NoMemory) bytes before after = Adds [] before after
 
--- the reply to a fault was sent whole, or a front of it
+-- the reply to a fault was sent so
 abbrev pub IsFaultSent : WireFault → SessionEnd → LinkBytes → LinkBytes → Type 0
 IsFaultSent fault (ends.Wire other) before after = (other ≡ fault) × Adds (fault_bytes fault.kind) before after
 IsFaultSent fault ends.LinkFault before after = (given : List ℕ) × (more : List ℕ) × (fault_bytes fault.kind ≡ given ++ more) × Adds given before after
-IsFaultSent fault ends.NoMemory before after = (given : List ℕ) × (more : List ℕ) × (fault_bytes fault.kind ≡ given ++ more) × Adds given before after
+IsFaultSent fault ends.NoMemory before after = Adds [] before after
 IsFaultSent fault ends.Quit before after = ⊥
 IsFaultSent fault ends.BadToken before after = ⊥
 IsFaultSent fault (ends.Closed rest) before after = ⊥

@@ -5,7 +5,7 @@ ghost use Rattle.house_io.specs.Told.{IfTold};
 ghost use Rattle.house_io.specs.Faults.{HasCause};
 ghost use Rattle.report_wire.specs.Frames.{IsMessage, IsSent, spelling};
 ghost use Rattle.report_wire.specs.Messages.{to_house, house_kind, house_payload, house_sent, to_bidder, bidder_kind, bidder_payload};
-ghost use Rattle.session.specs.Asking.{IsBidder, IsHallOf};
+ghost use Rattle.session.specs.Asking.{IsSeated};
 ghost use Rattle.house_serve.specs.Ends.{end_by};
 ghost use Rattle.house_serve.specs.Pieces.{Adds, Answers, IsSentBy, HasCutCause, HasCauseBy};
 
@@ -64,12 +64,9 @@ fn answer_one<H: Hall, L: Link, T: Wait>(
     frame: &ToHouse,
 ) -> Option<SessionEnd>
     requires formed { IsMessage to_house (house_kind frame.now) (house_payload frame.now) }
-    requires bidder { IsBidder auction.now.terms.bidders session.old }
-    requires order { H.in_order hall.old }
-    requires hall { IsHallOf auction.now (H.supply hall.old) (H.bidders hall.old) }
+    requires seated { IsSeated auction.now session.old (H.in_order hall.old) (H.supply hall.old) (H.bidders hall.old) }
     ensures answers { Answers H.allows auction.now (frame.now ∷ []) session.old (H.meaning hall.old) (L.told link.old) session.new (H.meaning hall.new) (L.told link.new) result }
-    ensures known { IsBidder auction.now.terms.bidders session.new }
-    ensures order { H.in_order hall.new }
+    ensures seated { IsSeated auction.now session.new (H.in_order hall.new) (H.supply hall.new) (H.bidders hall.new) }
     ensures stays { H.stays hall.old hall.new }
     ensures cause { HasCauseBy (L.faults link.old) (L.faults link.new) result }
 {
@@ -96,12 +93,9 @@ pub(crate) fn answer_all<H: Hall, L: Link, T: Wait>(
     frames: &[ToHouse],
 ) -> Option<SessionEnd>
     requires formed { AllByRecursion (IsSent to_house) (map house_sent frames.now) }
-    requires bidder { IsBidder auction.now.terms.bidders session.old }
-    requires order { H.in_order hall.old }
-    requires hall { IsHallOf auction.now (H.supply hall.old) (H.bidders hall.old) }
+    requires seated { IsSeated auction.now session.old (H.in_order hall.old) (H.supply hall.old) (H.bidders hall.old) }
     ensures answers { Answers H.allows auction.now frames.now session.old (H.meaning hall.old) (L.told link.old) session.new (H.meaning hall.new) (L.told link.new) result }
-    ensures known { IsBidder auction.now.terms.bidders session.new }
-    ensures order { H.in_order hall.new }
+    ensures seated { IsSeated auction.now session.new (H.in_order hall.new) (H.supply hall.new) (H.bidders hall.new) }
     ensures stays { H.stays hall.old hall.new }
     ensures cause { HasCauseBy (L.faults link.old) (L.faults link.new) result }
 {

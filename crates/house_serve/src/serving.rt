@@ -1,7 +1,7 @@
 //! A session over a link.
 ghost use Rattle.std.specs.Prelude.{◌≡◌, ◌≤◌, ◌<◌, ◌+◌, ◌^◌, ◌++◌, [], ℕ, List, length, None};
 ghost use Rattle.house_io.specs.Told.{IfTold};
-ghost use Rattle.session.specs.Asking.{IsBidder, IsHallOf};
+ghost use Rattle.session.specs.Asking.{IsHallOf, IsSeated};
 ghost use Rattle.session.specs.Turns.{Turn};
 ghost use Rattle.house_serve.specs.Pieces.{HasEndCause};
 ghost use Rattle.house_serve.specs.Serving.{IsSession, IsStep, HasStepCause};
@@ -42,12 +42,9 @@ fn pull_once<H: Hall, L: Link, T: Wait>(
 ) -> Step
     requires room { 0 < length chunk.old }
     requires whole { reader.old.fault ≡ None }
-    requires bidder { IsBidder auction.now.terms.bidders session.old }
-    requires order { H.in_order hall.old }
-    requires hall { IsHallOf auction.now (H.supply hall.old) (H.bidders hall.old) }
+    requires seated { IsSeated auction.now session.old (H.in_order hall.old) (H.supply hall.old) (H.bidders hall.old) }
     ensures steps { IsStep H.allows auction.now (length chunk.new) reader.old session.old (H.meaning hall.old) (L.told link.old) reader.new session.new (H.meaning hall.new) (L.told link.new) result }
-    ensures known { IsBidder auction.now.terms.bidders session.new }
-    ensures order { H.in_order hall.new }
+    ensures seated { IsSeated auction.now session.new (H.in_order hall.new) (H.supply hall.new) (H.bidders hall.new) }
     ensures stays { H.stays hall.old hall.new }
     ensures cause { HasStepCause (L.faults link.old) (L.faults link.new) result }
 {

@@ -76,3 +76,9 @@ IsBidder bidders who = IfSome who (IsRange 1 bidders)
 -- a hall of this auction's supply and bidders
 abbrev pub IsHallOf : Auction → List ℕ → ℕ → Type 0
 IsHallOf auction supply bidders = (supply ≡ auction.terms.goods) × (bidders ≡ auction.terms.bidders)
+
+-- a session of this bidder, or of none yet, at a hall that is in order: both are of this auction
+pub record IsSeated (auction : Auction) (who : Option ℕ) (in_order : Type 0) (supply : List ℕ) (bidders : ℕ) : Type 0 where
+  pub bidder : IsBidder auction.terms.bidders who
+  pub order : in_order
+  pub hall : IsHallOf auction supply bidders

@@ -2,7 +2,7 @@
 ghost use Rattle.std.specs.Prelude.{◌≡◌, Option, None, length};
 ghost use Rattle.report_wire.specs.Frames.{IsMessage};
 ghost use Rattle.report_wire.specs.Messages.{to_house, house_kind, house_payload, to_bidder, bidder_kind, bidder_payload};
-ghost use Rattle.session.specs.Asking.{IsBidder, IsHallOf};
+ghost use Rattle.session.specs.Asking.{IsSeated};
 ghost use Rattle.session.specs.Table.{bidder_after, goes_on, greeted, wire_reply};
 ghost use Rattle.session.specs.Turns.{IsTurn};
 ghost use Rattle.session.specs.declared.halls.Asked.{Asked as AskedValue};
@@ -59,15 +59,11 @@ impl Session {
         frame: &ToHouse,
     ) -> Answer
         requires formed { IsMessage to_house (house_kind frame.now) (house_payload frame.now) }
-        requires bidder { IsBidder auction.now.terms.bidders self.old }
-        requires order { H.in_order hall.old }
-        requires hall { IsHallOf auction.now (H.supply hall.old) (H.bidders hall.old) }
+        requires seated { IsSeated auction.now self.old (H.in_order hall.old) (H.supply hall.old) (H.bidders hall.old) }
         ensures turn { (asked : Option AskedValue) × IsTurn H.allows auction.now self.old (H.meaning hall.old) (record { frame = frame.now; asked = asked; reply = result.reply; now = H.meaning hall.new }) }
-        ensures goes_on { result.goes_on ≡ goes_on auction.now self.old frame.now }
-        ensures bidder { self.new ≡ bidder_after auction.now self.old frame.now }
-        ensures known { IsBidder auction.now.terms.bidders self.new }
+        ensures goes { (result.goes_on ≡ goes_on auction.now self.old frame.now) × (self.new ≡ bidder_after auction.now self.old frame.now) }
         ensures formed { IsMessage to_bidder (bidder_kind result.reply) (bidder_payload result.reply) }
-        ensures order { H.in_order hall.new }
+        ensures seated { IsSeated auction.now self.new (H.in_order hall.new) (H.supply hall.new) (H.bidders hall.new) }
         ensures stays { H.stays hall.old hall.new }
     {
         let line = match line_for(alloc, auction, self.bidder, frame) {

@@ -38,4 +38,4 @@ returns-clause-refusal g c =
     let r : Report = record { bidder = c.args.bidder; round = c.args.round; demand = c.args.demand } in
     let O : Owner → Type 0 = λ o. IsOffered (r.bidder ≡ o.clock) c.offer-answer.result in
     let R : Owner → Type 0 = λ o. IsRange 1 o.terms.bidders r.bidder in
-    subst O whole (refusal-of (owner_in c.take-book.result.origin) c.take-book.result.state.history c.offer-answer.new.self.state.history r c.offer-answer.result (subst R (sym whole) c.requires.bidder) c.offer-answer.ensures.history)
+    subst O whole (refusal-of (owner_in c.take-book.result.origin) c.take-book.result.state.history c.offer-answer.new.self.state.history r c.offer-answer.result (subst R (sym whole) c.requires.report.0) c.offer-answer.ensures.history)

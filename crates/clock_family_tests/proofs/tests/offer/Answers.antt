@@ -17,13 +17,11 @@ offer-requires-clause-of_house g c =
     let below : c.args.line.pass < length c.args.passes.now.items = search rules in
     subst Of (sym c.index_mut.ensures.value) (all-at Of c.args.passes.now.items c.args.line.pass c.index_mut.result.now below c.requires.each)
 
-pub offer-requires-clause-bidder : goal.offer-requires-clause-bidder
-offer-requires-clause-bidder g c = let e = ap (λ (t : Terms). t.bidders) c.requires.terms_are in record { at_least = omega arith; at_most = omega (arith, e) }
-
-pub offer-requires-clause-fits : goal.offer-requires-clause-fits
-offer-requires-clause-fits g c =
+pub offer-requires-clause-report : goal.offer-requires-clause-report
+offer-requires-clause-report g c =
+    let e = ap (λ (t : Terms). t.bidders) c.requires.terms_are in
     let Fits : Terms → Type 0 = λ t. IsDemand t.goods c.in-Ok.demand in
-    subst Fits (sym c.requires.terms_are) c.in-Ok.ensures.fits
+    (record { at_least = omega arith; at_most = omega (arith, e) }, subst Fits (sym c.requires.terms_are) c.in-Ok.ensures.fits)
 
 pub returns-in-Ok : goal.returns-in-Ok
 returns-in-Ok g c =

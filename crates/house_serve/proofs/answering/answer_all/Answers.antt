@@ -7,11 +7,6 @@ use Rattle.house_serve.proofs.answering.answer_all.Goals as goal
 pub answer_one-requires-clause-formed : goal.answer_one-requires-clause-formed
 answer_one-requires-clause-formed g c = sent_at c.args.frames.now c.loop-frame.frame-index c.frame-item.result c.requires.formed c.loop-frame-test.true c.frame-item.is
 
-pub answer_one-requires-clause-hall : goal.answer_one-requires-clause-hall
-answer_one-requires-clause-hall g c =
-    let s = c.loop-frame.invariant.stays in
-    (g.met.H.Hall.same_supply c.args.hall.now c.loop-frame.hall s ∙ c.requires.hall.0, g.met.H.Hall.same_bidders c.args.hall.now c.loop-frame.hall s ∙ c.requires.hall.1)
-
 pub returns-in-Some-clause-answers : goal.returns-in-Some-clause-answers
 returns-in-Some-clause-answers g c =
     let done = take c.loop-frame.frame-index c.args.frames.now in
@@ -37,8 +32,7 @@ loop-frame-preserved g c =
     (join g.H.Hall.allows c.args.auction.now done (f ∷ []) c.args.session.now c.loop-frame.session c.answer_one.new.session (g.H.Hall.meaning c.args.hall.now) (g.H.Hall.meaning c.loop-frame.hall) (g.H.Hall.meaning c.answer_one.new.hall) (g.L.Link.told c.args.link.now) (g.L.Link.told c.loop-frame.link) (g.L.Link.told c.answer_one.new.link) None c.loop-frame.invariant.answers c.in_default.ensures.answers) in
     record {
       answers = P;
-      known = c.answer_one.ensures.known;
-      order = c.answer_one.ensures.order;
+      seated = c.answer_one.ensures.seated;
       stays = g.met.H.Hall.stays_along c.args.hall.now c.loop-frame.hall c.answer_one.new.hall c.loop-frame.invariant.stays c.answer_one.ensures.stays;
       cause = c.in_default.ensures.cause ∙ c.loop-frame.invariant.cause;
     }
@@ -46,8 +40,7 @@ loop-frame-preserved g c =
 pub loop-frame-init : goal.loop-frame-init
 loop-frame-init g c = record {
   answers = start g.H.Hall.allows c.args.auction.now c.args.session.now (g.H.Hall.meaning c.args.hall.now) (g.L.Link.told c.args.link.now);
-  known = c.requires.bidder;
-  order = c.requires.order;
+  seated = c.requires.seated;
   stays = g.met.H.Hall.stays_still c.args.hall.now;
   cause = refl;
 }

@@ -12,8 +12,11 @@ pieces-init g c =
     record {
       underway = subst (λ (r : ReaderState). Underway g.H.Hall.allows c.args.auction.now (g.H.Hall.meaning c.args.hall.now) (g.H.Hall.meaning c.args.hall.now) c.new-session.result r 0 (g.L.Link.told c.args.link.now) (g.L.Link.told c.args.link.now)) (sym c.new-reader.ensures)
           (subst (λ (w : Option ℕ). Underway g.H.Hall.allows c.args.auction.now (g.H.Hall.meaning c.args.hall.now) (g.H.Hall.meaning c.args.hall.now) w fresh 0 (g.L.Link.told c.args.link.now) (g.L.Link.told c.args.link.now)) (sym c.new-session.ensures) (begun g.H.Hall.allows c.args.auction.now m t));
-      known = subst (IsBidder c.args.auction.now.terms.bidders) (sym c.new-session.ensures) tt;
-      order = c.requires.order;
+      seated = record {
+        bidder = subst (IsBidder c.args.auction.now.terms.bidders) (sym c.new-session.ensures) tt;
+        order = c.requires.order;
+        hall = c.requires.hall;
+      };
       stays = g.met.H.Hall.stays_still c.args.hall.now;
       cause = refl;
       small = omega arith;
@@ -31,8 +34,7 @@ pieces-preserved g c =
     record {
       underway = on g.H.Hall.allows c.args.auction.now (g.H.Hall.meaning c.args.hall.now) (g.H.Hall.meaning c.pieces.hall) c.pieces.session c.pieces.reader c.pieces.taken (g.L.Link.told c.args.link.now) (g.L.Link.told c.pieces.link) i.underway
           c.pull_once.new.reader c.pull_once.new.session (g.H.Hall.meaning c.pull_once.new.hall) (g.L.Link.told c.pull_once.new.link) (length c.pull_once.new.chunk) c.in-Went.count s;
-      known = c.pull_once.ensures.known;
-      order = c.pull_once.ensures.order;
+      seated = c.pull_once.ensures.seated;
       stays = g.met.H.Hall.stays_along c.args.hall.now c.pieces.hall c.pull_once.new.hall i.stays c.pull_once.ensures.stays;
       cause = c.in-Went.ensures.cause ∙ i.cause;
       small = (let fits : length c.pull_once.new.chunk ≤ c.min-room.result = search rules in omega arith);

@@ -5,15 +5,12 @@ use Rattle.session.specs.Table.{line_of}
 use Rattle.session.proofs.Answering.{says_on, says_who, turn_asked}
 use Rattle.session.proofs.sessions.Session.answer.Goals as goal
 
-pub returns-in-Says-clause-goes_on : goal.returns-in-Says-clause-goes_on
-returns-in-Says-clause-goes_on g c =
-    let seen = ap (λ (w : Option ℕ). line_of c.args.auction.now w c.args.frame.now) c.self.view_is in
-    says_on c.args.auction.now c.args.self.now c.args.frame.now c.in-Says.reply c.in-Says.goes_on (sym c.in-Says.is ∙ c.in-Ok.ensures.line ∙ seen)
-
-pub returns-in-Says-clause-bidder : goal.returns-in-Says-clause-bidder
-returns-in-Says-clause-bidder g c =
-    let seen = ap (λ (w : Option ℕ). line_of c.args.auction.now w c.args.frame.now) c.self.view_is in
-    c.greet.ensures ∙ says_who c.args.auction.now c.args.self.now c.args.frame.now c.in-Says.reply c.in-Says.goes_on (sym c.in-Says.is ∙ c.in-Ok.ensures.line ∙ seen)
+pub returns-in-Says-clause-goes : goal.returns-in-Says-clause-goes
+returns-in-Says-clause-goes g c =
+    let seen = ap (λ (w : Option ℕ). line_of c.args.auction.now w c.args.frame.now) c.self.view_is in (
+      says_on c.args.auction.now c.args.self.now c.args.frame.now c.in-Says.reply c.in-Says.goes_on (sym c.in-Says.is ∙ c.in-Ok.ensures.line ∙ seen),
+      c.greet.ensures ∙ says_who c.args.auction.now c.args.self.now c.args.frame.now c.in-Says.reply c.in-Says.goes_on (sym c.in-Says.is ∙ c.in-Ok.ensures.line ∙ seen),
+    )
 
 pub returns-in-Asks-Look-clause-turn : goal.returns-in-Asks-Look-clause-turn
 returns-in-Asks-Look-clause-turn g c =
