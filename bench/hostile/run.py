@@ -22,7 +22,7 @@ from bidders import NO_MEMORY, play
 
 HERE = Path(__file__).resolve().parent
 EXAMPLES = HERE.parent.parent / "examples"
-PORT = 47_411
+PORT = 27_411
 KINDS = ("memory", "files", "net")
 LINES = {1: (b"",), 4: (b"read fault\n",), 6: tuple(b"disk fault clock %d\n" % clock for clock in range(4)), 7: (b"net fault\n",)}
 STATUSES = {"memory": (1,), "files": (4, 5, 6), "net": (7,)}

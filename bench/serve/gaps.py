@@ -10,7 +10,8 @@ each fdatasync begins and ends; cc and rustc have to be there. Printed are the r
 100 one sync was all; the microseconds of a report from its first sync to its last and from there to the next report's first sync, in the middle
 and on the average; and the pairs that one thread alone makes, in a file that grows by them and in one that has their bytes, before the house and
 behind it. Of the averages those above a millisecond are left out, and told apart: they are spells in which the machine or its disk stood still.
-Each figure is the middle of the runs.
+Each figure is the middle of the runs. Below it stands for each run what share of the pairs the house had, and how many milliseconds the machine
+under this one took from its processors while the house ran, as /proc/stat tells it.
 """
 import argparse
 import os
@@ -56,18 +57,26 @@ def shape(micros):
     return statistics.median(short), statistics.mean(short), len(micros) - len(short)
 
 
+def stolen():
+    """How many milliseconds the machine under this one has taken from its processors."""
+    ticks = int(Path("/proc/stat").read_text().split(maxsplit=9)[8])
+    return ticks * 1_000 // os.sysconf("SC_CLK_TCK")
+
+
 def measure(program, bidder, syncs, folder, doors, seconds):
     shutil.rmtree(folder, ignore_errors=True)
     (folder / "journals").mkdir(parents=True)
     write_auction(folder / "auction.toml")
     alone, over = pairs(folder, 1, 1), pairs(folder, 1, 1, AHEAD)
     noted = {**os.environ, "LD_PRELOAD": str(syncs), "SYNCS": str(folder / "notes")}
+    taken = stolen()
     house = subprocess.Popen(house_words(program, doors), cwd=folder, stdout=subprocess.DEVNULL, env=noted)
     bidders = [
         subprocess.Popen([bidder, str(PORT), str(number), "1", str(seconds), str(int(doors > BIDDERS)), "0"], stdout=subprocess.PIPE, text=True)
         for number in range(1, BIDDERS + 1)
     ]
     rate = sum(int(process.communicate()[0].split()[0]) for process in bidders) / seconds
+    taken = stolen() - taken
     house.kill()
     house.wait()
     reports = reports_of(notes_of(folder / "notes"))
@@ -75,7 +84,7 @@ def measure(program, bidder, syncs, folder, doors, seconds):
     gaps = [(after - end) / 1_000 for (_, end, _), (after, _, _) in zip(reports, reports[1:])]
     ones = 100 * sum(count == 1 for _, _, count in reports) / len(reports)
     alone, over = (alone + pairs(folder, 1, 1)) / 2, (over + pairs(folder, 1, 1, AHEAD)) / 2
-    return rate, ones, *shape(own), *shape(gaps), alone, over
+    return rate, ones, *shape(own), *shape(gaps), alone, over, taken
 
 
 def main():
@@ -94,10 +103,10 @@ def main():
                 found[program].append(measure(str(Path(program).resolve()), bidder, syncs, folder, given.doors, given.seconds))
     print("reports/s, of 100 with one sync | its syncs us: middle average still | to the next us: middle average still | pairs alone/s, over zeros/s")
     for program, rows in found.items():
-        rate, ones, *parts, alone, over = (statistics.median(column) for column in zip(*rows))
+        rate, ones, *parts, alone, over, _ = (statistics.median(column) for column in zip(*rows))
         print(f"{rate:9.0f} {ones:3.0f} | {parts[0]:5.0f} {parts[1]:7.0f} {parts[2]:5.0f} | {parts[3]:5.0f} {parts[4]:7.0f} {parts[5]:5.0f} | {alone:7.0f} {over:7.0f}  {program}")
-        shares = sorted(row[0] / row[-2] for row in rows)
-        print(f"          of the pairs, run by run: {' '.join(f'{share:.2f}' for share in shares)}")
+        shares = sorted((row[0] / row[-3], row[-1]) for row in rows)
+        print(f"          of the pairs, and ms taken, run by run: {', '.join(f'{share:.2f} {taken}' for share, taken in shares)}")
     shutil.rmtree(folder, ignore_errors=True)
 
 

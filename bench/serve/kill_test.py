@@ -19,7 +19,7 @@ from pathlib import Path
 
 from load import AGAIN, BIDDERS, DISK_FAILED, REFUSED, TAKEN, Session, entries, journal, token_of, write_auction
 
-PORT = 47_321
+PORT = 27_321
 SHIM = Path(__file__).resolve().parent.parent / "hostile" / "failing_calls.c"
 
 # The calls on files of which one fails: opening takes fewer than the least.

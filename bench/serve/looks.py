@@ -16,7 +16,7 @@ from pathlib import Path
 
 from load import LOOK, Session, write_auction
 
-PORT = 47_324
+PORT = 27_324
 PIECE = 10_000
 
 

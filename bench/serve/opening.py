@@ -16,7 +16,7 @@ from pathlib import Path
 
 from load import BIDDERS, Session, write_auction
 
-PORT = 47_323
+PORT = 27_323
 LARGEST = (3, 3, 3, 3, 3, 1)
 
 
