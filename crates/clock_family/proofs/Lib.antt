@@ -1,5 +1,6 @@
 pub mod Offering
 pub mod Turning
+pub mod Glancing
 pub mod Passing
 pub mod Unused
 pub mod Places

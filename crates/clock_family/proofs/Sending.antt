@@ -13,6 +13,8 @@ use Rattle.clock_family.specs.contracts.closing.Closing.TheInside as inside_clos
 use Rattle.clock_family.specs.contracts.houses.House as house
 use Rattle.clock_family.specs.contracts.houses.House.TheInside as inside_house
 use Rattle.clock_family.specs.contracts.houses.HousePass as house_pass
+use Rattle.clock_family.specs.contracts.passes.ClockPass as clock_pass
+use Rattle.clock_family.specs.contracts.passes.ClockPass.TheInside as inside_clock_pass
 use Rattle.clock_family.specs.contracts.houses.HousePass.TheInside as inside_pass
 use Rattle.clock_family.specs.contracts.house_books.HouseBookBook.TheImpl as impl
 use Rattle.http_server.proofs.log.Log.TheSendSync as logs
@@ -54,8 +56,13 @@ house-sync D G s =
     let T = inside_house.the_type D G in
     view_sync _ _ _ _ _ (recorded_sync _ _ _ T.to_one (struct_sync (shape T) (search (sendable, crosses) depth 40, (search (sendable, crosses) depth 40, (Vec-sync _ (desk-sync D G s), tt)))))
 
+clock_pass-send : (D : RattleType) (G : Ghosts D.Denot) → IsSend D → IsSend (clock_pass.the_row D G)
+clock_pass-send D G s =
+    let T = inside_clock_pass.the_type D G in
+    view_send _ _ _ _ _ (recorded_send _ _ _ T.to_one (struct_send (shape T) (pass-send D G s, (search (sendable, crosses) depth 40, tt))))
+
 pub house_pass-send : (D : RattleType) (G : Ghosts D.Denot) → IsSend D → IsSend (house_pass.the_row D G)
 house_pass-send D G s =
     let T = inside_pass.the_type D G in
     let c = closing-send D G s in
-    view_send _ _ _ _ _ (recorded_send _ _ _ T.to_one (struct_send (shape T) (Vec-send _ (pass-send D G s), (search (sendable, crosses) depth 40, tt))))
+    view_send _ _ _ _ _ (recorded_send _ _ _ T.to_one (struct_send (shape T) (Vec-send _ (clock_pass-send D G s), (search (sendable, crosses) depth 40, tt))))

@@ -1,4 +1,5 @@
 pub mod Turns
+pub mod Glances
 pub mod Seats
 pub mod Opening
 pub mod Houses

@@ -14,16 +14,17 @@ use crate::closing::Closing;
 use crate::house_books::HouseBook;
 use crate::houses::HousePass;
 use crate::laid::Laid;
+use crate::passes::ClockPass;
 use house_io::Disk;
 use std::alloc::{AllocError, Global};
 use turn_desk::{Desk, Pass};
 
-/// So many empty lists of passes, each with room for so many.
-fn reserve_lists<D: Disk>(
+/// So many empty lists, each with room for so many.
+fn reserve_lists<P: Drop>(
     alloc: Global,
     count: usize,
     room: usize,
-) -> Result<Vec<Vec<Pass<HouseBook<D>>>>, AllocError>
+) -> Result<Vec<Vec<P>>, AllocError>
     ensures count { IfOk result (λ lists. length lists.items ≡ count) }
     ensures spare { IfOk result (λ lists. AllByRecursion (IsSpare room) lists.items) }
 {
@@ -39,7 +40,7 @@ fn reserve_lists<D: Disk>(
 /// What opening a house fills.
 pub(crate) struct Tray<D: Disk> {
     /// For each pass of the house an empty list, with room for a pass of each desk.
-    pub(crate) rows: Vec<Vec<Pass<HouseBook<D>>>>,
+    pub(crate) rows: Vec<Vec<ClockPass<D>>>,
     /// An empty list, with room for a desk of each clock.
     pub(crate) desks: Vec<Desk<HouseBook<D>>>,
     /// An empty list, with room for each pass of the house.
@@ -79,7 +80,7 @@ pub(crate) fn reserve<D: Disk>(
 /// Puts one more pass behind each row, in order.
 fn deal_column<D: Disk>(
     mut passes: Vec<Pass<HouseBook<D>>>,
-    rows: &mut Vec<Vec<Pass<HouseBook<D>>>>,
+    rows: &mut Vec<Vec<ClockPass<D>>>,
     clock: usize,
     clocks: usize,
 )
@@ -91,7 +92,7 @@ fn deal_column<D: Disk>(
     ensures room { AllByRecursion (IsRoomy clocks) rows.new.items }
 {
     while let Some(pass) = passes.pop() {
-        rows[passes.len()].push_reserved(pass);
+        rows[passes.len()].push_reserved(ClockPass::new(pass));
     }
     passes.destroy_empty();
 }
@@ -99,7 +100,7 @@ fn deal_column<D: Disk>(
 /// Deals the passes of all desks out, and gives the desks.
 pub(crate) fn deal<D: Disk>(
     mut laid: Vec<Laid<D>>,
-    rows: &mut Vec<Vec<Pass<HouseBook<D>>>>,
+    rows: &mut Vec<Vec<ClockPass<D>>>,
     mut desks: Vec<Desk<HouseBook<D>>>,
 ) -> Vec<Desk<HouseBook<D>>>
     requires passes { AllByRecursion (λ (l : LaidOf D). length l.passes ≡ length rows.old.items) laid.items }
@@ -124,7 +125,7 @@ pub(crate) fn deal<D: Disk>(
 
 /// The passes of a house, of these rows, the first of which closes it.
 pub(crate) fn gather<D: Disk>(
-    rows: Vec<Vec<Pass<HouseBook<D>>>>,
+    rows: Vec<Vec<ClockPass<D>>>,
     mut passes: Vec<HousePass<D>>,
     closing: Closing<D>,
 ) -> Vec<HousePass<D>>

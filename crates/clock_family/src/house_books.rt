@@ -7,11 +7,13 @@ ghost use Rattle.clock.specs.declared.judging.Offered.TheVariants.{DiskFault};
 ghost use Rattle.clock_book.specs.Past.{owner_in};
 ghost use Rattle.turn_desk.specs.Histories.{GoesOn};
 ghost use Rattle.clock_family.specs.Turns.{IsHistoryOffer, Shows, clock_in};
+ghost use Rattle.clock_family.specs.Glances.{gauge_by};
 
 use clock::{Look, Offered};
 use clock_book::{ClockBook, Entry, Origin};
 use demand_set::Demand;
 use house_io::Disk;
+use lot_base::Phase;
 use report_journal::Hint;
 use std::alloc::Global;
 use std::marker::Model;
@@ -33,6 +35,8 @@ impl<D: Disk> Model for HouseBook<D> {
 }
 
 impl<D: Disk> Book for HouseBook<D> {
+    ghost use Rattle.clock_family.specs.Glances.{gauge_in};
+
     type Entry = Entry;
 
     type Origin = Origin;
@@ -43,6 +47,12 @@ impl<D: Disk> Book for HouseBook<D> {
 
     fn length(&self) -> u64 {
         self.boxed.length()
+    }
+
+    ghost gauge = { gauge_in };
+
+    fn gauge(&self) -> u64 {
+        gauge_by(&self.look())
     }
 }
 
@@ -65,6 +75,17 @@ impl<D: Disk> HouseBook<D> {
         let HouseBook { boxed } = self;
         Box::into_inner(boxed)
     }
+}
+
+/// The number of a round, by what is shown of it: twice its place, and one more where it is the last.
+pub(crate) fn gauge_by(look: &Look) -> u64
+    ensures { result ≡ gauge_by look.now.round look.now.phase }
+{
+    let stopped = match look.phase {
+        Phase::Running => 0,
+        Phase::Ended | Phase::Halted(_) => 1,
+    };
+    2 * u64::from(look.round) + stopped
 }
 
 impl<D: Disk> HouseBook<D> {

@@ -13,6 +13,7 @@ use crate::columns::close_all;
 use crate::dealing::{Tray, deal, gather, reserve};
 use crate::house_books::HouseBook;
 use crate::opening::{NotOpen, lay_all};
+use crate::passes::ClockPass;
 use crate::turns::{look_on, offer_on};
 use auction_file::Auction;
 use clock::{Look, Offered};
@@ -49,7 +50,7 @@ impl<D: Disk> Model for House<D> {
 /// A pass for each desk of a house, in the order of the clocks.
 pub struct HousePass<D: Disk> {
     /// At the number of a clock, the pass of its desk, until the house is closed.
-    pub(crate) passes: Vec<Pass<HouseBook<D>>>,
+    pub(crate) passes: Vec<ClockPass<D>>,
     /// What closing the house takes, in its first pass alone: a house is shared by threads, and a list of passes is not.
     pub(crate) closing: Option<Closing<D>>,
 }
@@ -80,7 +81,7 @@ impl<D: Disk> HousePass<D> {
         requires some { 0 < length self.old.passes }
         ensures passes { self.old.passes ≡ self.new.passes ++ result ∷ [] }
     {
-        self.passes.pop().unwrap()
+        self.passes.pop().unwrap().into_pass()
     }
 
     /// Keeps what closing the house takes.
@@ -149,7 +150,8 @@ impl<D: Disk> House<D> {
         }
     }
 
-    /// Waits for the turn at a clock's desk, and looks at the clock. Takes no memory.
+    /// Looks at a clock: at once where this is the first look behind an offer by this pass and the clock has made no step since, else in
+    /// a turn at the clock's desk, for which it waits. Takes no memory.
     pub fn look<T: Wait>(&self, rt: &T, pass: &mut HousePass<D>, clock: u8) -> Look
         requires clock { clock ≤ self.now.terms.bidders }
         requires of_house { AreOf self.now.terms self.now.digest self.now.desks pass.old.passes }

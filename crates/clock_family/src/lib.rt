@@ -9,6 +9,7 @@ pub mod house_books;
 pub mod houses;
 mod laid;
 pub mod opening;
+mod passes;
 pub mod seats;
 mod shared;
 mod turns;

@@ -1,21 +1,23 @@
 //! Turns at a desk with a clock book.
-ghost use Rattle.std.specs.Prelude.{◌≡◌, ◌<◌, ℕ, length, None};
+ghost use Rattle.std.specs.Prelude.{◌≡◌, ◌<◌, ℕ, length, None, IfSome};
 ghost use Rattle.lot_base.specs.Demands.{IsDemand};
 ghost use Rattle.lot_base.specs.Goods.{IsRange};
 ghost use Rattle.session.specs.Asking.{IsOffered};
 ghost use Rattle.lot_base.specs.declared.phases.Phase.TheVariants.{Halted};
 ghost use Rattle.recovery.specs.Journaled.{owner_of};
 ghost use Rattle.clock_family.specs.Turns.{PassOffers, PassLooks, IsOf};
+ghost use Rattle.clock_family.specs.Glances.{IsShownTo, SeesOn};
 
 use crate::hints::{NoteBehind, leave_payload};
-use crate::house_books::HouseBook;
+use crate::house_books::{HouseBook, gauge_by};
+use crate::passes::ClockPass;
 use clock::{Look, Offered};
 use demand_set::Demand;
 use house_io::Disk;
 use lot_base::Terms;
 use std::alloc::Global;
 use std::sync::Wait;
-use turn_desk::{Desk, Pass};
+use turn_desk::Desk;
 
 /// Waits for the turn, and offers a report. Before it waits it leaves the report's payload in a note, for who has the turn before, and in its
 /// turn it hints at the note of who waits behind it.
@@ -23,7 +25,7 @@ pub(crate) fn offer_on<T: Wait, D: Disk>(
     rt: &T,
     alloc: Global,
     desk: &Desk<HouseBook<D>>,
-    pass: &mut Pass<HouseBook<D>>,
+    pass: &mut ClockPass<D>,
     terms: &Terms,
     clock: u8,
     digest: &[u8; 32],
@@ -40,17 +42,35 @@ pub(crate) fn offer_on<T: Wait, D: Disk>(
     ensures refusal { IsOffered (bidder ≡ clock) result }
 {
     let number = leave_payload(desk, terms, bidder, round, &demand);
-    let mut book = desk.take(rt, pass);
+    let mut book = desk.take(rt, &mut pass.pass);
     let answer = book.offer(alloc, bidder, round, demand, &NoteBehind { desk, number });
-    desk.give(pass, book);
+    let look = book.look();
+    desk.give(&mut pass.pass, book);
+    pass.shown = Some(look);
     answer
 }
 
-/// Waits for the turn, and looks at the clock.
+/// What the clock shows, where it stands as the last offer by this pass left it, without a turn. Of an offer one such look is made: who
+/// looks again waits in line, so that bidders who wait for the others do not crowd out their reports.
+fn glance_on<D: Disk>(desk: &Desk<HouseBook<D>>, pass: &mut ClockPass<D>) -> Option<Look>
+    requires desk { pass.old.desk ≡ desk.now.id }
+    requires rests { pass.old.turn ≡ None }
+    ensures looks { IfSome result (λ look. PassLooks look pass.old pass.new) }
+    ensures shown { IfSome result (IsShownTo pass.new) }
+    ensures sees { result ≡ None → SeesOn pass.old pass.new }
+{
+    let look = pass.shown.take()?;
+    if desk.glance(&mut pass.pass) != gauge_by(&look) {
+        return None;
+    }
+    Some(look)
+}
+
+/// Looks at the clock: at once where one glance tells how it stands, else in a turn, for which it waits.
 pub(crate) fn look_on<T: Wait, D: Disk>(
     rt: &T,
     desk: &Desk<HouseBook<D>>,
-    pass: &mut Pass<HouseBook<D>>,
+    pass: &mut ClockPass<D>,
     terms: &Terms,
     clock: u8,
     digest: &[u8; 32],
@@ -63,8 +83,12 @@ pub(crate) fn look_on<T: Wait, D: Disk>(
     ensures goods { length result.prices ≡ length terms.now.goods }
     ensures halted { (good : ℕ) → result.phase ≡ Halted good → good < length terms.now.goods }
 {
-    let book = desk.take(rt, pass);
+    if let Some(look) = glance_on(desk, pass) {
+        return look;
+    }
+    pass.shown = None;
+    let book = desk.take(rt, &mut pass.pass);
     let look = book.look();
-    desk.give(pass, book);
+    desk.give(&mut pass.pass, book);
     look
 }

@@ -3,6 +3,7 @@ pub mod Stages
 pub mod Crews
 pub mod Tickets
 pub mod Entries
+pub mod Gauges
 pub mod Seats
 pub mod Endings
 pub mod Growth

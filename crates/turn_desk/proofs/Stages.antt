@@ -1,5 +1,5 @@
 -- What a stage says of its seat, and what stays true of a history that goes on.
-use Rattle.std.proofs.Common.{◌≡◌, ◌≢◌, ℕ, ◌+◌, ◌%◌, ◌^◌, ◌≤◌, List, [], ◌∷◌, ◌++◌, set, refl, sym, ap, subst, ◌∙◌, arith, Bool, true, false, ⊎_elim, append_assoc, append-nil}
+use Rattle.std.proofs.Common.{◌≡◌, ◌≢◌, ℕ, ◌+◌, ◌%◌, ◌^◌, ◌≤◌, List, [], ◌∷◌, ◌++◌, length, set, refl, sym, ap, subst, ◌∙◌, arith, Bool, true, false, ⊎_elim, append_assoc, append-nil, length-append}
 use Rattle.std.proofs.lemmas.Bool.Decides.{nat_tests}
 use Rattle.std.specs.Prelude.{◌==◌}
 use mathlib.Core.Option.{some}
@@ -60,12 +60,26 @@ module _ {E : Type 0} where
   pub starts_whole : (history : List E) → StartsWith history history
   starts_whole history = ([], sym (append-nil history))
 
+  -- what is a front of a front is one of the whole
+  pub starts_in : (history front seen : List E) → StartsWith history front → StartsWith front seen → StartsWith history seen
+  starts_in history front seen s t = (t.0 ++ s.0, s.1 ∙ (ap (λ (z : List E). z ++ s.0) t.1 ∙ append_assoc seen t.0 s.0))
+
+  pub starts_all_in : (history front : List E) (xs : List (List E)) → StartsWith history front → StartsWithAll front xs → StartsWithAll history xs
+  starts_all_in history front [] s t = tt
+  starts_all_in history front (x ∷ xs) s t = (starts_in history front x s t.0, starts_all_in history front xs s t.1)
+
+  no_rest : (xs : List E) → length xs ≡ 0 → xs ≡ []
+  no_rest [] h = refl
+  no_rest (x ∷ xs) h = absurd (omega arith)
+
+  -- two histories of which each is a front of the other
+  pub starts_both : (history front : List E) → StartsWith history front → StartsWith front history → front ≡ history
+  starts_both history front s t =
+      let a = ap length s.1 in let b = length-append front s.0 in let c = ap length t.1 in let d = length-append history t.0 in
+      sym (s.1 ∙ (ap (λ (z : List E). front ++ z) (no_rest s.0 (omega arith)) ∙ append-nil front))
+
   pub starts_more : (history more : List E) (seen : List E) → StartsWith history seen → StartsWith (history ++ more) seen
   starts_more history more seen s = (s.0 ++ more, ap (λ (z : List E). z ++ more) s.1 ∙ append_assoc seen s.0 more)
-
-  pub starts_all_more : (history more : List E) (xs : List (List E)) → StartsWithAll history xs → StartsWithAll (history ++ more) xs
-  starts_all_more history more [] s = tt
-  starts_all_more history more (x ∷ xs) s = (starts_more history more x s.0, starts_all_more history more xs s.1)
 
   pub starts_all_append : (history : List E) (xs ys : List (List E)) → StartsWithAll history xs → StartsWithAll history ys → StartsWithAll history (xs ++ ys)
   starts_all_append history [] ys s t = t

@@ -54,6 +54,15 @@ module _ {E O : Type 0} where
   abbrev pub after_giving : Known E O → List E → Known E O
   after_giving p history = let before = unwrap_or p.turn [] in record p { turn = None; seen = history; own = p.own ++ placed (length before) (drop (length before) history) }
 
+  -- A glance by a pass: it tells the gauge of a history that begins with what the pass has seen. Afterwards it has seen this history.
+  pub record PassGlances (gauge : O → List E → ℕ) (p : Known E O) (found : ℕ) (p' : Known E O) : Type 0 where
+    pub origin : O
+    pub origin_is : p.origin ≡ Some origin
+    pub history : List E
+    pub goes_on : StartsWith history p.seen
+    pub gauge_is : found ≡ gauge origin history
+    pub sees : p' ≡ record p { seen = history }
+
   -- a new pass, which rests: the first of n is `new_pass desk history origin n 0`
   abbrev pub new_pass : TableId → List E → O → ℕ → ℕ → Known E O
   new_pass desk history origin made number = record { desk = desk; number = number; origin = Some origin; start = length history; seen = history; own = []; turn = None; made = made }

@@ -1,5 +1,6 @@
 -- The rule of the desk: what holds of its words, its slot and all views between any two steps.
--- Word 0 is the next ticket, word 1 the ticket that is served, word 2 the number of entries, each modulo 2^64.
+-- Word 0 is the next ticket, word 1 the ticket that is served, word 2 the number of entries, each modulo 2^64. Word 3 is the gauge of the
+-- history that is shown: at the end of a turn that is the whole of it, and so it stays until the end of the next.
 -- The slot has the book, or is out with the seat whose turn it is.
 -- `KeepsRule` is what every step keeps. `AtHome` says in plain words what it comes to while the book lies on the desk, and `InTurn`
 -- while a seat has it.
@@ -26,11 +27,11 @@ FitsTurn serving history (Waits n) = Unit {0}
 FitsTurn serving history (Holds n before more) = (n ≡ serving) × (before ++ more ≡ history)
 
 module _ {E O : Type 0} where
-  -- what a view knows of the ticket that is served, of the history, and of the origin and the length at the start
-  pub record Fits (serving : ℕ) (history : List E) (origin : O) (start : ℕ) (v : View E O) : Type 0 where
+  -- what a view knows of the ticket that is served, of the history and how far it is shown, and of the origin and the length at the start
+  pub record Fits (serving : ℕ) (history shown : List E) (origin : O) (start : ℕ) (v : View E O) : Type 0 where
     pub turn_is : FitsTurn serving history v.stage
-    pub seen : StartsWith history v.seen
-    pub also : StartsWithAll history v.also
+    pub seen : StartsWith shown v.seen
+    pub also : StartsWithAll shown v.also
     pub own : StandIn history v.own
     pub origin_is : 0 < v.seats → v.origin ≡ Some origin
     pub start_is : 0 < v.seats → v.start ≡ start
@@ -50,24 +51,28 @@ module _ {E O : Type 0} where
     pub numbers : (n : ℕ) → total (numbered n) views ≤ one_if (ltb n (total (λ (v : View E O). v.made) views))
     pub few : total (λ (v : View E O). v.made) views ≤ 64
 
-module _ {B E O : Type 0} (history : B → List E) (origin : B → O) (first : B) where
+module _ {B E O : Type 0} (history : B → List E) (origin : B → O) (gauge : O → List E → ℕ) (first : B) where
   -- what every step keeps, of a desk that was opened with the book `first`
   pub record KeepsRule (s : State (Option B) (View E O)) : Type 0 where
     pub ticket : ℕ
     pub serving : ℕ
     pub log : List E
+    pub shown : List E
     pub out : Bool
     pub book : B
-    pub words_are : s.words ≡ ticket % 2 ^ 64 ∷ serving % 2 ^ 64 ∷ length log % 2 ^ 64 ∷ []
+    pub words_are : s.words ≡ ticket % 2 ^ 64 ∷ serving % 2 ^ 64 ∷ length log % 2 ^ 64 ∷ gauge (origin first) shown ∷ []
     pub homes_are : s.homes ≡ home out book ∷ []
     pub book_is : out ≡ false → (history book ≡ log) × (origin book ≡ origin first)
     pub goes_on : StartsWith log (history first)
+    pub shown_in : StartsWith log shown
+    pub settled : out ≡ false → shown ≡ log
     pub holders : total (λ (v : View E O). holding v.stage) s.views ≡ one_if out
-    pub each : (j : ℕ) (v : View E O) → get_elem? s.views j ≡ some v → Fits serving log (origin first) (length (history first)) v
+    pub each : (j : ℕ) (v : View E O) → get_elem? s.views j ≡ some v → Fits serving log shown (origin first) (length (history first)) v
     pub places : (k : ℕ) → total (λ (v : View E O). times_at k v.own) s.views ≡ between (length (history first)) (length log) k
     pub queue : IsQueue serving ticket s.views
     pub crew : IsCrew s.views
 
+module _ {B E O : Type 0} (history : B → List E) (origin : B → O) (first : B) where
   -- what tells views apart, whether the book is out or not
   pub record AreApart (views : List (View E O)) : Type 0 where
     -- views that are not spent have different numbers, the first book's origin, and the length of its history
@@ -77,10 +82,13 @@ module _ {B E O : Type 0} (history : B → List E) (origin : B → O) (first : B
     -- one view at most keeps how many were made
     pub maker : (i j : ℕ) (v w : View E O) → get_elem? views i ≡ some v → get_elem? views j ≡ some w → 0 < v.made → 0 < w.made → i ≡ j
 
+module _ {B E O : Type 0} (history : B → List E) (origin : B → O) (gauge : O → List E → ℕ) (first : B) where
   -- what is so while the book lies on the desk
   pub record AtHome (book : B) (s : State (Option B) (View E O)) : Type 0 where
     -- the count is that of the book's history, which goes on from the first book's, and the origin is the first book's
     pub count : slice_index s.words 2 ≡ length (history book) % 2 ^ 64
+    -- and so is the gauge
+    pub gauge_is : slice_index s.words 3 ≡ gauge (origin first) (history book)
     pub goes_on : StartsWith (history book) (history first)
     pub origin_is : origin book ≡ origin first
     -- the history begins with what each view has seen, or took over from views that it joined, and has each view's own entries at
@@ -90,7 +98,7 @@ module _ {B E O : Type 0} (history : B → List E) (origin : B → O) (first : B
     pub own : (j : ℕ) (v : View E O) → get_elem? s.views j ≡ some v → StandIn (history book) v.own
     -- each place beyond the first book's history is the own place of exactly one view, and no other place is
     pub places : (k : ℕ) → total (λ (v : View E O). times_at k v.own) s.views ≡ between (length (history first)) (length (history book)) k
-    pub apart : AreApart s.views
+    pub apart : AreApart history origin first s.views
     -- the next ticket is the one that is served and the number of views that wait, since none holds the turn
     pub queue : slice_index s.words 0 ≡ (slice_index s.words 1 + total (λ (v : View E O). active v.stage) s.views) % 2 ^ 64
     pub holders : total (λ (v : View E O). holding v.stage) s.views ≡ 0
@@ -103,11 +111,15 @@ module _ {B E O : Type 0} (history : B → List E) (origin : B → O) (first : B
     pub alone : (j : ℕ) (v : View E O) → j ≢ place → get_elem? s.views j ≡ some v → holding v.stage ≡ 0
     -- the count is that of the history that it has reached, which begins with what each view has seen and has each view's own entries
     pub count : slice_index s.words 2 ≡ length (reached w.stage) % 2 ^ 64
+    -- the gauge is that of a front of it
+    pub shown : List E
+    pub shown_in : StartsWith (reached w.stage) shown
+    pub gauge_is : slice_index s.words 3 ≡ gauge (origin first) shown
     pub goes_on : StartsWith (reached w.stage) (history first)
     pub seen : (j : ℕ) (v : View E O) → get_elem? s.views j ≡ some v → StartsWith (reached w.stage) v.seen
     pub also : (j : ℕ) (v : View E O) → get_elem? s.views j ≡ some v → StartsWithAll (reached w.stage) v.also
     pub own : (j : ℕ) (v : View E O) → get_elem? s.views j ≡ some v → StandIn (reached w.stage) v.own
     pub places : (k : ℕ) → total (λ (v : View E O). times_at k v.own) s.views ≡ between (length (history first)) (length (reached w.stage)) k
-    pub apart : AreApart s.views
+    pub apart : AreApart history origin first s.views
     -- the next ticket is the one that is served and the number of views that wait or have the turn
     pub queue : slice_index s.words 0 ≡ (slice_index s.words 1 + total (λ (v : View E O). active v.stage) s.views) % 2 ^ 64

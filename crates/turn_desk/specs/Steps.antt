@@ -1,6 +1,6 @@
 -- The steps of the desk: what each tells the seat that takes it, of the view before and the view after.
--- There are eight kinds: draw a ticket, read which is served, take the book out, append one entry, put the book back, pass on,
--- split a seat, join a seat. Taking out and putting back change the slot in the holder's hands, and no view.
+-- There are ten kinds: draw a ticket, read which is served, take the book out, append one entry, put the book back, write the gauge, pass on,
+-- read the gauge, split a seat, join a seat. Taking out and putting back change the slot in the holder's hands, and no view.
 use Rattle.std.specs.Prelude.{◌≡◌, ◌≢◌, ℕ, ◌+◌, ◌%◌, ◌^◌, List, [], ◌∷◌, ◌++◌, length, drop, Option, Some, None}
 use Rattle.atomic_table.specs.Table.{Me, Step, rest}
 use Rattle.turn_desk.specs.declared.view.Stage.TheVariants.{Rests, Waits, Holds}
@@ -23,9 +23,22 @@ module _ {E O : Type 0} where
   abbrev pub DrawsTicket : View E O → ℕ → View E O → Type 0
   DrawsTicket v found w = (n : ℕ) × (found ≡ n % 2 ^ 64) × (w ≡ posed v (Waits n))
 
-  -- the view one entry on: the entry is seen, and is its own, with its place
+  -- the view one entry on: the entry is reached, and is its own, with its place
   abbrev pub grown : View E O → E → View E O
-  grown v e = record v { stage = Holds (ticket_of v.stage) (began v.stage) (added v.stage ++ e ∷ []); seen = reached v.stage ++ e ∷ []; own = v.own ++ (length (reached v.stage), e) ∷ [] }
+  grown v e = record v { stage = Holds (ticket_of v.stage) (began v.stage) (added v.stage ++ e ∷ []); own = v.own ++ (length (reached v.stage), e) ∷ [] }
+
+  -- the view that has seen what it has reached, which it shows to all
+  abbrev pub shown_to : View E O → View E O
+  shown_to v = record v { seen = reached v.stage }
+
+  -- a glance at a history that begins with what was seen, and then all of it is
+  pub record Glances (gauge : O → List E → ℕ) (v : View E O) (found : ℕ) (w : View E O) : Type 0 where
+    pub origin : O
+    pub origin_is : v.origin ≡ Some origin
+    pub history : List E
+    pub goes_on : StartsWith history v.seen
+    pub gauge_is : found ≡ gauge origin history
+    pub sees : w ≡ record v { seen = history }
 
   -- the view after its turn
   abbrev pub rested : View E O → View E O
@@ -71,6 +84,12 @@ module _ {B E O : Type 0} where
   -- the next entry of the book in hand becomes the view's own
   abbrev pub appended : (B → List E) → Step (Option B) → Seated B E O → ℕ → Seated B E O → Type 0
   appended history st m found m' = (e : E) × StartsWith (in_hand history m.1) (reached m.0.stage ++ e ∷ []) × (m' ≡ (grown m.0 e, m.1))
+
+  abbrev pub told : Step (Option B) → Seated B E O → ℕ → Seated B E O → Type 0
+  told st m stored m' = m' ≡ (shown_to m.0, m.1)
+
+  abbrev pub glanced : (O → List E → ℕ) → Step (Option B) → Seated B E O → ℕ → Seated B E O → Type 0
+  glanced gauge st m found m' = Glances gauge m.0 found m'.0 × (m'.1 ≡ m.1)
 
   abbrev pub passed : Step (Option B) → Seated B E O → ℕ → Seated B E O → Type 0
   passed st m found m' = m' ≡ (rested m.0, rest m.1)

@@ -1,4 +1,4 @@
-//! The table of a desk: three words and the slot of the book. It opens with one seat, and closes with one that stands for all.
+//! The table of a desk: four words and the slot of the book. It opens with one seat, and closes with one that stands for all.
 ghost use Rattle.std.specs.Prelude.{◌≡◌, List, [], ◌∷◌, IfOk, IfErr, ◌<◌};
 ghost use Rattle.turn_desk.specs.Views.{founder};
 ghost use Rattle.turn_desk.specs.Steps.{Ends};
@@ -22,21 +22,24 @@ pub(crate) const SERVING: usize = 1;
 /// The word of the number of entries.
 pub(crate) const COUNT: usize = 2;
 
+/// The word of the gauge.
+pub(crate) const GAUGE: usize = 3;
+
 /// The slot of the book.
 pub(crate) const BOOK: usize = 0;
 
 /// A seat at the table, with the view of the desk that it has.
 pub type Place<B> = Seat<Option<B>, View<<B as Book>::Entry, <B as Book>::Origin>>;
 
-/// The table of a desk, with its three words and its one slot.
+/// The table of a desk, with its four words and its one slot.
 pub(crate) struct Board<B: Book> {
-    /// Its words: the next ticket, the one that is served and the number of entries. Its slot: the book, None while a turn has it.
+    /// Its words: the next ticket, the one that is served, the number of entries, the gauge. Its slot: the book, None while a turn has it.
     pub(crate) table: Table<Option<B>, View<B::Entry, B::Origin>, Snapshot<B>, Turns<B>, Global>,
     /// Where threads sleep until their turn comes. No clause speaks of it.
     pub(crate) bells: Bells,
     /// What threads that are about to wait leave. No clause speaks of it.
     pub(crate) notes: Notes,
-    ghost sized: { (table.shared.table_id.words ≡ 3) × (table.shared.table_id.slots ≡ 1) },
+    ghost sized: { (table.shared.table_id.words ≡ 4) × (table.shared.table_id.slots ≡ 1) },
 }
 
 impl<B: Book> Board<B> {
@@ -48,12 +51,13 @@ impl<B: Book> Board<B> {
     {
         let about = Snapshot::of(&book);
         let count = book.length();
+        let gauge = book.gauge();
         let mut slots = Vec::new(alloc);
         if let Err(failed) = slots.push(Some(book)) {
             slots.destroy_empty();
             return Err(failed.value.unwrap());
         }
-        match Table::new(alloc, &[0, 0, count], slots, &about) {
+        match Table::new(alloc, &[0, 0, count, gauge], slots, &about) {
             Ok((table, seat)) => {
                 let bells = Bells::new();
                 let notes = Notes::new();

@@ -4,7 +4,7 @@ ghost use Rattle.turn_desk.specs.declared.view.Stage.TheVariants.{Rests};
 ghost use Rattle.turn_desk.specs.declared.notes.TheConstants.{LONGEST_NOTE};
 ghost use Rattle.turn_desk.specs.Histories.{StartsWith, GoesOn};
 ghost use Rattle.turn_desk.specs.Views.{hands_of};
-ghost use Rattle.turn_desk.specs.Passes.{known, AreNew, AreAll, Gathers, Closes, at_turn, after_giving};
+ghost use Rattle.turn_desk.specs.Passes.{known, AreNew, AreAll, Gathers, Closes, PassGlances, at_turn, after_giving};
 
 use crate::board::{Board, Place};
 use crate::book::Book;
@@ -141,6 +141,15 @@ impl<B: Book> Desk<B> {
         let more = book.length().wrapping_sub(pass.count);
         self.board.leave(&mut pass.seat, book, more);
         pass.count = 0;
+    }
+
+    /// Reads the gauge of the history as it is at this moment, without a turn: what a pass appends counts from the end of its turn on.
+    pub fn glance(&self, pass: &mut Pass<B>) -> u64
+        requires desk { pass.old.desk ≡ self.now.id }
+        requires rests { pass.old.turn ≡ None }
+        ensures { PassGlances B.gauge pass.old result pass.new }
+    {
+        self.board.glance(&mut pass.seat)
     }
 
     /// Leaves a note of the first `length` of these bytes, for who has the turn before the one that this thread is about to wait for, and

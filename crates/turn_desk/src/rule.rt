@@ -14,7 +14,7 @@ impl<B: Book> TableRule<Option<B>, View<B::Entry, B::Origin>, Snapshot<B>> for T
     ghost use Rattle.turn_desk.specs.Rule.{KeepsRule};
     ghost use Rattle.turn_desk.specs.Views.{founder};
 
-    ghost holds = { λ key. KeepsRule B.history B.origin key.value };
+    ghost holds = { λ key. KeepsRule B.history B.origin B.gauge key.value };
 
     ghost first = { λ key. founder (B.history key.value) (B.origin key.value) };
 }
@@ -48,6 +48,26 @@ impl<B: Book> Play<Option<B>, View<B::Entry, B::Origin>> for Append<B> {
     ghost use Rattle.turn_desk.specs.Steps.{appended};
 
     ghost then = { appended B.history };
+}
+
+/// The gauge of the book in hand is written, and the history that it has reached is shown.
+pub struct Tell;
+
+impl<B, E, O> Play<Option<B>, View<E, O>> for Tell {
+    ghost use Rattle.turn_desk.specs.Steps.{told};
+
+    ghost then = { told };
+}
+
+/// The gauge is read without a turn.
+pub struct Glance<B> {
+    book: PhantomData<B>,
+}
+
+impl<B: Book> Play<Option<B>, View<B::Entry, B::Origin>> for Glance<B> {
+    ghost use Rattle.turn_desk.specs.Steps.{glanced};
+
+    ghost then = { glanced B.gauge };
 }
 
 /// The turn passes on.

@@ -3,11 +3,11 @@ ghost use Rattle.std.specs.Prelude.{◌≡◌, ◌≢◌, ℕ, ◌%◌, ◌^◌,
 ghost use Rattle.turn_desk.specs.declared.view.Stage.TheVariants.{Rests, Waits};
 ghost use Rattle.turn_desk.specs.Histories.{StartsWith};
 ghost use Rattle.turn_desk.specs.Views.{holding, reached, ticket_of};
-ghost use Rattle.turn_desk.specs.Steps.{Begins, grown, rested, in_hand, parent, child, both_of, DrawsTicket};
+ghost use Rattle.turn_desk.specs.Steps.{Begins, grown, shown_to, Glances, rested, in_hand, parent, child, both_of, DrawsTicket};
 
-use crate::board::{Board, COUNT, Place, SERVING, TICKET};
+use crate::board::{Board, COUNT, GAUGE, Place, SERVING, TICKET};
 use crate::book::Book;
-use crate::rule::{Append, Draw, Hand, Look, PassOn};
+use crate::rule::{Append, Draw, Glance, Hand, Look, PassOn, Tell};
 
 impl<B: Book> Board<B> {
     /// Draws a ticket, and answers the number on it.
@@ -42,11 +42,33 @@ impl<B: Book> Board<B> {
         self.table.shared.fetch_add::<Append<B>>(seat, COUNT, 1);
     }
 
+    /// Writes the gauge of the book in hand, whose entries are all counted: who glances from now on sees its history.
+    pub(crate) fn tell(&self, seat: &mut Place<B>, gauge: u64)
+        requires desk { seat.old.table_id ≡ self.now.table.shared.table_id }
+        requires turn { holding seat.old.me.0.stage ≡ 1 }
+        requires book { (b : B) × (B.history b ≡ reached seat.old.me.0.stage) × (seat.old.me.0.origin ≡ Some (B.origin b)) × (gauge ≡ B.gauge (B.origin b) (B.history b)) }
+        ensures same { (seat.new.table_id ≡ seat.old.table_id) × (seat.new.id ≡ seat.old.id) }
+        ensures told { seat.new.me ≡ (shown_to seat.old.me.0, seat.old.me.1) }
+    {
+        self.table.shared.store::<Tell>(seat, GAUGE, gauge);
+    }
+
+    /// Reads the gauge of the history that is shown at this moment.
+    pub(crate) fn glance(&self, seat: &mut Place<B>) -> u64
+        requires desk { seat.old.table_id ≡ self.now.table.shared.table_id }
+        requires rests { (seat.old.me.0.stage ≡ Rests) × (0 < seat.old.me.0.seats) }
+        ensures same { (seat.new.table_id ≡ seat.old.table_id) × (seat.new.id ≡ seat.old.id) × (seat.new.me.1 ≡ seat.old.me.1) }
+        ensures glances { Glances B.gauge seat.old.me.0 result seat.new.me.0 }
+    {
+        self.table.shared.load::<Glance<B>>(seat, GAUGE)
+    }
+
     /// Ends the turn, with the book in hand on the board again, and answers its number.
     pub(crate) fn pass_on(&self, seat: &mut Place<B>) -> u64
         requires desk { seat.old.table_id ≡ self.now.table.shared.table_id }
         requires turn { holding seat.old.me.0.stage ≡ 1 }
         requires book { (b : B) × (seat.old.me.1 ≡ (0, Some b) ∷ []) × (B.history b ≡ reached seat.old.me.0.stage) × (seat.old.me.0.origin ≡ Some (B.origin b)) }
+        requires told { seat.old.me.0.seen ≡ reached seat.old.me.0.stage }
         ensures same { (seat.new.table_id ≡ seat.old.table_id) × (seat.new.id ≡ seat.old.id) }
         ensures rests { seat.new.me ≡ (rested seat.old.me.0, []) }
     {

@@ -50,8 +50,8 @@ impl<B: Book> Board<B> {
         0
     }
 
-    /// Puts the book back, makes its last `more` entries the seat's own, passes the turn on, and wakes the thread whose turn is next and the
-    /// one behind it: turns that are shorter than a wake would else each wait for one.
+    /// Puts the book back, makes its last `more` entries the seat's own, shows them, passes the turn on, and wakes the thread whose turn is
+    /// next and the one behind it: turns that are shorter than a wake would else each wait for one.
     pub(crate) fn leave(&self, seat: &mut Place<B>, book: B, more: u64)
         requires desk { seat.old.table_id ≡ self.now.table.shared.table_id }
         requires turn { (holding seat.old.me.0.stage ≡ 1) × (unsteady seat.old.me.0.stage ≡ 0) × (seat.old.me.1 ≡ (0, None) ∷ []) }
@@ -60,6 +60,7 @@ impl<B: Book> Board<B> {
         ensures same { (seat.new.table_id ≡ seat.old.table_id) × (seat.new.id ≡ seat.old.id) × (seat.new.me.1 ≡ []) }
         ensures given { seat.new.me.0 ≡ after_turn seat.old.me.0 (B.history book) }
     {
+        let gauge = book.gauge();
         match self.table.shared.exchange(seat, BOOK, Some(book)) {
             None => {}
             Some(_) => unreachable!(),
@@ -67,6 +68,7 @@ impl<B: Book> Board<B> {
         for _made in 0..more {
             self.append(seat);
         }
+        self.tell(seat, gauge);
         let served = self.pass_on(seat);
         self.bells.ring(served.wrapping_add(1));
         self.bells.ring(served.wrapping_add(2));

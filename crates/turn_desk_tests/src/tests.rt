@@ -1,5 +1,5 @@
 //! The desk with one thread, with two, and with as many passes as it can have.
-ghost use Rattle.std.specs.Prelude.{◌≡◌, List, None};
+ghost use Rattle.std.specs.Prelude.{◌≡◌, List, None, length};
 ghost use Rattle.turn_desk.specs.Histories.{GoesOn};
 ghost use Rattle.turn_desk.specs.Passes.{AreAll};
 
@@ -27,6 +27,12 @@ impl Book for Notes {
     ghost origin = { λ b. b.cover };
 
     fn length(&self) -> u64 {
+        self.notes.len() as u64
+    }
+
+    ghost gauge = { λ cover notes. length notes };
+
+    fn gauge(&self) -> u64 {
         self.notes.len() as u64
     }
 }
@@ -144,6 +150,33 @@ fn one_after_the_other<T: Wait>(rt: &T, alloc: Global) -> Result<(usize, usize, 
     passes.push_reserved(first);
     passes.push_reserved(second);
     Ok((before, seen, desk.close(passes)))
+}
+
+/// The gauges that the second pass finds at the start, while the first has the turn with one note more in its hand, and at the end.
+fn glances<T: Wait>(rt: &T, alloc: Global, notes: Notes) -> Result<(u64, u64, u64), Fail> {
+    let Ok((desk, mut passes)) = Desk::new(alloc, notes, 2) else {
+        return Err(Fail::from("memory"));
+    };
+    let mut second = passes.pop().unwrap();
+    let mut first = passes.pop().unwrap();
+    let before = desk.glance(&mut second);
+    let mut book = desk.take(rt, &mut first);
+    let _added = book.add(9);
+    let within = desk.glance(&mut second);
+    desk.give(&mut first, book);
+    let after = desk.glance(&mut second);
+    passes.push_reserved(first);
+    passes.push_reserved(second);
+    let _book = desk.close(passes);
+    Ok((before, within, after))
+}
+
+#[test]
+fn a_glance_tells_what_the_last_turn_left(rt: HostRuntime) -> Result<(), Fail> {
+    let mut notes = Notes::empty(rt.alloc());
+    assert!(rt; notes.add(4) && notes.add(4));
+    assert_eq!(rt; glances(&rt, rt.alloc(), notes)?, (2, 2, 3));
+    Ok(())
 }
 
 #[test]

@@ -73,7 +73,7 @@ loop-pass-preserved g c =
       done = (
         c.in-Some.pass ∷ i.done.0,
         i.done.1 ∙ ap (λ l. l ++ i.done.0) is ∙ append_assoc c.pop.new.self.items (c.in-Some.pass ∷ []) i.done.0,
-        put ∙ (λ k. set (now k) j (c.push_reserved.ensures.items k)) ∙ step ∙ ap (λ (n : ℕ). take n rows ++ dealt (drop n rows) (c.in-Some.pass ∷ i.done.0)) left,
+        put ∙ (λ k. set (now k) j ((c.push_reserved.ensures.items ∙ ap (λ p. r.items ++ p ∷ []) c.new.ensures) k)) ∙ step ∙ ap (λ (n : ℕ). take n rows ++ dealt (drop n rows) (c.in-Some.pass ∷ i.done.0)) left,
       );
       many = length-set c.loop-pass.rows.items j new ∙ i.many;
       room = all-set Roomy c.loop-pass.rows.items j new i.room (record { room_is = omega (arith, room.room_is, c.push_reserved.ensures.capacity) });
