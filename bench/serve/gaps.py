@@ -23,7 +23,7 @@ import tempfile
 from pathlib import Path
 
 from load import BIDDERS, write_auction
-from run import AHEAD, HERE, PORT, build, house_words, pairs
+from run import AHEAD, HERE, PORT, build, house_words, pairs, stolen
 
 NOTE = struct.Struct("=QQII")
 STOOD_STILL = 1_000
@@ -55,12 +55,6 @@ def shape(micros):
     """The middle, the average of what is below a millisecond, and how many are above."""
     short = [value for value in micros if value < STOOD_STILL]
     return statistics.median(short), statistics.mean(short), len(micros) - len(short)
-
-
-def stolen():
-    """How many milliseconds the machine under this one has taken from its processors."""
-    ticks = int(Path("/proc/stat").read_text().split(maxsplit=9)[8])
-    return ticks * 1_000 // os.sysconf("SC_CLK_TCK")
 
 
 def measure(program, bidder, syncs, folder, doors, seconds):

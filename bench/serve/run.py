@@ -13,7 +13,8 @@ same bidders, where its library is there to build it.
 
 A machine has spells, above all one that is shared, and its disk. So all rows are measured in turns, TURNS times (7 where it is left out), and in
 each turn each server and measure runs for a second: pairs, the house, pairs, and then the others. Printed are the middles of the turns, and
-what share of the pairs before and behind it the house had: the middle, the least and the most.
+what share of the pairs before and behind it the house had: the middle, the least and the most. The last column tells a spell: how many
+milliseconds the machine under this one took from its processors while the house ran, by /proc/stat.
 """
 import os
 import shutil
@@ -116,14 +117,23 @@ def commits(folder, seconds):
     return count / seconds
 
 
+def stolen():
+    """How many milliseconds the machine under this one has taken from its processors."""
+    ticks = int(Path("/proc/stat").read_text().split(maxsplit=9)[8])
+    return ticks * 1_000 // os.sysconf("SC_CLK_TCK")
+
+
 def turn(program, bidder, plain, folder, active, doors, pause):
-    """One turn of a row: the house and its share of the pairs, then the others, each a second; the median look and the 99th of 100, and memory."""
+    """One turn of a row: the house and its share of the pairs, then the others, each a second; the median look and the 99th of 100, memory, and
+    what the machine under this one took meanwhile."""
     before = pairs(folder, active, SECOND)
+    taken = stolen()
     reports, looks, memory = serve(house_words(program, doors), bidder, folder, active, doors, pause)
+    taken = stolen() - taken
     bare = (before + pairs(folder, active, SECOND)) / 2
     over, kept = pairs(folder, active, SECOND, AHEAD), commits(folder, SECOND)
     beside = serve(plain_words(plain, doors), bidder, folder, active, doors, pause)[0] if plain else 0
-    return reports, reports / bare, bare, over, kept, beside, statistics.median(looks), looks[len(looks) * 99 // 100], memory
+    return reports, reports / bare, bare, over, kept, beside, statistics.median(looks), looks[len(looks) * 99 // 100], memory, taken
 
 
 def main():
@@ -139,13 +149,13 @@ def main():
             for (active, doors), found in rows.items():
                 found.append(turn(program, bidder, plain, folder, active, doors, pause))
     shutil.rmtree(folder, ignore_errors=True)
-    print("clocks doors reports/s of pairs (least most) pairs/s over zeros/s commits/s plain/s look median us look 99% us peak MB")
+    print("clocks doors reports/s of pairs (least most) pairs/s over zeros/s commits/s plain/s look median us look 99% us peak MB taken ms")
     for (active, doors), found in rows.items():
-        reports, share, bare, over, kept, beside, median, most, memory = (statistics.median(column) for column in zip(*found))
+        reports, share, bare, over, kept, beside, median, most, memory, taken = (statistics.median(column) for column in zip(*found))
         shares = [row[1] for row in found]
         print(
             f"{active:6} {doors:5} {reports:9.0f} {share:8.2f} ({min(shares):.2f} {max(shares):.2f}) {bare:7.0f} {over:12.0f} {kept:9.0f} {beside:7.0f}"
-            f" {median:14.0f} {most:11.0f} {memory:7.0f}"
+            f" {median:14.0f} {most:11.0f} {memory:7.0f} {taken:8.0f}"
         )
 
 
