@@ -1,11 +1,13 @@
 -- What a book keeps once it is begun, and what is left of the disk where it is not.
-use Rattle.std.proofs.Common.{◌≡◌, ◌⊎◌, inl, inr, ⊎_elim, ℕ, ◌+◌, ◌∙◌, Bool, IsTrue, List, [], ◌∷◌, ◌++◌, length, take, map, Option, None, Err, refl, sym, ap, subst, arith, length-append}
+use Rattle.std.proofs.Common.{◌≡◌, ◌⊎◌, inl, inr, ⊎_elim, ℕ, ◌+◌, ◌∙◌, Bool, IsTrue, List, [], ◌∷◌, ◌++◌, length, take, map, Option, None, Err, refl, sym, ap, subst, arith, append_assoc, length-append}
+use Rattle.std.proofs.lemmas.Bool.{true≢false}
+use Rattle.house_io.specs.Disks.{DiskShown, is_told, told_moments}
 use Rattle.std.specs.Int.{w32, to_be_bytes}
 use Rattle.std.proofs.lemmas.List.{take_all, length-map}
 use Rattle.demand_set.specs.declared.reports.Report.{Report}
 use Rattle.clock.specs.Reports.{ClockHistory, ClockOf, applied}
-use Rattle.house_io.specs.Moments.{Moments, AtEach, Since, Leaves, IsSettled, synced_at, settled}
-use Rattle.house_io.proofs.Moments.{since_on, since_now, at_weaker, at_start, leaves_weaker, leaves_here}
+use Rattle.house_io.specs.Moments.{Moment, Moments, AtEach, EachLeaves, Leaves, IsSettled, all, synced_at, settled}
+use Rattle.house_io.proofs.Moments.{at_weaker, at_start, leaves_weaker, leaves_here}
 use Rattle.report_journal.specs.Calls.{Forms, FailsToForm, Attaches}
 use Rattle.report_journal.specs.Format.{Contents, StandsFor, IsUnformed, records, front, first_gate, header_bytes}
 use Rattle.report_journal.specs.Journals.{JournalOf, Stands, payloads_at}
@@ -32,7 +34,7 @@ use Rattle.clock_book.specs.DeskHistories.{NotedOf, reports_in, marks_in}
 use Rattle.clock_book.specs.Past.{owner_in, StoodFor, IsAsOpened, KeepsPast}
 use Rattle.clock_book.specs.Books.{IsBook, HasRoom}
 use Rattle.clock_book.proofs.Mending.{stands-settled}
-use Rattle.clock_book.proofs.Pasts.{stood-whole}
+use Rattle.clock_book.proofs.Pasts.{each-append, stood-whole}
 use Rattle.clock_book.proofs.Sizes.{quantities-push}
 
 -- a clock that took one report more from its room
@@ -42,17 +44,39 @@ room-taken empty old new r kept is =
     let all = quantities-push old.history.reports r in
     subst (λ (k : ClockOf). KeepsRoom empty k) (sym is) (record { reports = omega (arith, kept.reports, more); quantities = omega (arith, kept.quantities, all) })
 
+-- the moments of a call but for the newest
+record IsBetween (P : List ℕ → Type 0) (old new : Moments) : Type 0 where
+  between : List Moment
+  past_is : new.past ≡ between ++ old.past
+  each : EachLeaves P between
+
+between-of : (P : List ℕ → Type 0) (old new : Moments) → AtEach P old new → IsBetween P old new
+between-of P old new call = by call.more call.grown call.each call.first
+  where
+    by : (more : List Moment) → all new ≡ more ++ all old → EachLeaves P more → Leaves P old.now → IsBetween P old new
+    by [] grown each first = record { between = []; past_is = (let e : new.past ≡ old.past = cc in e); each = tt }
+    by (m ∷ more) grown each first = record {
+      between = more ++ old.now ∷ [];
+      past_is = (let e : new.past ≡ more ++ old.now ∷ old.past = cc in e) ∙ sym (append_assoc more (old.now ∷ []) old.past);
+      each = each-append P more (old.now ∷ []) each.1 (first, tt);
+    }
+
 past-begins : (origin : Origin) (c : ClockHistory) (history : List Entry) (x : Contents) (o : Option (List ℕ)) (old new : Moments) → AreReportsOf origin.terms c.reports → origin.reports ≡ length c.reports → x ≡ contents_of (owner_in origin) c.reports → o ≡ None → Stands x o new
     → origin.answered ≡ length new.past → origin.synced ≡ length old.past → AtEach (IsAsOpened (owner_in origin) origin.read) old new → KeepsPast origin c history new
 past-begins origin c history x o old new are count same none stands answered synced call =
     let P : List ℕ → Type 0 = λ file. StoodFor origin c history file in
     let Q : List ℕ → Type 0 = λ file. IsAsOpened (owner_in origin) origin.read file in
-    let R : List ℕ → Type 0 = λ file. StoodFor origin c history file ⊎ IsAsOpened (owner_in origin) origin.read file in
     let here : Leaves P new.now = leaves_weaker (StandsForReports (owner_in origin) c.reports) P new.now (λ file s. stood-whole origin c history file (omega (arith, count)) (inl s)) (stands-settled (owner_in origin) c.reports x o new are same none stands) in
-    let first : Leaves R old.now = leaves_weaker Q R old.now (λ file s. inr s) call.first in
+    let opening = between-of Q old new call in
     record {
-      answered = subst (λ (t : ℕ). Since P t new) (sym answered) (since_now P new here);
-      synced = since_on R Q R origin.synced old new (λ file s. s) (λ file s. inr s) (subst (λ (t : ℕ). Since R t old) (sym synced) (since_now R old first)) call;
+      later = new.now ∷ [];
+      between = opening.between;
+      earlier = old.past;
+      split = ap (λ (l : List Moment). new.now ∷ l) opening.past_is;
+      synced = sym synced;
+      answered = ap length (sym opening.past_is) ∙ sym answered;
+      stood = (here, tt);
+      opened = opening.each;
     }
 
 pub begun : {D : Type 0} (k : JournalOf D) (told : Type 0) (old new : Moments) (faults : ℕ) (n : NotedOf) (origin : Origin) → n.clock.terms ≡ origin.terms → n.clock.number ≡ origin.clock → AreReportsOf origin.terms n.clock.reports
@@ -89,44 +113,44 @@ at-formed owner header old new same unformed call = at_weaker (IsUnformedOrEmpty
 pub at-same : (owner : Owner) (ms : Moments) → IsSettled ms.now → AtEach (IsAsOpened owner ms.now.read) ms ms
 at-same owner ms settled = at_start (IsAsOpened owner ms.now.read) ms (leaves_here (IsAsOpened owner ms.now.read) ms.now settled (inl refl))
 
-module _ {D : Type 0} (tells : D → Bool) (moments : D → Moments) (faults : D → ℕ) (owner : Owner) where
-  pub laid-formed : (header : Header) (old : D) (j : JournalOf D) → header ≡ header_of owner → (IsTrue (tells old) → IsSettled (moments old).now × IsUnformed (moments old).now.read) → Forms tells moments faults header old j → IsLaid tells moments faults owner [] old j
+module _ {D : Type 0} (shown : D → DiskShown) (owner : Owner) where
+  pub laid-formed : (header : Header) (old : D) (j : JournalOf D) → header ≡ header_of owner → (IsTrue (is_told (shown old)) → IsSettled (told_moments (shown old)).now × IsUnformed (told_moments (shown old)).now.read) → Forms shown header old j → IsLaid shown owner [] old j
   laid-formed header old j same unformed forms =
       let P : Header → Type 0 = λ h. first_gate h ≡ length (front (contents_of owner [])) in
       record {
         contents = λ t. forms.contents ∙ ap empty same;
         end = forms.end ∙ subst P (sym same) (sym (empty_size (header_of owner)));
         pending = forms.pending;
-        told = forms.told;
+        later = forms.later;
         steady = forms.steady;
-        leaves = λ t. at-formed owner header (moments old) (moments j.disk) same (unformed (forms.told t)).1 (forms.leaves t).stand;
+        leaves = λ t. at-formed owner header (told_moments (shown old)) (told_moments (shown j.disk)) same (unformed (forms.later.told t)).1 (forms.leaves t).stand;
       }
 
-  pub not-formed : (header : Header) (old new : D) (fault : JournalFault) → header ≡ header_of owner → (IsTrue (tells old) → IsSettled (moments old).now × IsUnformed (moments old).now.read) → FailsToForm tells moments faults header old new fault
-      → IsNotBegun tells moments faults owner old new (not_formed fault)
+  pub not-formed : (header : Header) (old new : D) (fault : JournalFault) → header ≡ header_of owner → (IsTrue (is_told (shown old)) → IsSettled (told_moments (shown old)).now × IsUnformed (told_moments (shown old)).now.read) → FailsToForm shown header old new fault
+      → IsNotBegun shown owner old new (not_formed fault)
   not-formed header old new journal.DiskFault same unformed fails = record {
     counts = fails.refuses;
     outside = tt;
-    told = fails.told;
-    leaves = λ t. at-formed owner header (moments old) (moments new) same (unformed (fails.told t)).1 (fails.leaves t).stand;
+    later = fails.later;
+    leaves = λ t. at-formed owner header (told_moments (shown old)) (told_moments (shown new)) same (unformed (fails.later.told t)).1 (fails.leaves t).stand;
   }
   not-formed header old new journal.NoMemory same unformed fails = record {
-    counts = ap faults fails.refuses;
+    counts = ap (λ d. (shown d).faults) fails.refuses;
     outside = tt;
-    told = fails.told;
-    leaves = λ t. at-formed owner header (moments old) (moments new) same (unformed (fails.told t)).1 (fails.leaves t).stand;
+    later = fails.later;
+    leaves = λ t. at-formed owner header (told_moments (shown old)) (told_moments (shown new)) same (unformed (fails.later.told t)).1 (fails.leaves t).stand;
   }
   not-formed header old new journal.NotMended same unformed fails = absurd fails.refuses
   not-formed header old new (journal.Full needed) same unformed fails = absurd fails.refuses
 
   -- nothing was done
-  pub not-begun : (old new : D) → new ≡ old → (IsTrue (tells old) → IsSettled (moments old).now) → IsNotBegun tells moments faults owner old new why.NoMemory
+  pub not-begun : (old new : D) → new ≡ old → (IsTrue (is_told (shown old)) → IsSettled (told_moments (shown old)).now) → IsNotBegun shown owner old new why.NoMemory
   not-begun old new same is_settled =
-      let P : D → Type 0 = λ d. IsNotBegun tells moments faults owner old d why.NoMemory in
-      subst P (sym same) (record { counts = refl; outside = tt; told = λ t. t; leaves = λ t. at-same owner (moments old) (is_settled t) })
+      let P : D → Type 0 = λ d. IsNotBegun shown owner old d why.NoMemory in
+      subst P (sym same) (record { counts = refl; outside = tt; later = record { told = λ t. t; claim = refl }; leaves = λ t. at-same owner (told_moments (shown old)) (is_settled t) })
 
-  pub laid-not-begun : (reports : List Report) (old : D) (j : JournalOf D) → IsLaid tells moments faults owner reports old j → IsNotBegun tells moments faults owner old j.disk why.NoMemory
-  laid-not-begun reports old j laid = record { counts = laid.steady; outside = tt; told = laid.told; leaves = laid.leaves }
+  pub laid-not-begun : (reports : List Report) (old : D) (j : JournalOf D) → IsLaid shown owner reports old j → IsNotBegun shown owner old j.disk why.NoMemory
+  laid-not-begun reports old j laid = record { counts = laid.steady; outside = tt; later = laid.later; leaves = laid.leaves }
 
 -- where records of these lengths end
 gates : (goods : ℕ) (places : List Place) (reports : List Report) (gate : ℕ) → AreLong goods places reports → gate_after gate places ≡ gate + length (records (map (payload_of goods) reports))
@@ -188,24 +212,24 @@ found-end told owner reports (scanned.Formed header places end) file found forme
 found-unformed : (owner : Owner) (scan : Scanned) (reports : List Report) → scan ≡ scanned.Unformed → IsWhole owner scan reports → reports ≡ []
 found-unformed owner scan reports is whole = let P : Scanned → Type 0 = λ s. IsWhole owner s reports in subst P is whole
 
-pub laid-unformed : {D : Type 0} (tells : D → Bool) (moments : D → Moments) (faults : D → ℕ) (owner : Owner) (told : Type 0) (reports : List Report) (scan : Scanned) (file : List ℕ) (old : D) (j : JournalOf D) → scan ≡ scanned.Unformed → IsFound told owner reports scan file
-    → IsLaid tells moments faults owner [] old j → IsLaid tells moments faults owner reports old j
-laid-unformed tells moments faults owner told reports scan file old j is found laid =
-    let P : List Report → Type 0 = λ rs. IsLaid tells moments faults owner rs old j in
+pub laid-unformed : {D : Type 0} (shown : D → DiskShown) (owner : Owner) (told : Type 0) (reports : List Report) (scan : Scanned) (file : List ℕ) (old : D) (j : JournalOf D) → scan ≡ scanned.Unformed → IsFound told owner reports scan file
+    → IsLaid shown owner [] old j → IsLaid shown owner reports old j
+laid-unformed shown owner told reports scan file old j is found laid =
+    let P : List Report → Type 0 = λ rs. IsLaid shown owner rs old j in
     subst P (sym (found-unformed owner scan reports is found.whole)) laid
 
-pub laid-attached : {D : Type 0} (tells : D → Bool) (moments : D → Moments) (faults : D → ℕ) (owner : Owner) (reports : List Report) (scan : Scanned) (old : D) (j : JournalOf D) → IsFormed scan → (IsTrue (tells old) → IsSettled (moments old).now)
-    → Attaches moments old scan j → IsFound (IsTrue (tells old)) owner reports scan (moments old).now.read → IsLaid tells moments faults owner reports old j
-laid-attached {D} tells moments faults owner reports scan old j formed is_settled attaches found =
-    let told : IsTrue (tells j.disk) → IsTrue (tells old) = λ t. subst (λ (d : D). IsTrue (tells d)) attaches.disk t in
-    let P : D → Type 0 = λ d. AtEach (IsAsOpened owner (moments old).now.read) (moments old) (moments d) in
+pub laid-attached : {D : Type 0} (shown : D → DiskShown) (owner : Owner) (reports : List Report) (scan : Scanned) (old : D) (j : JournalOf D) → IsFormed scan → (IsTrue (is_told (shown old)) → IsSettled (told_moments (shown old)).now)
+    → Attaches shown old scan j → IsFound (IsTrue (is_told (shown old))) owner reports scan (told_moments (shown old)).now.read → IsLaid shown owner reports old j
+laid-attached {D} shown owner reports scan old j formed is_settled attaches found =
+    let told : IsTrue (is_told (shown j.disk)) → IsTrue (is_told (shown old)) = λ t. subst (λ (d : D). IsTrue (is_told (shown d))) attaches.disk t in
+    let P : D → Type 0 = λ d. AtEach (IsAsOpened owner (told_moments (shown old)).now.read) (told_moments (shown old)) (told_moments (shown d)) in
     record {
-      contents = λ t. attaches.contents ∙ found-contents (IsTrue (tells old)) owner reports scan (moments old).now.read found formed (told t);
-      end = attaches.end ∙ found-end (IsTrue (tells old)) owner reports scan (moments old).now.read found formed;
+      contents = λ t. attaches.contents ∙ found-contents (IsTrue (is_told (shown old))) owner reports scan (told_moments (shown old)).now.read found formed (told t);
+      end = attaches.end ∙ found-end (IsTrue (is_told (shown old))) owner reports scan (told_moments (shown old)).now.read found formed;
       pending = attaches.pending;
-      told = told;
-      steady = ap faults attaches.disk;
-      leaves = λ t. subst P (sym attaches.disk) (at-same owner (moments old) (is_settled (told t)));
+      later = record { told = told; claim = ap (λ d. (shown d).claimed) attaches.disk };
+      steady = ap (λ d. (shown d).faults) attaches.disk;
+      leaves = λ t. subst P (sym attaches.disk) (at-same owner (told_moments (shown old)) (is_settled (told t)));
     }
 
 -- a reading that was refused
@@ -230,23 +254,24 @@ counts-by T before now (why.Broken broken) is = is
 counts-by T before now (why.NotAcceptable number judgement) is = is
 
 -- a book that was not begun after a reading that went well
-pub unopened : {D : Type 0} (tells : D → Bool) (moments : D → Moments) (faults : D → ℕ) (owner : Owner) (old mid new : D) (fault : OpenFault) → (IsTrue (tells mid) → moments mid ≡ synced_at (moments old)) → (IsTrue (tells mid) → IsTrue (tells old)) → faults mid ≡ faults old
-    → IsNotBegun tells moments faults owner mid new fault → IsUnopened tells moments faults owner old new fault
-unopened tells moments faults owner old mid new fault synced told steady not =
+pub unopened : {D : Type 0} (shown : D → DiskShown) (owner : Owner) (old mid new : D) (fault : OpenFault) → (IsTrue (is_told (shown mid)) → told_moments (shown mid) ≡ synced_at (told_moments (shown old))) → (IsTrue (is_told (shown mid)) → IsTrue (is_told (shown old))) → (shown mid).faults ≡ (shown old).faults
+    → IsTrue (shown mid).claimed → IsNotBegun shown owner mid new fault → IsUnopened shown owner old new fault
+unopened shown owner old mid new fault synced told steady claimed not =
     record {
       refused = λ t. outside fault not.outside;
       counts = counted fault not.counts;
-      told = λ t. told (not.told t);
+      told = λ t. told (not.later.told t);
+      unclaimed = λ is t. absurd (true≢false (sym claimed ∙ sym not.later.claim ∙ is));
       leaves = λ t.
-          let P : Moments → Type 0 = λ ms. AtEach (IsAsOpened owner ms.now.read) ms (moments new) in
-          inr (subst P (synced (not.told t)) (not.leaves t));
+          let P : Moments → Type 0 = λ ms. AtEach (IsAsOpened owner ms.now.read) ms (told_moments (shown new)) in
+          inr (subst P (synced (not.later.told t)) (not.leaves t));
     }
   where
-    outside : (w : OpenFault) → IsFromOutside w → ReadsClock owner (moments old).now.read (Err w)
+    outside : (w : OpenFault) → IsFromOutside w → ReadsClock owner (told_moments (shown old)).now.read (Err w)
     outside why.DiskFault is = tt
     outside why.NoMemory is = tt
     outside (why.Broken broken) is = absurd is
     outside (why.NotAcceptable number judgement) is = absurd is
 
-    counted : (w : OpenFault) → CountsFaults {T = ℕ} (faults mid) (faults new) (Err w) → CountsFaults {T = ℕ} (faults old) (faults new) (Err w)
-    counted w counts = let P : ℕ → Type 0 = λ f. CountsFaults {T = ℕ} f (faults new) (Err w) in subst P steady counts
+    counted : (w : OpenFault) → CountsFaults {T = ℕ} (shown mid).faults (shown new).faults (Err w) → CountsFaults {T = ℕ} (shown old).faults (shown new).faults (Err w)
+    counted w counts = let P : ℕ → Type 0 = λ f. CountsFaults {T = ℕ} f (shown new).faults (Err w) in subst P steady counts

@@ -1,10 +1,10 @@
 -- How the past of a book goes on: by a call that leaves its reports, with one in doubt, and by one that appends a report.
-use Rattle.std.proofs.Common.{◌≡◌, ◌⊎◌, inl, inr, ⊎_elim, ℕ, ◌≤◌, List, ◌∷◌, [], ◌++◌, length, take, Some, sym, subst, arith, length-append}
+use Rattle.std.proofs.Common.{◌≡◌, ◌⊎◌, inl, inr, ⊎_elim, ℕ, ◌≤◌, List, ◌∷◌, [], ◌++◌, length, take, Some, sym, ◌∙◌, ap, subst, arith, append_assoc, length-append}
 use Rattle.std.proofs.lemmas.List.{take_all, take-append-le}
 use Rattle.demand_set.specs.declared.reports.Report.{Report}
 use Rattle.clock.specs.Reports.{ClockHistory, with_report}
-use Rattle.house_io.specs.Moments.{Moments, AtEach}
-use Rattle.house_io.proofs.Moments.{since_on, at_weaker}
+use Rattle.house_io.specs.Moments.{AtEach, EachLeaves, Moment, Moments}
+use Rattle.house_io.proofs.Moments.{at_weaker, leaves_weaker}
 use Rattle.report_journal.specs.Format.{Contents, StandsFor}
 use Rattle.report_journal.specs.Puts.{IsBeforeOrAfter, with_one_more}
 use Rattle.recovery.specs.Entries.{payload_of, IsReportOf, AreReportsOf}
@@ -16,6 +16,14 @@ use Rattle.clock_book.specs.DeskHistories.{IsMarkedBehind}
 use Rattle.clock_book.specs.Past.{owner_in, IsEither, IsNext, StoodFor, IsAsOpened, KeepsPast}
 use Rattle.clock_book.proofs.Histories.{marked-later}
 use Rattle.clock_book.proofs.Sizes.{contents-push}
+
+pub each-append : (P : List ℕ → Type 0) (xs ys : List Moment) → EachLeaves P xs → EachLeaves P ys → EachLeaves P (xs ++ ys)
+each-append P [] ys first second = second
+each-append P (x ∷ xs) ys first second = (first.0, each-append P xs ys first.1 second)
+
+each-weaker : (P Q : List ℕ → Type 0) (xs : List Moment) → ((file : List ℕ) → P file → Q file) → EachLeaves P xs → EachLeaves Q xs
+each-weaker P Q [] weaker each = tt
+each-weaker P Q (x ∷ xs) weaker each = (leaves_weaker P Q x weaker each.0, each-weaker P Q xs weaker each.1)
 
 pub after-one : (owner : Owner) (reports : List Report) (r : Report) (file : List ℕ) → AreReportsOf owner.terms reports → IsReportOf owner.terms r
     → StandsFor (with_one_more (contents_of owner reports) (payload_of (length owner.terms.goods) r)) file → StandsForReports owner (reports ++ r ∷ []) file
@@ -98,12 +106,16 @@ module _ (origin : Origin) (c : ClockHistory) (q : Report) (are : AreReportsOf o
     past-by d stays is =
         let P : List ℕ → Type 0 = λ file. StoodFor origin c history file in
         let R : List ℕ → Type 0 = λ file. StoodFor origin d new file in
-        let S : List ℕ → Type 0 = λ file. StoodFor origin c history file ⊎ IsAsOpened (owner_in origin) origin.read file in
-        let T : List ℕ → Type 0 = λ file. StoodFor origin d new file ⊎ IsAsOpened (owner_in origin) origin.read file in
         let Q : List ℕ → Type 0 = λ file. IsBeforeOrAfter (contents_of (owner_in origin) c.reports) (payload_of (length origin.terms.goods) q) file in
         record {
-          answered = since_on P Q R origin.answered old now stays is past.answered call;
-          synced = since_on S Q T origin.synced old now (λ file stood. ⊎_elim (λ s. inl (stays file s)) (λ o. inr o) stood) (λ file e. inl (is file e)) past.synced call;
+          later = call.more ++ past.later;
+          between = past.between;
+          earlier = past.earlier;
+          split = call.grown ∙ ap (λ (l : List Moment). call.more ++ l) past.split ∙ sym (append_assoc call.more past.later (past.between ++ past.earlier));
+          synced = past.synced;
+          answered = past.answered;
+          stood = each-append R call.more past.later (each-weaker Q R call.more is call.each) (each-weaker P R past.later stays past.stood);
+          opened = past.opened;
         }
 
     pub past-in-doubt : IsNext c q → IsMarkedBehind new (length c.reports) q → KeepsPast origin c new now

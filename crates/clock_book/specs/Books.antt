@@ -8,6 +8,7 @@ use Rattle.lot_base.specs.declared.auction_terms.Terms.{Terms}
 use Rattle.demand_set.specs.declared.reports.Report.{Report}
 use Rattle.clock.specs.Reports.{ClockHistory, most_reports}
 use Rattle.clock.specs.Judging.{IsLegal}
+use Rattle.house_io.specs.Disks.{DiskShown, is_told, told_moments}
 use Rattle.house_io.specs.Moments.{Moments, Leaves}
 use Rattle.report_journal.specs.Format.{front}
 use Rattle.report_journal.specs.Journals.{JournalOf}
@@ -29,22 +30,23 @@ pub record BookOf (D : Type 0) : Type 0 where
   pub state : BookState
   pub origin : Origin
 
--- What a book keeps, as its callers see it. Its history is legal, and its records and their gate end within the limit of a file. The
+-- What a book keeps, as its callers see it. Its disk is claimed. Its history is legal, and its records and their gate end within the limit of a file. The
 -- disk's file stands for its reports, or for these and the pending one, at each image that a crash may leave now; and since the opening
 -- was answered it stood for a front of them, or for such a front and a report in doubt there. A disk that tells told then. The marks are
 -- at most the faults of the disk, which are counted in 64 bits.
-pub record IsKept {D : Type 0} (told : Type 0) (ms : Moments) (faults : ℕ) (b : BookOf D) : Type 0 where
+pub record IsKept {D : Type 0} (shown : D → DiskShown) (b : BookOf D) : Type 0 where
   pub legal : IsLegal b.state.clock
   pub terms : b.state.clock.terms ≡ b.origin.terms
   pub number : b.state.clock.number ≡ b.origin.clock
   pub reports : reports_in b.state.history ≡ b.state.clock.reports
-  pub marks : min (marks_in b.state.history) (2 ^ 64 - 1) ≤ faults
+  pub marks : min (marks_in b.state.history) (2 ^ 64 - 1) ≤ (shown b.disk).faults
   pub limit : length (front (contents_of (owner_in b.origin) b.state.clock.reports)) + 1 ≤ GREATEST_FILE
   pub next : IfSome b.state.pending (IsNext b.state.clock)
   pub doubt : IfSome b.state.pending (IsInDoubt b.state.history)
-  pub stands : told → Leaves (IsEither (owner_in b.origin) b.state.clock.reports b.state.pending) ms.now
-  pub past : told → KeepsPast b.origin b.state.clock b.state.history ms
-  pub first : told → IsTrue b.origin.told
+  pub stands : IsTrue (is_told (shown b.disk)) → Leaves (IsEither (owner_in b.origin) b.state.clock.reports b.state.pending) (told_moments (shown b.disk)).now
+  pub past : IsTrue (is_told (shown b.disk)) → KeepsPast b.origin b.state.clock b.state.history (told_moments (shown b.disk))
+  pub first : IsTrue (is_told (shown b.disk)) → IsTrue b.origin.told
+  pub claimed : IsTrue (shown b.disk).claimed
 
 -- the quantities of these reports
 abbrev pub quantities_in : List Report → ℕ

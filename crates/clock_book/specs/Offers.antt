@@ -1,5 +1,6 @@
 -- What an offer does to a book.
 use Rattle.std.specs.Prelude.{◌≡◌, ◌≢◌, ◌⊎◌, ℕ, ◌+◌, ◌<◌, ◌≤◌, List, [], ◌∷◌, ◌++◌, length, slice_index, Bool, IsTrue, Option, Some, None, IsSome}
+use Rattle.house_io.specs.Disks.{DiskShown, is_told, told_moments, IsLater}
 use Rattle.lot_base.specs.declared.limits.TheConstants.{GREATEST_FILE}
 use Rattle.demand_set.specs.declared.reports.Report.{Report}
 use Rattle.clock.specs.Reports.{with_report}
@@ -89,12 +90,12 @@ CountsOffer before now answers.DiskFault = before ≤ now
 CountsOffer before now answer = now ≡ before
 
 -- The whole of an offer to a book. Of the disk's contents it speaks where these are told at its end.
-pub record Offers {D : Type 0} (tells : D → Bool) (moments : D → Moments) (faults : D → ℕ) (r : Report) (old new : BookOf D) (result : Offered) : Type 0 where
+pub record Offers {D : Type 0} (shown : D → DiskShown) (r : Report) (old new : BookOf D) (result : Offered) : Type 0 where
   pub answer : IsOffer (owner_in old.origin) old.state r result new.state
   pub origin : new.origin ≡ old.origin
-  pub cause : result ≡ answers.DiskFault → Rose (faults old.disk) (faults new.disk)
-  pub counts : CountsOffer (faults old.disk) (faults new.disk) result
-  pub told : IsTrue (tells new.disk) → IsTrue (tells old.disk)
+  pub cause : result ≡ answers.DiskFault → Rose (shown old.disk).faults (shown new.disk).faults
+  pub counts : CountsOffer (shown old.disk).faults (shown new.disk).faults result
+  pub later : IsLater (shown old.disk) (shown new.disk)
   -- what a crash may leave at any moment of the call, and once it is answered
-  pub leaves : IsTrue (tells new.disk) → OfferLeaves (owner_in old.origin) old.state r result new.state (moments old.disk) (moments new.disk)
-  pub every_image : IsTrue (tells new.disk) → Leaves (IsEither (owner_in new.origin) new.state.clock.reports new.state.pending) (moments new.disk).now
+  pub leaves : IsTrue (is_told (shown new.disk)) → OfferLeaves (owner_in old.origin) old.state r result new.state (told_moments (shown old.disk)) (told_moments (shown new.disk))
+  pub every_image : IsTrue (is_told (shown new.disk)) → Leaves (IsEither (owner_in new.origin) new.state.clock.reports new.state.pending) (told_moments (shown new.disk)).now

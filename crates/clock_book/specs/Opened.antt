@@ -1,5 +1,6 @@
 -- How a book is opened on a disk.
-use Rattle.std.specs.Prelude.{◌≡◌, ◌⊎◌, ◌≤◌, ℕ, ◌+◌, Bool, IsTrue, List, length, map, take, None, Result, Ok, Err}
+use Rattle.std.specs.Prelude.{◌≡◌, ◌⊎◌, ◌≤◌, ℕ, ◌+◌, Bool, false, IsTrue, List, length, map, take, None, Result, Ok, Err}
+use Rattle.house_io.specs.Disks.{DiskShown, is_told, told_moments, IsLater}
 use Rattle.demand_set.specs.declared.reports.Report.{Report}
 use Rattle.house_io.specs.Moments.{Moments, AtEach, synced_at}
 use Rattle.clock.specs.Reports.{ClockHistory, ClockOf, most_reports}
@@ -53,13 +54,13 @@ ReadsNoted owner file (Ok found) = IsOpening owner file (Ok found.0.clock)
 ReadsNoted owner file (Err fault) = ReadsClock owner file (Err fault)
 
 -- the journal of these reports on a disk that was scanned: an unformed file was formed, and any other was left as it was
-pub record IsLaid {D : Type 0} (tells : D → Bool) (moments : D → Moments) (faults : D → ℕ) (owner : Owner) (reports : List Report) (old : D) (j : JournalOf D) : Type 0 where
-  pub contents : IsTrue (tells j.disk) → j.contents ≡ contents_of owner reports
+pub record IsLaid {D : Type 0} (shown : D → DiskShown) (owner : Owner) (reports : List Report) (old : D) (j : JournalOf D) : Type 0 where
+  pub contents : IsTrue (is_told (shown j.disk)) → j.contents ≡ contents_of owner reports
   pub end : j.end ≡ length (front (contents_of owner reports))
   pub pending : j.pending ≡ None
-  pub told : IsTrue (tells j.disk) → IsTrue (tells old)
-  pub steady : faults j.disk ≡ faults old
-  pub leaves : IsTrue (tells j.disk) → AtEach (IsAsOpened owner (moments old).now.read) (moments old) (moments j.disk)
+  pub later : IsLater (shown old) (shown j.disk)
+  pub steady : (shown j.disk).faults ≡ (shown old).faults
+  pub leaves : IsTrue (is_told (shown j.disk)) → AtEach (IsAsOpened owner (told_moments (shown old)).now.read) (told_moments (shown old)) (told_moments (shown j.disk))
 
 -- a fault of the disk, or want of memory
 abbrev pub IsFromOutside : OpenFault → Type 0
@@ -75,11 +76,11 @@ not_formed journal.NotMended = why.NoMemory
 not_formed (journal.Full needed) = why.NoMemory
 
 -- a disk that was scanned, on which no book was begun
-pub record IsNotBegun {D : Type 0} (tells : D → Bool) (moments : D → Moments) (faults : D → ℕ) (owner : Owner) (old new : D) (fault : OpenFault) : Type 0 where
-  pub counts : CountsFaults {T = ℕ} (faults old) (faults new) (Err fault)
+pub record IsNotBegun {D : Type 0} (shown : D → DiskShown) (owner : Owner) (old new : D) (fault : OpenFault) : Type 0 where
+  pub counts : CountsFaults {T = ℕ} (shown old).faults (shown new).faults (Err fault)
   pub outside : IsFromOutside fault
-  pub told : IsTrue (tells new) → IsTrue (tells old)
-  pub leaves : IsTrue (tells new) → AtEach (IsAsOpened owner (moments old).now.read) (moments old) (moments new)
+  pub later : IsLater (shown old) (shown new)
+  pub leaves : IsTrue (is_told (shown new)) → AtEach (IsAsOpened owner (told_moments (shown old)).now.read) (told_moments (shown old)) (told_moments (shown new))
 
 -- the origin is that of this owner, and of so many reports at opening
 pub record IsOf (owner : Owner) (reports : ℕ) (origin : Origin) : Type 0 where
@@ -97,33 +98,39 @@ pub record OpenLeaves (owner : Owner) (synced answered : Moments) (origin : Orig
   pub answered_is : origin.answered ≡ length answered.past
 
 -- a book that was begun on a disk that was scanned: it has the reports that were found, each noted as offered, and no mark
-pub record Begins {D : Type 0} (tells : D → Bool) (moments : D → Moments) (faults : D → ℕ) (owner : Owner) (c : ClockHistory) (old : D) (b : BookOf D) : Type 0 where
+pub record Begins {D : Type 0} (shown : D → DiskShown) (owner : Owner) (c : ClockHistory) (old : D) (b : BookOf D) : Type 0 where
   pub state : b.state ≡ record { clock = c; history = map Offered c.reports; pending = None }
   pub origin : IsOf owner (length c.reports) b.origin
-  pub told : IsTrue (tells b.disk) → IsTrue (tells old)
-  pub told_is : b.origin.told ≡ tells b.disk
-  pub steady : faults b.disk ≡ faults old
-  pub leaves : IsTrue (tells b.disk) → OpenLeaves owner (moments old) (moments b.disk) b.origin
+  pub later : IsLater (shown old) (shown b.disk)
+  pub told_is : b.origin.told ≡ is_told (shown b.disk)
+  pub steady : (shown b.disk).faults ≡ (shown old).faults
+  pub leaves : IsTrue (is_told (shown b.disk)) → OpenLeaves owner (told_moments (shown old)) (told_moments (shown b.disk)) b.origin
 
--- A book that was opened. Its history is legal, each of its reports is noted as offered, and there is no mark. Where the disk tells, its
--- reports are those of the file as it was read at the sync with which the opening began.
-pub record Opens {D : Type 0} (tells : D → Bool) (moments : D → Moments) (faults : D → ℕ) (owner : Owner) (old : D) (b : BookOf D) : Type 0 where
+-- A book that was opened, on a disk that was claimed first. Its history is legal, each of its reports is noted as offered, and there is
+-- no mark. Where the disk tells, its reports are those of the file as it was read at the sync that followed the claim.
+pub record Opens {D : Type 0} (shown : D → DiskShown) (owner : Owner) (old : D) (b : BookOf D) : Type 0 where
   pub history : IsHistoryOf owner b.state.clock
   pub state : b.state ≡ record { clock = b.state.clock; history = map Offered b.state.clock.reports; pending = None }
-  pub read : IsTrue (tells b.disk) → IsOpening owner (moments old).now.read (Ok b.state.clock)
+  pub read : IsTrue (is_told (shown b.disk)) → IsOpening owner (told_moments (shown old)).now.read (Ok b.state.clock)
   pub origin : IsOf owner (length b.state.clock.reports) b.origin
-  pub told : IsTrue (tells b.disk) → IsTrue (tells old)
-  pub told_is : b.origin.told ≡ tells b.disk
-  pub steady : faults b.disk ≡ faults old
-  pub leaves : IsTrue (tells b.disk) → OpenLeaves owner (synced_at (moments old)) (moments b.disk) b.origin
+  pub told : IsTrue (is_told (shown b.disk)) → IsTrue (is_told (shown old))
+  pub claimed : IsTrue (shown b.disk).claimed
+  pub told_is : b.origin.told ≡ is_told (shown b.disk)
+  pub steady : (shown b.disk).faults ≡ (shown old).faults
+  pub leaves : IsTrue (is_told (shown b.disk)) → OpenLeaves owner (synced_at (told_moments (shown old))) (told_moments (shown b.disk)) b.origin
+
+-- a disk that is not claimed was left as it was
+abbrev pub IsLeftUnlessClaimed : DiskShown → DiskShown → Type 0
+IsLeftUnlessClaimed before after = after.claimed ≡ false → IsTrue (is_told after) → told_moments after ≡ told_moments before
 
 -- what a crash at any moment of an opening that was refused leaves from its sync on, if there was one
 abbrev pub LeftUnopened : Owner → Moments → Moments → Type 0
 LeftUnopened owner old new = (new ≡ old) ⊎ AtEach (IsAsOpened owner old.now.read) (synced_at old) new
 
 -- a disk on which no book was opened, and why
-pub record IsUnopened {D : Type 0} (tells : D → Bool) (moments : D → Moments) (faults : D → ℕ) (owner : Owner) (old new : D) (fault : OpenFault) : Type 0 where
-  pub refused : IsTrue (tells new) → ReadsClock owner (moments old).now.read (Err fault)
-  pub counts : CountsFaults {T = ℕ} (faults old) (faults new) (Err fault)
-  pub told : IsTrue (tells new) → IsTrue (tells old)
-  pub leaves : IsTrue (tells new) → LeftUnopened owner (moments old) (moments new)
+pub record IsUnopened {D : Type 0} (shown : D → DiskShown) (owner : Owner) (old new : D) (fault : OpenFault) : Type 0 where
+  pub refused : IsTrue (is_told (shown new)) → ReadsClock owner (told_moments (shown old)).now.read (Err fault)
+  pub counts : CountsFaults {T = ℕ} (shown old).faults (shown new).faults (Err fault)
+  pub told : IsTrue (is_told (shown new)) → IsTrue (is_told (shown old))
+  pub leaves : IsTrue (is_told (shown new)) → LeftUnopened owner (told_moments (shown old)) (told_moments (shown new))
+  pub unclaimed : IsLeftUnlessClaimed (shown old) (shown new)

@@ -5,7 +5,7 @@ use Rattle.demand_set.specs.declared.reports.Report.{Report}
 use Rattle.clock.specs.Reports.{ClockHistory}
 use Rattle.clock.specs.Judging.{judgement_of}
 use Rattle.clock.specs.declared.judging.Judgement.TheVariants.{Take}
-use Rattle.house_io.specs.Moments.{Moments, Since}
+use Rattle.house_io.specs.Moments.{EachLeaves, Moment, Moments, all}
 use Rattle.report_journal.specs.Format.{IsUnformed}
 use Rattle.recovery.specs.Journaled.{Owner, owner_of, StandsForReports}
 use Rattle.clock_book.specs.declared.entries.Entry.{Entry}
@@ -44,7 +44,14 @@ pub record StoodFor (origin : Origin) (c : ClockHistory) (history : List Entry) 
 abbrev pub IsAsOpened : Owner → List ℕ → List ℕ → Type 0
 IsAsOpened owner read file = (file ≡ read) ⊎ (IsUnformed read × (IsUnformed file ⊎ StandsForReports owner [] file))
 
--- at each moment since the opening was answered, and at each moment since its sync
+-- The moments of the disk, the newest first: those since the opening was answered, at which the file stood for such reports; those between
+-- the sync of the opening and its answer, at which the file was as it was opened; and those before the sync.
 pub record KeepsPast (origin : Origin) (c : ClockHistory) (history : List Entry) (ms : Moments) : Type 0 where
-  pub answered : Since (StoodFor origin c history) origin.answered ms
-  pub synced : Since (λ file. StoodFor origin c history file ⊎ IsAsOpened (owner_in origin) origin.read file) origin.synced ms
+  pub later : List Moment
+  pub between : List Moment
+  pub earlier : List Moment
+  pub split : all ms ≡ later ++ (between ++ earlier)
+  pub synced : length earlier ≡ origin.synced
+  pub answered : length (between ++ earlier) ≡ origin.answered
+  pub stood : EachLeaves (StoodFor origin c history) later
+  pub opened : EachLeaves (IsAsOpened (owner_in origin) origin.read) between

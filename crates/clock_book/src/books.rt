@@ -1,5 +1,6 @@
 //! A clock book.
 ghost use Rattle.std.specs.Prelude.{◌≡◌, ◌<◌, ◌≤◌, ◌%◌, ◌^◌, ◌↔◌, length, IsTrue, IsSome, OnOk, OnErr, Some, None};
+ghost use Rattle.house_io.specs.Disks.{is_told, told_moments, IsLater};
 ghost use Rattle.lot_base.specs.Demands.{IsDemand};
 ghost use Rattle.house_io.specs.Faults.{HasCause, Rose};
 ghost use Rattle.house_io.specs.Moments.{AtEach};
@@ -37,6 +38,7 @@ pub struct ClockBook<D: Disk> {
 }
 
 impl<D: Disk> Model for ClockBook<D> {
+    ghost use Rattle.house_io.specs.Disks.{is_told, told_moments};
     ghost use Rattle.std.specs.Prelude.{IsTrue};
     ghost use Rattle.clock_book.specs.Books.{BookOf, IsBook};
 
@@ -48,7 +50,7 @@ impl<D: Disk> Model for ClockBook<D> {
       origin = b.start;
     } };
 
-    ghost invariant = { λ b. IsBook b.journal (IsTrue (D.tells b.journal.disk)) (D.moments b.journal.disk) (D.faults b.journal.disk) b.noted b.pending b.start };
+    ghost invariant = { λ b. IsBook b.journal (IsTrue (is_told (D.shown b.journal.disk))) (told_moments (D.shown b.journal.disk)) (D.shown b.journal.disk).faults b.noted b.pending b.start };
 }
 
 impl<D: Disk> ClockBook<D> {
@@ -57,14 +59,14 @@ impl<D: Disk> ClockBook<D> {
     /// Counts or drops the pending report, if there is one. Where the disk fails it is still pending, and the offered report is marked.
     fn settle_pending(&mut self, alloc: Global, offered: &Report) -> Result<(), Failed>
         ensures mended { OnOk result (IsMended self.old.state self.new.state) }
-        ensures gate { OnOk result (IsTrue (D.tells self.new.disk)
-            → IsByGate (owner_in self.old.origin) (D.moments self.old.disk).now.read self.old.state self.new.state) }
+        ensures gate { OnOk result (IsTrue (is_told (D.shown self.new.disk))
+            → IsByGate (owner_in self.old.origin) (told_moments (D.shown self.old.disk)).now.read self.old.state self.new.state) }
         ensures failed { OnErr result (IsSome self.old.state.pending × (self.new.state ≡ marked self.old.state offered.now)) }
-        ensures cause { HasCause (D.faults self.old.disk) (D.faults self.new.disk) result }
+        ensures cause { HasCause (D.shown self.old.disk).faults (D.shown self.new.disk).faults result }
         ensures origin { self.new.origin ≡ self.old.origin }
-        ensures tells { IsTrue (D.tells self.new.disk) → IsTrue (D.tells self.old.disk) }
-        ensures moments { IsTrue (D.tells self.new.disk)
-            → AtEach (IsEither (owner_in self.old.origin) self.old.state.clock.reports self.old.state.pending) (D.moments self.old.disk) (D.moments self.new.disk) }
+        ensures later { IsLater (D.shown self.old.disk) (D.shown self.new.disk) }
+        ensures moments { IsTrue (is_told (D.shown self.new.disk))
+            → AtEach (IsEither (owner_in self.old.origin) self.old.state.clock.reports self.old.state.pending) (told_moments (D.shown self.old.disk)) (told_moments (D.shown self.new.disk)) }
     {
         let _kept = self.journal.count();
         match self.journal.mend() {
@@ -95,12 +97,12 @@ impl<D: Disk> ClockBook<D> {
         requires take { judgement_of self.old.state.clock report ≡ Take }
         requires fits { IsDemand self.old.state.clock.terms.goods report.demand }
         ensures answer { Answers (owner_in self.old.origin) result self.old.state report self.new.state }
-        ensures cause { result ≡ DiskFault → Rose (D.faults self.old.disk) (D.faults self.new.disk) }
+        ensures cause { result ≡ DiskFault → Rose (D.shown self.old.disk).faults (D.shown self.new.disk).faults }
         ensures origin { self.new.origin ≡ self.old.origin }
-        ensures tells { IsTrue (D.tells self.new.disk) → IsTrue (D.tells self.old.disk) }
-        ensures faults { CountsOffer (D.faults self.old.disk) (D.faults self.new.disk) result }
-        ensures moments { IsTrue (D.tells self.new.disk)
-            → AtEach (IsEither (owner_in self.old.origin) self.old.state.clock.reports (Some report)) (D.moments self.old.disk) (D.moments self.new.disk) }
+        ensures later { IsLater (D.shown self.old.disk) (D.shown self.new.disk) }
+        ensures faults { CountsOffer (D.shown self.old.disk).faults (D.shown self.new.disk).faults result }
+        ensures moments { IsTrue (is_told (D.shown self.new.disk))
+            → AtEach (IsEither (owner_in self.old.origin) self.old.state.clock.reports (Some report)) (told_moments (D.shown self.old.disk)) (told_moments (D.shown self.new.disk)) }
     {
         let _kept = self.journal.count();
         let _more = self.noted.clock();
@@ -135,12 +137,12 @@ impl<D: Disk> ClockBook<D> {
         requires settled { self.old.state.pending ≡ None }
         requires fits { IsDemand self.old.state.clock.terms.goods report.demand }
         ensures answer { Answers (owner_in self.old.origin) result self.old.state report self.new.state }
-        ensures cause { result ≡ DiskFault → Rose (D.faults self.old.disk) (D.faults self.new.disk) }
+        ensures cause { result ≡ DiskFault → Rose (D.shown self.old.disk).faults (D.shown self.new.disk).faults }
         ensures origin { self.new.origin ≡ self.old.origin }
-        ensures tells { IsTrue (D.tells self.new.disk) → IsTrue (D.tells self.old.disk) }
-        ensures faults { CountsOffer (D.faults self.old.disk) (D.faults self.new.disk) result }
-        ensures moments { IsTrue (D.tells self.new.disk)
-            → AtEach (IsEither (owner_in self.old.origin) self.old.state.clock.reports (Some report)) (D.moments self.old.disk) (D.moments self.new.disk) }
+        ensures later { IsLater (D.shown self.old.disk) (D.shown self.new.disk) }
+        ensures faults { CountsOffer (D.shown self.old.disk).faults (D.shown self.new.disk).faults result }
+        ensures moments { IsTrue (is_told (D.shown self.new.disk))
+            → AtEach (IsEither (owner_in self.old.origin) self.old.state.clock.reports (Some report)) (told_moments (D.shown self.old.disk)) (told_moments (D.shown self.new.disk)) }
     {
         let clock = self.clock();
         match clock.judge(report.bidder, report.round, &report.demand) {
@@ -154,12 +156,12 @@ impl<D: Disk> ClockBook<D> {
     fn mend_and_answer<H: Hint>(&mut self, alloc: Global, report: Report, hint: &H) -> Offered
         requires { IsDemand self.old.state.clock.terms.goods report.demand }
         ensures answer { IsOffer (owner_in self.old.origin) self.old.state report result self.new.state }
-        ensures cause { result ≡ DiskFault → Rose (D.faults self.old.disk) (D.faults self.new.disk) }
+        ensures cause { result ≡ DiskFault → Rose (D.shown self.old.disk).faults (D.shown self.new.disk).faults }
         ensures origin { self.new.origin ≡ self.old.origin }
-        ensures tells { IsTrue (D.tells self.new.disk) → IsTrue (D.tells self.old.disk) }
-        ensures faults { CountsOffer (D.faults self.old.disk) (D.faults self.new.disk) result }
-        ensures moments { IsTrue (D.tells self.new.disk)
-            → OfferLeaves (owner_in self.old.origin) self.old.state report result self.new.state (D.moments self.old.disk) (D.moments self.new.disk) }
+        ensures later { IsLater (D.shown self.old.disk) (D.shown self.new.disk) }
+        ensures faults { CountsOffer (D.shown self.old.disk).faults (D.shown self.new.disk).faults result }
+        ensures moments { IsTrue (is_told (D.shown self.new.disk))
+            → OfferLeaves (owner_in self.old.origin) self.old.state report result self.new.state (told_moments (D.shown self.old.disk)) (told_moments (D.shown self.new.disk)) }
     {
         match self.settle_pending(alloc, &report) {
             Err(Failed) => Offered::DiskFault,
@@ -171,7 +173,7 @@ impl<D: Disk> ClockBook<D> {
     /// be taken is on the disk before it is answered. It takes no memory.
     pub fn offer(&mut self, alloc: Global, bidder: u8, round: u32, demand: Demand) -> Offered
         requires { IsDemand self.old.state.clock.terms.goods demand }
-        ensures { Offers D.tells D.moments D.faults (record { bidder = bidder; round = round; demand = demand }) self.old self.new result }
+        ensures { Offers D.shown (record { bidder = bidder; round = round; demand = demand }) self.old self.new result }
     {
         self.offer_hinted(alloc, bidder, round, demand, &NoHint)
     }
@@ -187,7 +189,7 @@ impl<D: Disk> ClockBook<D> {
         hint: &H,
     ) -> Offered
         requires { IsDemand self.old.state.clock.terms.goods demand }
-        ensures { Offers D.tells D.moments D.faults (record { bidder = bidder; round = round; demand = demand }) self.old self.new result }
+        ensures { Offers D.shown (record { bidder = bidder; round = round; demand = demand }) self.old self.new result }
     {
         let answer = self.mend_and_answer(
             alloc,
@@ -205,7 +207,7 @@ impl<D: Disk> ClockBook<D> {
     /// The clock, with the reports that were taken.
     pub fn clock(&self) -> &Clock
         ensures value { result.now.history ≡ self.now.state.clock }
-        ensures kept { IsKept (IsTrue (D.tells self.now.disk)) (D.moments self.now.disk) (D.faults self.now.disk) self.now }
+        ensures kept { IsKept D.shown self.now }
     {
         let _kept = self.journal.count();
         self.noted.clock()

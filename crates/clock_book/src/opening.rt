@@ -1,5 +1,6 @@
 //! A clock that is read from a journal.
 ghost use Rattle.std.specs.Prelude.{◌≡◌, ◌≤◌, [], IsTrue, IfOk, IfErr, OnOk};
+ghost use Rattle.house_io.specs.Disks.{is_told, told_moments, IsLater};
 ghost use Rattle.lot_base.specs.Demands.{IsDemand};
 ghost use Rattle.clock.specs.Reports.{with_report, applied};
 ghost use Rattle.clock.specs.Judging.{judgement_of};
@@ -27,11 +28,11 @@ pub fn read_clock<D: Disk>(
     digest: &[u8; 32],
 ) -> Result<Clock, OpenFault>
     requires { clock ≤ terms.now.bidders }
-    ensures read { IsTrue (D.tells disk.new) → ReadsClock (owner_of terms.now clock digest.now) (D.moments disk.old).now.read result }
+    ensures read { IsTrue (is_told (D.shown disk.new)) → ReadsClock (owner_of terms.now clock digest.now) (told_moments (D.shown disk.old)).now.read result }
     ensures history { IfOk result (λ c. IsHistoryOf (owner_of terms.now clock digest.now) c.history) }
-    ensures synced { IsTrue (D.tells disk.new) → IsSyncedBy result (D.moments disk.old) (D.moments disk.new) }
-    ensures tells { IsTrue (D.tells disk.new) → IsTrue (D.tells disk.old) }
-    ensures faults { CountsFaults (D.faults disk.old) (D.faults disk.new) result }
+    ensures synced { IsTrue (is_told (D.shown disk.new)) → IsSyncedBy result (told_moments (D.shown disk.old)) (told_moments (D.shown disk.new)) }
+    ensures later { IsLater (D.shown disk.old) (D.shown disk.new) }
+    ensures faults { CountsFaults (D.shown disk.old).faults (D.shown disk.new).faults result }
 {
     let taken = Clock::new(alloc, terms, clock)?;
     match read_into(alloc, disk, taken, terms, clock, digest) {
@@ -51,13 +52,13 @@ pub(crate) fn read_into<D: Disk>(
 ) -> Result<(Clock, Scanned), OpenFault>
     requires number { clock ≤ terms.now.bidders }
     requires empty { empty.history ≡ history_of (owner_of terms.now clock digest.now) [] }
-    ensures read { IsTrue (D.tells disk.new) → ReadsBook (owner_of terms.now clock digest.now) (D.moments disk.old).now.read result }
+    ensures read { IsTrue (is_told (D.shown disk.new)) → ReadsBook (owner_of terms.now clock digest.now) (told_moments (D.shown disk.old)).now.read result }
     ensures history { IfOk result (λ r. IsHistoryOf (owner_of terms.now clock digest.now) r.0.history) }
-    ensures found { IfOk result (λ r. IsFound (IsTrue (D.tells disk.new)) (owner_of terms.now clock digest.now) r.0.history.reports r.1 (D.moments disk.new).now.read) }
+    ensures found { IfOk result (λ r. IsFound (IsTrue (is_told (D.shown disk.new))) (owner_of terms.now clock digest.now) r.0.history.reports r.1 (told_moments (D.shown disk.new)).now.read) }
     ensures room { IfOk result (λ r. KeepsRoom empty r.0) }
-    ensures synced { IsTrue (D.tells disk.new) → IsSyncedBy result (D.moments disk.old) (D.moments disk.new) }
-    ensures tells { IsTrue (D.tells disk.new) → IsTrue (D.tells disk.old) }
-    ensures faults { CountsFaults (D.faults disk.old) (D.faults disk.new) result }
+    ensures synced { IsTrue (is_told (D.shown disk.new)) → IsSyncedBy result (told_moments (D.shown disk.old)) (told_moments (D.shown disk.new)) }
+    ensures later { IsLater (D.shown disk.old) (D.shown disk.new) }
+    ensures faults { CountsFaults (D.shown disk.old).faults (D.shown disk.new).faults result }
 {
     let mut taken = empty;
     let mut reader = Reports::begin(alloc, disk, terms, clock, digest)?;

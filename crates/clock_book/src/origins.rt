@@ -1,5 +1,6 @@
 //! What stays of a book for as long as it lives.
 ghost use Rattle.std.specs.Prelude.{◌≡◌};
+ghost use Rattle.house_io.specs.Disks.{is_told, told_moments};
 
 use house_io::Disk;
 use lot_base::Terms;
@@ -45,6 +46,7 @@ pub(crate) struct Start<D: Disk> {
 }
 
 impl<D: Disk> Model for Start<D> {
+    ghost use Rattle.house_io.specs.Disks.{is_told, told_moments};
     ghost use Rattle.std.specs.Prelude.{length};
     ghost use Rattle.clock_book.specs.declared.origins.Origin.{Origin};
 
@@ -54,11 +56,11 @@ impl<D: Disk> Model for Start<D> {
       terms = s.terms;
       clock = s.clock;
       digest = s.digest;
-      synced = length (D.moments s.synced.value).past;
-      read = (D.moments s.synced.value).now.read;
+      synced = length (told_moments (D.shown s.synced.value)).past;
+      read = (told_moments (D.shown s.synced.value)).now.read;
       reports = s.reports;
-      answered = length (D.moments s.answered.value.disk).past;
-      told = D.tells s.answered.value.disk;
+      answered = length (told_moments (D.shown s.answered.value.disk)).past;
+      told = is_told (D.shown s.answered.value.disk);
     } };
 }
 

@@ -1,5 +1,6 @@
 //! How a book is opened.
 ghost use Rattle.std.specs.Prelude.{◌≡◌, ◌≤◌, ◌*◌, [], List, ℕ, length, min, max, IsTrue, IfOk, IfErr};
+ghost use Rattle.house_io.specs.Disks.{is_told, told_moments, IsLater};
 ghost use Rattle.lot_base.specs.Goods.{box_size};
 ghost use Rattle.demand_set.specs.declared.reports.Report.{Report as ReportValue};
 ghost use Rattle.house_io.specs.Moments.{IsSettled};
@@ -18,7 +19,7 @@ use crate::opening::read_into;
 use crate::origins::Start;
 use crate::payloads::Payload;
 use clock::{Clock, most_reports};
-use house_io::Disk;
+use house_io::{Disk, Failed};
 use lot_base::{NoMemory, Terms};
 use report_journal::{Header, Journal, JournalFault, NotFormed, Scanned};
 use std::alloc::Global;
@@ -37,8 +38,8 @@ pub struct Unopened<D> {
 }
 
 impl<D: Disk> ClockBook<D> {
-    /// Opens a book on a disk: its reports are those that the file stands for, all noted as offered. It syncs first. An unformed file
-    /// is formed; no other file is changed. Room is reserved for all reports that the clock may still take.
+    /// Opens a book on a disk: its reports are those that the file stands for, all noted as offered. It claims the disk first, and then
+    /// syncs. An unformed file is formed; no other file is changed. Room is reserved for all reports that the clock may still take.
     pub fn open(
         alloc: Global,
         disk: D,
@@ -47,10 +48,17 @@ impl<D: Disk> ClockBook<D> {
         digest: &[u8; 32],
     ) -> Result<ClockBook<D>, Unopened<D>>
         requires { clock ≤ terms.now.bidders }
-        ensures ok { IfOk result (λ b. Opens D.tells D.moments D.faults (owner_of terms.now clock digest.now) disk b) }
-        ensures err { IfErr result (λ e. IsUnopened D.tells D.moments D.faults (owner_of terms.now clock digest.now) disk e.disk e.fault) }
+        ensures ok { IfOk result (λ b. Opens D.shown (owner_of terms.now clock digest.now) disk b) }
+        ensures err { IfErr result (λ e. IsUnopened D.shown (owner_of terms.now clock digest.now) disk e.disk e.fault) }
     {
         let mut disk = disk;
+        // Nobody else writes the file from here on, so it is still what is read below when it is written.
+        if let Err(Failed) = disk.claim() {
+            return Err(Unopened {
+                disk,
+                fault: OpenFault::DiskFault,
+            });
+        }
         match read_noted(alloc, &mut disk, terms, clock, digest) {
             Err(fault) => Err(Unopened { disk, fault }),
             Ok((noted, scan)) => begin(alloc, disk, scan, noted, terms, clock, digest),
@@ -67,11 +75,11 @@ fn read_noted<D: Disk>(
     digest: &[u8; 32],
 ) -> Result<(NotedClock, Scanned), OpenFault>
     requires { clock ≤ terms.now.bidders }
-    ensures read { IsTrue (D.tells disk.new) → ReadsNoted (owner_of terms.now clock digest.now) (D.moments disk.old).now.read result }
-    ensures noted { IfOk result (λ r. IsNotedAs (IsTrue (D.tells disk.new)) (owner_of terms.now clock digest.now) r.0 r.1 (D.moments disk.new).now.read) }
-    ensures synced { IsTrue (D.tells disk.new) → IsSyncedBy result (D.moments disk.old) (D.moments disk.new) }
-    ensures tells { IsTrue (D.tells disk.new) → IsTrue (D.tells disk.old) }
-    ensures faults { CountsFaults (D.faults disk.old) (D.faults disk.new) result }
+    ensures read { IsTrue (is_told (D.shown disk.new)) → ReadsNoted (owner_of terms.now clock digest.now) (told_moments (D.shown disk.old)).now.read result }
+    ensures noted { IfOk result (λ r. IsNotedAs (IsTrue (is_told (D.shown disk.new))) (owner_of terms.now clock digest.now) r.0 r.1 (told_moments (D.shown disk.new)).now.read) }
+    ensures synced { IsTrue (is_told (D.shown disk.new)) → IsSyncedBy result (told_moments (D.shown disk.old)) (told_moments (D.shown disk.new)) }
+    ensures later { IsLater (D.shown disk.old) (D.shown disk.new) }
+    ensures faults { CountsFaults (D.shown disk.old).faults (D.shown disk.new).faults result }
 {
     let most = most_reports(terms, clock);
     let quantities = most_quantities(terms, most);
@@ -101,11 +109,12 @@ fn begin<D: Disk>(
     clock: u8,
     digest: &[u8; 32],
 ) -> Result<ClockBook<D>, Unopened<D>>
+    requires claimed { IsTrue (D.shown disk).claimed }
     requires number { clock ≤ terms.now.bidders }
-    requires settled { IsTrue (D.tells disk) → IsSettled (D.moments disk).now }
-    requires noted { IsNotedAs (IsTrue (D.tells disk)) (owner_of terms.now clock digest.now) noted scan (D.moments disk).now.read }
-    ensures ok { IfOk result (λ b. Begins D.tells D.moments D.faults (owner_of terms.now clock digest.now) noted.clock disk b) }
-    ensures err { IfErr result (λ e. IsNotBegun D.tells D.moments D.faults (owner_of terms.now clock digest.now) disk e.disk e.fault) }
+    requires settled { IsTrue (is_told (D.shown disk)) → IsSettled (told_moments (D.shown disk)).now }
+    requires noted { IsNotedAs (IsTrue (is_told (D.shown disk))) (owner_of terms.now clock digest.now) noted scan (told_moments (D.shown disk)).now.read }
+    ensures ok { IfOk result (λ b. Begins D.shown (owner_of terms.now clock digest.now) noted.clock disk b) }
+    ensures err { IfErr result (λ e. IsNotBegun D.shown (owner_of terms.now clock digest.now) disk e.disk e.fault) }
 {
     let Ok(payload) = Payload::new(alloc) else {
         return Err(Unopened {
@@ -149,13 +158,14 @@ fn roomy_journal<D: Disk>(
     digest: &[u8; 32],
     most: u32,
 ) -> Result<Journal<D>, Unopened<D>>
+    requires claimed { IsTrue (D.shown disk).claimed }
     requires in_order { IsInOrder scan }
     requires undamaged { IsUndamaged scan }
-    requires scanned { IsTrue (D.tells disk) → IsSettled (D.moments disk).now × IsScan scan (D.moments disk).now.read }
-    ensures laid { IfOk result (λ j. (reports : List ReportValue) → IsFound (IsTrue (D.tells disk)) (owner_of terms.now clock digest.now) reports scan (D.moments disk).now.read
-        → IsLaid D.tells D.moments D.faults (owner_of terms.now clock digest.now) reports disk j) }
+    requires scanned { IsTrue (is_told (D.shown disk)) → IsSettled (told_moments (D.shown disk)).now × IsScan scan (told_moments (D.shown disk)).now.read }
+    ensures laid { IfOk result (λ j. (reports : List ReportValue) → IsFound (IsTrue (is_told (D.shown disk))) (owner_of terms.now clock digest.now) reports scan (told_moments (D.shown disk)).now.read
+        → IsLaid D.shown (owner_of terms.now clock digest.now) reports disk j) }
     ensures roomy { IfOk result (λ j. most ≤ j.spare) }
-    ensures err { IfErr result (λ e. IsNotBegun D.tells D.moments D.faults (owner_of terms.now clock digest.now) disk e.disk e.fault) }
+    ensures err { IfErr result (λ e. IsNotBegun D.shown (owner_of terms.now clock digest.now) disk e.disk e.fault) }
 {
     match journal_on(alloc, disk, scan, terms, clock, digest) {
         Err(unopened) => Err(unopened),
@@ -178,13 +188,14 @@ fn journal_on<D: Disk>(
     clock: u8,
     digest: &[u8; 32],
 ) -> Result<Journal<D>, Unopened<D>>
+    requires claimed { IsTrue (D.shown disk).claimed }
     requires in_order { IsInOrder scan }
     requires undamaged { IsUndamaged scan }
-    requires scanned { IsTrue (D.tells disk) → IsSettled (D.moments disk).now × IsScan scan (D.moments disk).now.read }
-    ensures laid { IfOk result (λ j. (reports : List ReportValue) → IsFound (IsTrue (D.tells disk)) (owner_of terms.now clock digest.now) reports scan (D.moments disk).now.read
-        → IsLaid D.tells D.moments D.faults (owner_of terms.now clock digest.now) reports disk j) }
-    ensures left { IfOk result (λ j. IsNotBegun D.tells D.moments D.faults (owner_of terms.now clock digest.now) disk j.disk why.NoMemory) }
-    ensures err { IfErr result (λ e. IsNotBegun D.tells D.moments D.faults (owner_of terms.now clock digest.now) disk e.disk e.fault) }
+    requires scanned { IsTrue (is_told (D.shown disk)) → IsSettled (told_moments (D.shown disk)).now × IsScan scan (told_moments (D.shown disk)).now.read }
+    ensures laid { IfOk result (λ j. (reports : List ReportValue) → IsFound (IsTrue (is_told (D.shown disk))) (owner_of terms.now clock digest.now) reports scan (told_moments (D.shown disk)).now.read
+        → IsLaid D.shown (owner_of terms.now clock digest.now) reports disk j) }
+    ensures left { IfOk result (λ j. IsNotBegun D.shown (owner_of terms.now clock digest.now) disk j.disk why.NoMemory) }
+    ensures err { IfErr result (λ e. IsNotBegun D.shown (owner_of terms.now clock digest.now) disk e.disk e.fault) }
 {
     match scan {
         Scanned::Unformed => formed(alloc, disk, terms, clock, digest),
@@ -200,9 +211,10 @@ fn formed<D: Disk>(
     clock: u8,
     digest: &[u8; 32],
 ) -> Result<Journal<D>, Unopened<D>>
-    requires unformed { IsTrue (D.tells disk) → IsSettled (D.moments disk).now × IsUnformed (D.moments disk).now.read }
-    ensures laid { IfOk result (λ j. IsLaid D.tells D.moments D.faults (owner_of terms.now clock digest.now) [] disk j) }
-    ensures err { IfErr result (λ e. IsNotBegun D.tells D.moments D.faults (owner_of terms.now clock digest.now) disk e.disk e.fault) }
+    requires claimed { IsTrue (D.shown disk).claimed }
+    requires unformed { IsTrue (is_told (D.shown disk)) → IsSettled (told_moments (D.shown disk)).now × IsUnformed (told_moments (D.shown disk)).now.read }
+    ensures laid { IfOk result (λ j. IsLaid D.shown (owner_of terms.now clock digest.now) [] disk j) }
+    ensures err { IfErr result (λ e. IsNotBegun D.shown (owner_of terms.now clock digest.now) disk e.disk e.fault) }
 {
     let header = header_for(terms, clock, digest);
     match Journal::form(alloc, disk, &header) {

@@ -3,9 +3,9 @@ ghost use Rattle.std.specs.Prelude.{◌≡◌, IfSome};
 ghost use Rattle.lot_base.specs.Demands.{IsDemand};
 
 use clock::{Judgement, Offered};
-use clock_book::ClockBook;
+use clock_book::{ClockBook, OpenFault, Unopened};
 use demand_set::Demand;
-use house_io::{Fill, ListDisk};
+use house_io::{Disk, Fill, ListDisk};
 use lot_base::{Goods, Prices, Terms};
 use std::alloc::Global;
 
@@ -16,7 +16,7 @@ const DIGEST: [u8; 32] = [7; 32];
 const OPEN: u8 = 0xa5;
 
 /// The number, from 0, of the last call of a disk in the opening of an empty file.
-const OPENING: u64 = 8;
+const OPENING: u64 = 10;
 
 /// How many calls an append makes.
 const APPEND: u64 = 4;
@@ -356,6 +356,29 @@ fn an_unformed_file_is_formed_in_the_version_of_the_terms(rt: HostRuntime) {
     assert_eq!(rt; length_and_byte(priced, 0).0, 48);
     let one = file_behind(alloc, priced_terms(), ONE_STEP);
     assert_eq!(rt; length_and_byte(one, 47), (63, Some(OPEN)));
+}
+
+/// Why no book is opened on a file of whose disk the claim fails, and whether that disk is not claimed then and has the file.
+fn unclaimed(alloc: Global, file: &[u8]) -> Option<(OpenFault, bool, bool)> {
+    let terms = plain_terms()?;
+    let failing = Failing { first: 0, count: 2 };
+    let disk = disk_with(alloc, file, failing)?;
+    match ClockBook::open(alloc, disk, &terms, 0, &DIGEST) {
+        Ok(_) => None,
+        Err(Unopened { mut disk, fault }) => {
+            // Of a disk that is claimed a claim is no call, and cannot fail.
+            let is_unclaimed = disk.claim().is_err();
+            Some((fault, is_unclaimed, disk.bytes() == file))
+        }
+    }
+}
+
+#[test]
+fn no_book_is_opened_on_a_disk_whose_claim_fails(rt: HostRuntime) {
+    assert_eq!(rt;
+        unclaimed(rt.alloc(), &ONE_REPORT),
+        Some((OpenFault::DiskFault, true, true))
+    );
 }
 
 /// The four reports that are to be taken.

@@ -233,9 +233,9 @@ fn fault_at(alloc: Global, call: u64) -> Option<Option<OpenFault>> {
 
 #[test]
 fn each_call_of_a_reading_may_fail(rt: HostRuntime) {
-    for call in 0..6 {
+    for call in 0..7 {
         let fault = fault_at(rt.alloc(), call);
         assert_eq!(rt; fault, Some(Some(OpenFault::DiskFault)), "call {call}");
     }
-    assert_eq!(rt; fault_at(rt.alloc(), 6), Some(None));
+    assert_eq!(rt; fault_at(rt.alloc(), 7), Some(None));
 }

@@ -1,5 +1,6 @@
 -- A house of desks that were laid, and of passes that were dealt out.
 use Rattle.std.proofs.Common.{◌≡◌, ◌<◌, ℕ, zero, suc, ◌+◌, Bool, List, [], ◌∷◌, ◌++◌, length, map, get_or, take, drop, Some, None, refl, sym, ◌∙◌, ap, subst, arith}
+use Rattle.house_io.specs.Disks.{DiskShown}
 use Rattle.std.specs.List.{AllByRecursion}
 use Rattle.std.proofs.lemmas.List.{get_or-map, length-map}
 use Rattle.lot_base.specs.declared.auction_terms.Terms.{Terms}
@@ -69,8 +70,8 @@ pub new-count : {B : Type 0} (n : ℕ) (desk : Opened B) (history : List Entry) 
 new-count n desk history origin [] are = sym are
 new-count n desk history origin (p ∷ ps) are = sym are.0
 
-module _ {D : Type 0} (tells : D → Bool) (moments : D → Moments) (faults : D → ℕ) (terms : Terms) (digest : List ℕ) (count : ℕ) (disks : List D) (laid : List (LaidOf D)) (passes : List HousePassOf)
-    (are : AreLaid tells moments faults terms digest count disks laid) (many : length laid ≡ length disks) (clocks : length disks ≡ terms.bidders + 1)
+module _ {D : Type 0} (shown : D → DiskShown) (terms : Terms) (digest : List ℕ) (count : ℕ) (disks : List D) (laid : List (LaidOf D)) (passes : List HousePassOf)
+    (are : AreLaid shown terms digest count disks laid) (many : length laid ≡ length disks) (clocks : length disks ≡ terms.bidders + 1)
     (dealt : AreDealt laid (rows_of passes)) (count_is : length passes ≡ count) (room : room_in passes ≡ count) where
   desk-at : (k : ℕ) (d : Opened (BookOf D)) (l : LaidOf D) → k < length laid → get_or (map (λ (x : LaidOf D). x.desk) laid) k d ≡ (get_or laid k l).desk
   desk-at k d l below = get_or-map (λ (x : LaidOf D). x.desk) laid k l d below
@@ -89,7 +90,7 @@ module _ {D : Type 0} (tells : D → Bool) (moments : D → Moments) (faults : D
       let Fresh : Known Entry Origin → Type 0 = IsFresh m.desk m.desk.book.state.history m.desk.book.origin in
       subst Fresh (pass-at i k p q l low below) (all-at Fresh m.passes i q (omega (arith, low, count_is, long)) (new-fresh count m.desk m.desk.book.state.history m.desk.book.origin m.passes here.new))
 
-  pub house-opened : IsOpened tells moments faults terms digest count disks (record { terms = terms; digest = digest; desks = map (λ (x : LaidOf D). x.desk) laid }) passes
+  pub house-opened : IsOpened shown terms digest count disks (record { terms = terms; digest = digest; desks = map (λ (x : LaidOf D). x.desk) laid }) passes
   house-opened =
       let x = some-of disks 0 (omega (arith, clocks)) in
       let l = some-of laid 0 (omega (arith, clocks, many)) in
@@ -101,7 +102,7 @@ module _ {D : Type 0} (tells : D → Bool) (moments : D → Moments) (faults : D
         digest_is = refl;
         clocks = wide ∙ many;
         books = λ k y d below.
-            let Is : Opened (BookOf D) → Type 0 = λ z. Opens tells moments faults (owner_of terms k digest) (get_or disks k y) z.book in
+            let Is : Opened (BookOf D) → Type 0 = λ z. Opens shown (owner_of terms k digest) (get_or disks k y) z.book in
             subst Is (sym (desk-at k d l (omega (arith, below, many)))) (are.each k y l (omega (arith, below, many))).opens;
         count_is = count_is;
         new = all-from (IsNewPass (record { terms = terms; digest = digest; desks = desks })) passes (λ i p low.
@@ -134,9 +135,9 @@ module _ {D : Type 0} (tells : D → Bool) (moments : D → Moments) (faults : D
         };
       }
 
-pub laid-all : {D : Type 0} (tells : D → Bool) (moments : D → Moments) (faults : D → ℕ) (terms : Terms) (digest : List ℕ) (count : ℕ) (disks : List D) (laid : List (LaidOf D)) (n : ℕ)
-    → AreLaid tells moments faults terms digest count disks laid → 0 < length disks → n ≡ count → AllByRecursion (λ (l : LaidOf D). length l.passes ≡ n) laid
-laid-all {D} tells moments faults terms digest count disks laid n are some same = all-from (λ (l : LaidOf D). length l.passes ≡ n) laid (λ k l below.
+pub laid-all : {D : Type 0} (shown : D → DiskShown) (terms : Terms) (digest : List ℕ) (count : ℕ) (disks : List D) (laid : List (LaidOf D)) (n : ℕ)
+    → AreLaid shown terms digest count disks laid → 0 < length disks → n ≡ count → AllByRecursion (λ (l : LaidOf D). length l.passes ≡ n) laid
+laid-all {D} shown terms digest count disks laid n are some same = all-from (λ (l : LaidOf D). length l.passes ≡ n) laid (λ k l below.
     let m = get_or laid k l in
     new-count count m.desk m.desk.book.state.history m.desk.book.origin m.passes (are.each k (some-of disks 0 some) l below).new ∙ sym same)
 
@@ -144,9 +145,9 @@ fresh-unused : {B : Type 0} (desk : Opened B) (history : List Entry) (origin : O
 fresh-unused desk history origin [] all = tt
 fresh-unused desk history origin (p ∷ ps) all = (all.0.own, fresh-unused desk history origin ps all.1)
 
-pub laid-unused : {D : Type 0} (tells : D → Bool) (moments : D → Moments) (faults : D → ℕ) (terms : Terms) (digest : List ℕ) (count : ℕ) (disks : List D) (laid : List (LaidOf D))
-    → AreLaid tells moments faults terms digest count disks laid → 0 < length disks → AllByRecursion (IsUnused {D = D}) laid
-laid-unused {D} tells moments faults terms digest count disks laid are some = all-from (IsUnused {D = D}) laid (λ k l below.
+pub laid-unused : {D : Type 0} (shown : D → DiskShown) (terms : Terms) (digest : List ℕ) (count : ℕ) (disks : List D) (laid : List (LaidOf D))
+    → AreLaid shown terms digest count disks laid → 0 < length disks → AllByRecursion (IsUnused {D = D}) laid
+laid-unused {D} shown terms digest count disks laid are some = all-from (IsUnused {D = D}) laid (λ k l below.
     let m = get_or laid k l in
     let b = m.desk.book in
     record { made_nothing = fresh-unused m.desk b.state.history b.origin m.passes (new-fresh count m.desk b.state.history b.origin m.passes (are.each k (some-of disks 0 some) l below).new) })

@@ -1,5 +1,6 @@
 -- Places in lists of disks and desks.
 use Rattle.std.proofs.Common.{◌≡◌, inl, inr, ◌<◌, ℕ, zero, suc, ◌+◌, Bool, List, [], ◌∷◌, ◌++◌, length, drop, get_or, reverse, refl, sym, ◌∙◌, ap, subst, arith, length-append, length-drop}
+use Rattle.house_io.specs.Disks.{DiskShown}
 use Rattle.std.proofs.lemmas.List.{get_or_at, reverse-append, drop_more}
 use Rattle.std.proofs.lemmas.Bool.{cases_lt}
 use Rattle.lot_base.specs.declared.auction_terms.Terms.{Terms}
@@ -55,13 +56,13 @@ module _ {A : Type 0} where
         rest = (heads x (get_or whole n x) (reverse left) (drop (n + 1) whole) (e ∙ drop_more whole n x more)).1;
       }
 
-module _ {D : Type 0} (tells : D → Bool) (moments : D → Moments) (faults : D → ℕ) (terms : Terms) (digest : List ℕ) (count : ℕ) where
+module _ {D : Type 0} (shown : D → DiskShown) (terms : Terms) (digest : List ℕ) (count : ℕ) where
   -- one desk more
-  pub laid-more : (disks left : List D) (laid : List (LaidOf D)) (n : ℕ) (disk : D) (l : LaidOf D) → AreLaid tells moments faults terms digest count disks laid → length laid ≡ n → IsTaken disks left n disk
-      → IsLaidFor tells moments faults terms digest count n disk l.desk l.passes → AreLaid tells moments faults terms digest count disks (laid ++ l ∷ [])
+  pub laid-more : (disks left : List D) (laid : List (LaidOf D)) (n : ℕ) (disk : D) (l : LaidOf D) → AreLaid shown terms digest count disks laid → length laid ≡ n → IsTaken disks left n disk
+      → IsLaidFor shown terms digest count n disk l.desk l.passes → AreLaid shown terms digest count disks (laid ++ l ∷ [])
   laid-more disks left laid n disk l are size next fits =
       let longer : length (laid ++ l ∷ []) ≡ n + 1 = omega (arith, length-append laid (l ∷ []), size) in
-      let For : ℕ → D → LaidOf D → Type 0 = λ k x m. IsLaidFor tells moments faults terms digest count k x m.desk m.passes in
+      let For : ℕ → D → LaidOf D → Type 0 = λ k x m. IsLaidFor shown terms digest count k x m.desk m.passes in
       record {
         within = omega (arith, longer, next.within);
         each = λ k x m below. elim (cases_lt k (length laid)) [
@@ -74,10 +75,10 @@ module _ {D : Type 0} (tells : D → Bool) (moments : D → Moments) (faults : D
       }
 
   -- the disks are given back where one was not opened
-  pub not-open : (disks left front new : List D) (laid : List (LaidOf D)) (n : ℕ) (disk back : D) (fault : OpenFault) → AreLaid tells moments faults terms digest count disks laid → length laid ≡ n → IsTaken disks left n disk
-      → IsUnopened tells moments faults (owner_of terms n digest) disk back fault → AreGivenBack tells moments laid front → new ≡ front ++ reverse (left ++ back ∷ []) → IsNotOpen tells moments faults terms digest disks new n fault
+  pub not-open : (disks left front new : List D) (laid : List (LaidOf D)) (n : ℕ) (disk back : D) (fault : OpenFault) → AreLaid shown terms digest count disks laid → length laid ≡ n → IsTaken disks left n disk
+      → IsUnopened shown (owner_of terms n digest) disk back fault → AreGivenBack shown laid front → new ≡ front ++ reverse (left ++ back ∷ []) → IsNotOpen shown terms digest disks new n fault
   not-open disks left front new laid n disk back fault are size next unopened given is =
-      let long : length front ≡ length laid = given-count tells moments laid front given in
+      let long : length front ≡ length laid = given-count shown laid front given in
       let suc-n : suc (length front) ≡ n + 1 = omega (arith, long, size) in
       let all : new ≡ front ++ back ∷ drop (suc (length front)) disks =
       is ∙ ap (λ l. front ++ l) (reverse-append left (back ∷ [])) ∙ ap (λ l. front ++ back ∷ l) (next.rest ∙ ap (λ (k : ℕ). drop k disks) (sym suc-n)) in
@@ -88,10 +89,10 @@ module _ {D : Type 0} (tells : D → Bool) (moments : D → Moments) (faults : D
             let below : k < length laid = omega (arith, less, size) in
             let l = some-of laid k below in
             let here : get_or new k x ≡ get_or front k x = ap (λ z. get_or z k x) all ∙ get-front front (back ∷ drop (suc (length front)) disks) k x (omega (arith, below, long)) in
-            subst (λ z. WasOpened tells moments faults (owner_of terms k digest) (get_or disks k x) z) (sym here)
-            (was-opened tells moments faults (owner_of terms k digest) (get_or disks k x) (get_or laid k l).desk.book (get_or front k x) (are.each k x l below).opens (given-at tells moments laid front k l x given below));
+            subst (λ z. WasOpened shown (owner_of terms k digest) (get_or disks k x) z) (sym here)
+            (was-opened shown (owner_of terms k digest) (get_or disks k x) (get_or laid k l).desk.book (get_or front k x) (are.each k x l below).opens (given-at shown laid front k l x given below));
         refused = λ x.
             let here : get_or new n x ≡ back = ap (λ l. get_or l n x) all ∙ get_or_at front back (drop (suc (length front)) disks) x n (long ∙ size) in
-            subst (λ z. IsUnopened tells moments faults (owner_of terms n digest) z (get_or new n x) fault) (next.here x) (subst (λ z. IsUnopened tells moments faults (owner_of terms n digest) disk z fault) (sym here) unopened);
+            subst (λ z. IsUnopened shown (owner_of terms n digest) z (get_or new n x) fault) (next.here x) (subst (λ z. IsUnopened shown (owner_of terms n digest) disk z fault) (sym here) unopened);
         after = λ k x more. ap (λ l. get_or l k x) all ∙ get-past front back disks k x (omega (arith, more, long, size));
       }

@@ -1,5 +1,6 @@
 -- Desks at which nothing was made: the disks of their books stand as these say.
 use Rattle.std.proofs.Common.{◌≡◌, inl, inr, ◌<◌, ◌≤◌, ℕ, zero, suc, ◌+◌, Bool, ◌&&◌, List, [], ◌∷◌, ◌++◌, length, map, get_or, reverse, refl, sym, ◌∙◌, ap, subst, arith, length-append, append-nil, append_assoc}
+use Rattle.house_io.specs.Disks.{DiskShown, is_told, told_moments}
 use Rattle.std.specs.Prelude.{IsTrue, Option, Some, None, IfSome}
 use Rattle.std.specs.List.{AllByRecursion}
 use Rattle.std.proofs.lemmas.Bool.{cases_lt, le-leb, lt-ltb}
@@ -47,30 +48,31 @@ module _ {E O : Type 0} where
       let le : length (history book) ≤ at = no-place at (length (history book)) (sym (closes.places at) ∙ nothing-made at ps all) in
       is ∙ ap (λ z. history first ++ z) (empty-tail (history first) closes.goes_on.0 (omega (arith, ap length is, le))) ∙ append-nil (history first)
 
-module _ {D : Type 0} (tells : D → Bool) (moments : D → Moments) where
-  pub given-back : (b : BookOf D) (faults : ℕ) (origin : Origin) (history : List Entry) (disk : D) → IsKept (IsTrue (tells b.disk)) (moments b.disk) faults b → b.origin ≡ origin → b.state.history ≡ history → disk ≡ b.disk
-      → IsGivenBack tells moments origin history disk
-  given-back b faults origin history disk kept same alike is =
+module _ {D : Type 0} (shown : D → DiskShown) where
+  pub given-back : (b : BookOf D) (origin : Origin) (history : List Entry) (disk : D) → IsKept shown b → b.origin ≡ origin → b.state.history ≡ history → disk ≡ b.disk
+      → IsGivenBack shown origin history disk
+  given-back b origin history disk kept same alike is =
       let clock : b.state.clock ≡ clock_in (owner_in b.origin) b.state.history = (λ i. record { terms = kept.terms i; number = kept.number i; reports = sym kept.reports i }) in
-      let Stands : List Report → Type 0 = λ rs. Leaves (IsEither (owner_in b.origin) rs b.state.pending) (moments b.disk).now in
-      let Past : ClockHistory → Type 0 = λ c. KeepsPast b.origin c b.state.history (moments b.disk) in
-      let here : IsGivenBack tells moments b.origin b.state.history b.disk = record {
+      let Stands : List Report → Type 0 = λ rs. Leaves (IsEither (owner_in b.origin) rs b.state.pending) (told_moments (shown b.disk)).now in
+      let Past : ClockHistory → Type 0 = λ c. KeepsPast b.origin c b.state.history (told_moments (shown b.disk)) in
+      let here : IsGivenBack shown b.origin b.state.history b.disk = record {
         pending = b.state.pending;
         told = kept.first;
+        claimed = kept.claimed;
         doubt = kept.doubt;
         stands = λ t. subst Stands (sym kept.reports) (kept.stands t);
         past = λ t. subst Past clock (kept.past t);
       } in
-      subst (IsGivenBack tells moments origin history) (sym is) (subst (λ (o : Origin). IsGivenBack tells moments o history b.disk) same (subst (λ (h : List Entry). IsGivenBack tells moments b.origin h b.disk) alike here))
+      subst (IsGivenBack shown origin history) (sym is) (subst (λ (o : Origin). IsGivenBack shown o history b.disk) same (subst (λ (h : List Entry). IsGivenBack shown b.origin h b.disk) alike here))
 
-  pub given-count : (laid : List (LaidOf D)) (front : List D) → AreGivenBack tells moments laid front → length front ≡ length laid
+  pub given-count : (laid : List (LaidOf D)) (front : List D) → AreGivenBack shown laid front → length front ≡ length laid
   given-count [] [] are = refl
   given-count [] (x ∷ xs) are = absurd are
   given-count (l ∷ ls) [] are = absurd are
   given-count (l ∷ ls) (x ∷ xs) are = ap suc (given-count ls xs are.1)
 
-  pub given-at : (laid : List (LaidOf D)) (front : List D) (k : ℕ) (l : LaidOf D) (x : D) → AreGivenBack tells moments laid front → k < length laid
-      → IsGivenBack tells moments (get_or laid k l).desk.book.origin (get_or laid k l).desk.book.state.history (get_or front k x)
+  pub given-at : (laid : List (LaidOf D)) (front : List D) (k : ℕ) (l : LaidOf D) (x : D) → AreGivenBack shown laid front → k < length laid
+      → IsGivenBack shown (get_or laid k l).desk.book.origin (get_or laid k l).desk.book.state.history (get_or front k x)
   given-at [] front k l x are below = absurd (omega (arith, below))
   given-at (m ∷ ms) [] k l x are below = absurd are
   given-at (m ∷ ms) (y ∷ ys) zero l x are below = are.0
@@ -80,13 +82,13 @@ empty-front : {A : Type 0} (xs ys : List A) → length xs ≡ 0 → xs ++ ys ≡
 empty-front [] ys none = refl
 empty-front (x ∷ xs) ys none = absurd (omega (arith, none))
 
-module _ {D : Type 0} (tells : D → Bool) (moments : D → Moments) (all : List (LaidOf D)) (rest : List D) where
+module _ {D : Type 0} (shown : D → DiskShown) (all : List (LaidOf D)) (rest : List D) where
   -- the disks of the desks that are no longer left, the last first, behind the rest
   pub record AreTaken (left : List (LaidOf D)) (disks : List D) : Type 0 where
     pub gone : List (LaidOf D)
     pub front : List D
     pub split : all ≡ left ++ gone
-    pub back : AreGivenBack tells moments gone front
+    pub back : AreGivenBack shown gone front
     pub behind : disks ≡ rest ++ reverse front
 
   pub none-taken : (left : List (LaidOf D)) (disks : List D) → left ≡ all → disks ≡ rest → AreTaken left disks
@@ -98,7 +100,7 @@ module _ {D : Type 0} (tells : D → Bool) (moments : D → Moments) (all : List
     behind = same ∙ sym (append-nil rest);
   }
 
-  pub taken-more : (before left : List (LaidOf D)) (l : LaidOf D) (disks new : List D) (x : D) → AreTaken before disks → before ≡ left ++ l ∷ [] → IsGivenBack tells moments l.desk.book.origin l.desk.book.state.history x
+  pub taken-more : (before left : List (LaidOf D)) (l : LaidOf D) (disks new : List D) (x : D) → AreTaken before disks → before ≡ left ++ l ∷ [] → IsGivenBack shown l.desk.book.origin l.desk.book.state.history x
       → new ≡ disks ++ x ∷ [] → AreTaken left new
   taken-more before left l disks new x taken is back e = record {
     gone = l ∷ taken.gone;
@@ -108,9 +110,9 @@ module _ {D : Type 0} (tells : D → Bool) (moments : D → Moments) (all : List
     behind = e ∙ ap (λ z. z ++ x ∷ []) taken.behind ∙ append_assoc rest (reverse taken.front) (x ∷ []) ∙ ap (λ z. rest ++ z) (sym (reverse-append (x ∷ []) taken.front));
   }
 
-  pub all-taken : (left : List (LaidOf D)) (disks new : List D) → AreTaken left disks → length left ≡ 0 → new ≡ reverse disks → (front : List D) × AreGivenBack tells moments all front × (new ≡ front ++ reverse rest)
+  pub all-taken : (left : List (LaidOf D)) (disks new : List D) → AreTaken left disks → length left ≡ 0 → new ≡ reverse disks → (front : List D) × AreGivenBack shown all front × (new ≡ front ++ reverse rest)
   all-taken left disks new taken none e =
-      let Back : List (LaidOf D) → Type 0 = λ ls. AreGivenBack tells moments ls taken.front in (
+      let Back : List (LaidOf D) → Type 0 = λ ls. AreGivenBack shown ls taken.front in (
         taken.front,
         subst Back (sym (taken.split ∙ empty-front left taken.gone none)) taken.back,
         e ∙ ap reverse taken.behind ∙ reverse-append rest (reverse taken.front) ∙ ap (λ z. z ++ reverse rest) (reverse-reverse taken.front),
@@ -127,8 +129,8 @@ none-in-doubt : (rs : List Report) (pending : Option Report) → IfSome pending 
 none-in-doubt rs None doubt = refl
 none-in-doubt rs (Some r) doubt = absurd (none-marked rs r doubt)
 
-module _ {D : Type 0} (tells : D → Bool) (moments : D → Moments) (faults : D → ℕ) where
-  pub was-opened : (owner : Owner) (old : D) (b : BookOf D) (new : D) → Opens tells moments faults owner old b → IsGivenBack tells moments b.origin b.state.history new → WasOpened tells moments faults owner old new
+module _ {D : Type 0} (shown : D → DiskShown) where
+  pub was-opened : (owner : Owner) (old : D) (b : BookOf D) (new : D) → Opens shown owner old b → IsGivenBack shown b.origin b.state.history new → WasOpened shown owner old new
   was-opened owner old b new opens back =
       let of = opens.origin in
       let reports : reports_in b.state.history ≡ b.state.clock.reports = ap (λ (s : BookState). reports_in s.history) opens.state ∙ reports-opened b.state.clock.reports in
@@ -137,13 +139,14 @@ module _ {D : Type 0} (tells : D → Bool) (moments : D → Moments) (faults : D
       let Doubt : List Entry → Type 0 = λ h. IfSome back.pending (IsInDoubt h) in
       let history : b.state.history ≡ map Offered b.state.clock.reports = ap (λ (s : BookState). s.history) opens.state in
       let none : back.pending ≡ None = none-in-doubt b.state.clock.reports back.pending (subst Doubt history back.doubt) in
-      let Stands : List Report → Type 0 = λ rs. Leaves (IsEither (owner_in b.origin) rs None) (moments new).now in
-      let Either : Option Report → Type 0 = λ o. Leaves (IsEither (owner_in b.origin) (reports_in b.state.history) o) (moments new).now in
-      let Past : ClockHistory → Type 0 = λ c. KeepsPast b.origin c b.state.history (moments new) in
+      let Stands : List Report → Type 0 = λ rs. Leaves (IsEither (owner_in b.origin) rs None) (told_moments (shown new)).now in
+      let Either : Option Report → Type 0 = λ o. Leaves (IsEither (owner_in b.origin) (reports_in b.state.history) o) (told_moments (shown new)).now in
+      let Past : ClockHistory → Type 0 = λ c. KeepsPast b.origin c b.state.history (told_moments (shown new)) in
       record {
         first = b;
         opens = opens;
         told = λ t. subst IsTrue opens.told_is (back.told t);
+        claimed = back.claimed;
         stands = λ t. subst Stands reports (subst Either none (back.stands t));
         past = λ t. subst Past clock (back.past t);
       }

@@ -1,5 +1,6 @@
 -- A house and its passes, as contracts see them: how they are opened, and how they are closed.
 use Rattle.std.specs.Prelude.{◌≡◌, ◌<◌, ℕ, Bool, List, [], ◌∷◌, ◌++◌, length, map, take, drop, slice_index_or, Option, Some, None}
+use Rattle.house_io.specs.Disks.{DiskShown}
 use Rattle.std.specs.List.{AllByRecursion}
 use Rattle.lot_base.specs.declared.auction_terms.Terms.{Terms}
 use Rattle.house_io.specs.Moments.{Moments}
@@ -62,11 +63,11 @@ pub record IsNewPass {D : Type 0} (house : HouseOf D) (p : HousePassOf) : Type 0
   pub own : (k : ℕ) (q : Known Entry Origin) → k < length p.passes → (slice_index_or p.passes k q).own ≡ []
 
 -- A house that was opened on these disks, one for each clock, with so many new passes.
-pub record IsOpened {D : Type 0} (tells : D → Bool) (moments : D → Moments) (faults : D → ℕ) (terms : Terms) (digest : List ℕ) (count : ℕ) (disks : List D) (house : HouseOf D) (passes : List HousePassOf) : Type 0 where
+pub record IsOpened {D : Type 0} (shown : D → DiskShown) (terms : Terms) (digest : List ℕ) (count : ℕ) (disks : List D) (house : HouseOf D) (passes : List HousePassOf) : Type 0 where
   pub terms_are : house.terms ≡ terms
   pub digest_is : house.digest ≡ digest
   pub clocks : length house.desks ≡ length disks
-  pub books : (k : ℕ) (x : D) (d : Opened (BookOf D)) → k < length disks → Opens tells moments faults (owner_of terms k digest) (slice_index_or disks k x) (slice_index_or house.desks k d).book
+  pub books : (k : ℕ) (x : D) (d : Opened (BookOf D)) → k < length disks → Opens shown (owner_of terms k digest) (slice_index_or disks k x) (slice_index_or house.desks k d).book
   pub count_is : length passes ≡ count
   pub new : AllByRecursion (IsNewPass house) passes
   pub all : AreAllOf house.desks passes

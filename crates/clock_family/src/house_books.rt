@@ -103,7 +103,7 @@ impl<D: Disk> HouseBook<D> {
         ensures history { IsHistoryOffer (owner_in self.old.origin) self.old.state.history (record { bidder = bidder; round = round; demand = demand }) result self.new.state.history }
         ensures goes_on { GoesOn self.old.state.history self.new.state.history }
         ensures origin { self.new.origin ≡ self.old.origin }
-        ensures cause { result ≡ DiskFault → Rose (D.faults self.old.disk) (D.faults self.new.disk) }
+        ensures cause { result ≡ DiskFault → Rose (D.shown self.old.disk).faults (D.shown self.new.disk).faults }
     {
         let book: &mut ClockBook<D> = &mut self.boxed;
         let _kept = book.clock();

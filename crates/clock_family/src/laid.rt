@@ -30,7 +30,7 @@ impl<D: Disk> Laid<D> {
     /// The disk of the clock's book, to whose history nothing came.
     pub(crate) fn into_disk(self) -> D
         requires unused { IsUnused self }
-        ensures given_back { IsGivenBack D.tells D.moments self.desk.book.origin self.desk.book.state.history result }
+        ensures given_back { IsGivenBack D.shown self.desk.book.origin self.desk.book.state.history result }
     {
         let Laid { desk, passes } = self;
         let book = desk.close(passes).into_book();

@@ -25,8 +25,8 @@ pub(crate) fn lay<D: Disk>(
 ) -> Result<Laid<D>, Unopened<D>>
     requires clock { clock ≤ terms.now.bidders }
     requires passes { (1 ≤ passes) × (passes ≤ 64) }
-    ensures ok { IfOk result (λ l. IsLaidFor D.tells D.moments D.faults terms.now digest.now passes clock disk l.desk l.passes) }
-    ensures err { IfErr result (λ e. IsUnopened D.tells D.moments D.faults (owner_of terms.now clock digest.now) disk e.disk e.fault) }
+    ensures ok { IfOk result (λ l. IsLaidFor D.shown terms.now digest.now passes clock disk l.desk l.passes) }
+    ensures err { IfErr result (λ e. IsUnopened D.shown (owner_of terms.now clock digest.now) disk e.disk e.fault) }
 {
     let book = match ClockBook::open(alloc, disk, terms, clock, digest) {
         Err(unopened) => return Err(unopened),
@@ -76,9 +76,9 @@ pub(crate) fn lay_all<D: Disk>(
 ) -> Result<Vec<Laid<D>>, NotOpen<D>>
     requires disks { length disks.items ≡ terms.now.bidders + 1 }
     requires passes { (1 ≤ passes) × (passes ≤ 64) }
-    ensures ok { IfOk result (λ laid. AreLaid D.tells D.moments D.faults terms.now digest.now passes disks.items laid.items) }
+    ensures ok { IfOk result (λ laid. AreLaid D.shown terms.now digest.now passes disks.items laid.items) }
     ensures count { IfOk result (λ laid. length laid.items ≡ length disks.items) }
-    ensures err { IfErr result (λ e. IsNotOpen D.tells D.moments D.faults terms.now digest.now disks.items e.disks.items e.clock e.fault) }
+    ensures err { IfErr result (λ e. IsNotOpen D.shown terms.now digest.now disks.items e.disks.items e.clock e.fault) }
 {
     let Ok(mut laid) = Vec::with_capacity(alloc, disks.len()) else {
         return Err(NotOpen {
@@ -112,7 +112,7 @@ pub(crate) fn lay_all<D: Disk>(
 fn given_back<D: Disk>(rest: Vec<D>, laid: Vec<Laid<D>>) -> Vec<D>
     requires room { length rest.items + length laid.items ≤ vec_capacity rest }
     requires unused { AllByRecursion IsUnused laid.items }
-    ensures { (front : List D) × AreGivenBack D.tells D.moments laid.items front × (result.items ≡ front ++ reverse rest.items) }
+    ensures { (front : List D) × AreGivenBack D.shown laid.items front × (result.items ≡ front ++ reverse rest.items) }
 {
     let mut disks = rest;
     let mut laid = laid;

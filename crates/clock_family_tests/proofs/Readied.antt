@@ -1,9 +1,9 @@
 -- The two passes of a house stay all of its passes.
-use Rattle.std.proofs.Common.{◌≡◌, ◌<◌, ℕ, Bool, List, [], ◌∷◌, length, get_or, set, ◌∙◌}
+use Rattle.std.proofs.Common.{◌≡◌, ◌<◌, ℕ, List, [], ◌∷◌, length, get_or, set, ◌∙◌}
 use Rattle.std.specs.List.{AllByRecursion}
 use Rattle.std.proofs.Math.ListN.{length-set}
 use Rattle.lot_base.specs.declared.auction_terms.Terms.{Terms}
-use Rattle.house_io.specs.Moments.{Moments}
+use Rattle.house_io.specs.Disks.{DiskShown}
 use Rattle.clock_family.specs.Turns.{AreOf}
 use Rattle.clock_family.specs.Houses.{HouseOf, HousePassOf, IsNewPass, IsOpened, all_still}
 use Rattle.clock_family.proofs.Rows.{all-set}
@@ -24,9 +24,9 @@ module _ {D : Type 0} where
   each-new house [] all = tt
   each-new house (p ∷ ps) all = (all.0.of_house, each-new house ps all.1)
 
-  pub ready-opened : (tells : D → Bool) (moments : D → Moments) (faults : D → ℕ) (terms : Terms) (digest : List ℕ) (disks : List D) (house : HouseOf D) (ps : List HousePassOf)
-      → IsOpened tells moments faults terms digest 2 disks house ps → IsReady terms house ps
-  ready-opened tells moments faults terms digest disks house ps opened = record {
+  pub ready-opened : (shown : D → DiskShown) (terms : Terms) (digest : List ℕ) (disks : List D) (house : HouseOf D) (ps : List HousePassOf)
+      → IsOpened shown terms digest 2 disks house ps → IsReady terms house ps
+  ready-opened shown terms digest disks house ps opened = record {
     terms_are = opened.terms_are;
     count = opened.count_is;
     each = each-new house ps opened.new;

@@ -405,7 +405,7 @@ fn each_pass_is_shown_what_the_other_offered(rt: HostRuntime) {
 }
 
 /// The number, from 0, of the last call of a disk in the opening of an empty file.
-const OPENING: u64 = 8;
+const OPENING: u64 = 10;
 
 /// How many calls an append makes.
 const APPEND: u64 = 4;

@@ -7,6 +7,7 @@ mod Rows
 mod Renewed
 mod Counting
 pub mod Moments
+pub mod Shown
 pub mod Overlays
 mod Replays
 mod Images

@@ -1,12 +1,16 @@
--- Finding a file by its name among those of a shelf in memory, with one more and with one in another's place; what the shelf
--- shows of its files, and the disk that it opens.
-use Rattle.std.proofs.Common.{◌≡◌, ◌≢◌, ◌<◌, ℕ, zero, suc, List, [], ◌∷◌, ◌++◌, length, bytes_eq, slice_index_or, slice_set, true, false, cond, Bool, Option, Some, None, refl, sym, ◌∙◌, ap, arith}
+-- Finding a file by its name among those of a shelf in memory, with one more, with one in another's place and with one taken
+-- out; what the shelf shows of its files, the disk that it opens, and the one that is closed.
+use Rattle.std.proofs.Common.{◌≡◌, ◌≢◌, ◌<◌, ℕ, zero, suc, List, [], ◌∷◌, ◌++◌, length, bytes_eq, slice_index_or, slice_set, true, false, cond, Bool, Option, Some, None, refl, sym, ◌∙◌, ap, subst, arith, IsTrue, true≢false}
 use Rattle.std.proofs.lemmas.Slice.Eq.{bytes_eq-Decides}
-use Rattle.std.specs.Prelude.{option_map, unwrap_or}
-use Rattle.house_io.specs.Moments.{opened}
+use Rattle.std.specs.Prelude.{option_map, unwrap_or, IsSome, is_some, if◌then◌else◌}
+use Rattle.std.specs.Option.{option_or}
+use Rattle.std.specs.List.{remove}
+use Rattle.house_io.specs.Disks.{shown_as, told_moments}
+use Rattle.house_io.specs.Moments.{Moments, opened}
 use Rattle.house_io.specs.Places.{HasNone, IsFirstAt}
-use Rattle.house_io.specs.Shelves.{NamedFile, file_of, bytes_of, moments_at}
-use Rattle.house_io.specs.ShelvedFiles.{ShelvedFile, ShelvedDisk, shelved_file, shown_file, shown_files, disk_at, disk_on, new_disk}
+use Rattle.house_io.specs.Shelves.{NamedFile, file_of, bytes_of, moments_at, IfTells, IfWasTold, StandsAs, IsLeftBy, ChangesNone, ChangesOnly}
+use Rattle.house_io.specs.ShelvedFiles.{ShelvedFile, ShelvedDisk, ClosingShelf, KeepsDisk, shelved_file, shown_file, shown_files, told_files, disk_at, disk_on, new_disk, keeper, place_for, with_closed}
+use Rattle.house_io.proofs.Shown.{flag-told, told-moments}
 
 -- no file has this name
 abbrev pub HasNo : List ShelvedFile → List ℕ → Type 0
@@ -114,3 +118,102 @@ pub moments_at-shown : (files : List ShelvedFile) (room : ℕ) (name : List ℕ)
 moments_at-shown files room name =
     moments_in room (shelved_file files name)
     ∙ sym (ap (λ (o : Option NamedFile). unwrap_or (option_map (λ (y : NamedFile). y.moments) o) (opened [])) (file_of-shown files name))
+
+-- an entry that was taken out leaves the other names as they are
+pub others-removed : (files : List ShelvedFile) (place : ℕ) (other : List ℕ) (d : ShelvedFile) → place < length files → bytes_eq (slice_index_or files place d).name other ≡ false
+    → shelved_file (remove files place) other ≡ shelved_file files other
+others-removed [] place other d inside was = absurd (omega arith)
+others-removed (y ∷ files) zero other d inside was = rw was refl
+others-removed (y ∷ files) (suc place) other d inside was =
+    ap (λ (o : Option ShelvedFile). cond (bytes_eq y.name other) (Some y) o) (others-removed files place other d (omega arith) was)
+
+-- the thing at the place of a name has that name
+pub place-named : {files : List ShelvedFile} {name : List ℕ} {place : ℕ} {x : ShelvedFile} → IsPlace files name place → x ≡ slice_index_or files place x → x.name ≡ name
+place-named {name = name} {x = x} is here = (bytes_eq-Decides x.name name).0 (ap (λ (y : ShelvedFile). bytes_eq y.name name) here ∙ is.here x)
+
+pub other-place : {files : List ShelvedFile} {name : List ℕ} {place : ℕ} (d : ShelvedFile) → IsPlace files name place → (other : List ℕ) → other ≢ name → bytes_eq (slice_index_or files place d).name other ≡ false
+other-place d is other ne = other-name _ _ other (is.here d) ne
+
+-- one more under a name that none had
+pub found-more : (files : List ShelvedFile) (x : ShelvedFile) (name : List ℕ) → x.name ≡ name → shelved_file files name ≡ None → shelved_file (files ++ x ∷ []) name ≡ Some x
+found-more files x name same none =
+    let P : List ℕ → Type 0 = λ n. shelved_file files n ≡ None → shelved_file (files ++ x ∷ []) n ≡ Some x in
+    subst P same (found-push files x) none
+
+pub others-more : (files : List ShelvedFile) (x : ShelvedFile) (name : List ℕ) → x.name ≡ name → (other : List ℕ) → other ≢ name → shelved_file (files ++ x ∷ []) other ≡ shelved_file files other
+others-more files x name same other ne = found-push_other files x other (λ e. ne (e ∙ same))
+
+-- where a disk is kept: on the file, claimed or not, and else on what is reserved
+pub keeper-there : (claimed : Bool) (files reserved : List ShelvedFile) (name : List ℕ) (x : ShelvedFile) → shelved_file files name ≡ Some x → keeper claimed files reserved name ≡ Some x
+keeper-there true files reserved name x is = ap (λ (o : Option ShelvedFile). option_or o (shelved_file reserved name)) is
+keeper-there false files reserved name x is = is
+
+pub place-absent : (files reserved : List ShelvedFile) (name : List ℕ) → shelved_file files name ≡ None → place_for files reserved name ≡ shelved_file reserved name
+place-absent files reserved name none = ap (λ (o : Option ShelvedFile). option_or o (shelved_file reserved name)) none
+
+-- what is shown of the file on which a disk is kept
+on-kept : (disk : ShelvedDisk) (keeps : Option ShelvedFile)
+    → option_map (λ (y : NamedFile). y.moments) (option_map shown_file (option_map (with_closed disk) keeps)) ≡ option_map (λ (_ : ShelvedFile). disk.moments) keeps
+on-kept disk None = refl
+on-kept disk (Some file) = refl
+
+some-kept : (m : Moments) (keeps : Option ShelvedFile) → IsSome keeps → option_map (λ (_ : ShelvedFile). m) keeps ≡ Some m
+some-kept m None some = absurd (true≢false (sym some))
+some-kept m (Some file) some = refl
+
+same-kept : (m : Moments) (keeps : Option ShelvedFile) → option_map (λ (_ : NamedFile). m) (option_map shown_file keeps) ≡ option_map (λ (_ : ShelvedFile). m) keeps
+same-kept m None = refl
+same-kept m (Some file) = refl
+
+kept-shown : (claimed : Bool) (files after reserved : List ShelvedFile) (name : List ℕ) (disk : ShelvedDisk) → (IsTrue claimed → IsSome (place_for files reserved name))
+    → shelved_file after name ≡ option_map (with_closed disk) (keeper claimed files reserved name)
+    → option_map (λ (y : NamedFile). y.moments) (file_of (shown_files after) name) ≡ (if claimed then Some disk.moments else option_map (λ (_ : NamedFile). disk.moments) (file_of (shown_files files) name))
+kept-shown true files after reserved name disk some kept =
+    ap (option_map (λ (y : NamedFile). y.moments)) (file_of-shown after name ∙ ap (option_map shown_file) kept) ∙ on-kept disk (place_for files reserved name) ∙ some-kept disk.moments (place_for files reserved name) (some refl)
+kept-shown false files after reserved name disk some kept =
+    ap (option_map (λ (y : NamedFile). y.moments)) (file_of-shown after name ∙ ap (option_map shown_file) kept) ∙ on-kept disk (shelved_file files name)
+    ∙ sym (ap (option_map (λ (_ : NamedFile). disk.moments)) (file_of-shown files name) ∙ same-kept disk.moments (shelved_file files name))
+
+left-at : (told_before told_after : Bool) (name : List ℕ) (tells claimed : Bool) (disk : ShelvedDisk) (faults : ℕ) (files after reserved : List ShelvedFile)
+    → (IsTrue told_after → IsTrue told_before × IsTrue tells × (IsTrue claimed → IsSome (place_for files reserved name)))
+    → (IsTrue tells → shelved_file after name ≡ option_map (with_closed disk) (keeper claimed files reserved name))
+    → IfTells (told_files told_after after) (λ now. IfWasTold (told_files told_before files) (λ was. IsLeftBy name (shown_as tells disk.moments claimed faults) was now))
+left-at told_before false name tells claimed disk faults files after reserved told kept = tt
+left-at false true name tells claimed disk faults files after reserved told kept = absurd (true≢false (sym (told refl).0))
+left-at true true name tells claimed disk faults files after reserved told kept =
+    let tell : IsTrue tells = (told refl).1 in (
+      flag-told tells disk.moments claimed faults tell,
+      kept-shown claimed files after reserved name disk (told refl).2 (kept tell)
+          ∙ ap (λ (m : Moments). if claimed then Some m else option_map (λ (_ : NamedFile). m) (file_of (shown_files files) name)) (sym (told-moments tells disk.moments claimed faults tell)),
+    )
+
+-- a disk that was closed leaves its file as it stands, as far as the shelf tells
+pub keeps-left : (name : List ℕ) (tells claimed : Bool) (disk : ShelvedDisk) (faults : ℕ) (before after : ClosingShelf) → KeepsDisk name tells claimed disk before after
+    → IfTells (told_files after.told after.files) (λ now. IfWasTold (told_files before.told before.files) (λ was. IsLeftBy name (shown_as tells disk.moments claimed faults) was now))
+keeps-left name tells claimed disk faults before after keeps = left-at before.told after.told name tells claimed disk faults before.files after.files before.reserved keeps.told.0 keeps.kept
+
+only-at : (told_before told_after : Bool) (name : List ℕ) (files after : List ShelvedFile) → (IsTrue told_after → IsTrue told_before)
+    → ((other : List ℕ) → other ≢ name → shelved_file after other ≡ shelved_file files other) → ChangesOnly name (told_files told_before files) (told_files told_after after)
+only-at told_before false name files after told others = tt
+only-at false true name files after told others = absurd (true≢false (sym (told refl)))
+only-at true true name files after told others = λ other ne. shown-same after files other (others other ne)
+
+-- and the other files as they are
+pub keeps-others : (name : List ℕ) (tells claimed : Bool) (disk : ShelvedDisk) (before after : ClosingShelf) → KeepsDisk name tells claimed disk before after
+    → ChangesOnly name (told_files before.told before.files) (told_files after.told after.files)
+keeps-others name tells claimed disk before after keeps = only-at before.told after.told name before.files after.files (λ told. (keeps.told.0 told).0) keeps.others
+
+-- an opening changes no file
+pub same-files : (told_before told_after : Bool) (files after : List ShelvedFile) → told_after ≡ told_before → after ≡ files → ChangesNone (told_files told_before files) (told_files told_after after)
+same-files told_before false files after told same = tt
+same-files false true files after told same = absurd (true≢false told)
+same-files true true files after told same = ap (λ (fs : List ShelvedFile). Some (shown_files fs)) (sym same)
+
+-- the disk that is opened tells, and stands as the file does
+pub opened-stands : (told : Bool) (files after : List ShelvedFile) (name : List ℕ) (tells : Bool) (moments : Moments) (claimed : Bool) (faults : ℕ) → after ≡ files → IsTrue tells
+    → moments ≡ moments_at (shown_files files) name → IfTells (told_files told after) (StandsAs name (shown_as tells moments claimed faults))
+opened-stands false files after name tells moments claimed faults same tell is = tt
+opened-stands true files after name tells moments claimed faults same tell is = (
+  flag-told tells moments claimed faults tell,
+  told-moments tells moments claimed faults tell ∙ is ∙ ap (λ (fs : List ShelvedFile). moments_at (shown_files fs) name) (sym same),
+)

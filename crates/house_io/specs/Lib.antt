@@ -17,6 +17,7 @@ pub mod LinkForms
 pub mod ListShelves
 pub mod ListFiles
 pub mod Moments
+pub mod Disks
 pub mod Calls
 pub mod Recorded
 pub mod Ranges

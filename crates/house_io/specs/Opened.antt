@@ -1,9 +1,14 @@
--- A file that is open for reading, and a connection.
-use Rattle.std.specs.Prelude.{ℕ}
+-- A file that is open for reading, a disk in a folder, and a connection.
+use Rattle.std.specs.Prelude.{ℕ, Bool}
 
 -- the file, and how often a call on it has failed
 pub record OpenedFile (F : Type 0) : Type 0 where
   pub file : F
+  pub faults : ℕ
+
+-- whether the disk is claimed, and how often a call on it has failed
+pub record OpenedDisk : Type 0 where
+  pub claimed : Bool
   pub faults : ℕ
 
 -- the connection, and how often a call on it has failed

@@ -1,6 +1,7 @@
 -- Files by name, and the counts of their faults. Of two files of one name the first counts.
 use Rattle.std.specs.Prelude.{◌≡◌, ◌≢◌, ◌≤◌, ℕ, Bool, if◌then◌else◌, List, [], ◌∷◌, Option, Some, None, Result, Ok, Err, IfErr, OnOk, bytes_eq, find, option_map, unwrap_or, Contains, IsTrue}
 use Rattle.house_io.specs.Moments.{Moments, opened}
+use Rattle.house_io.specs.Disks.{DiskShown, is_told, told_moments}
 use Rattle.house_io.specs.declared.shelves.Refusal.{Refusal}
 use Rattle.house_io.specs.declared.shelves.Refusal.TheVariants as why
 use Rattle.house_io.specs.Faults.{Rose, raised_by}
@@ -39,12 +40,14 @@ IfWasTold None P = ⊥
 IfWasTold (Some files) P = P files
 
 -- A disk that is opened tells, and stands as its file did.
-abbrev pub StandsAs : {D : Type 0} → (D → Bool) → (D → Moments) → List ℕ → D → List NamedFile → Type 0
-StandsAs tells moments name disk files = IsTrue (tells disk) × (moments disk ≡ moments_at files name)
+abbrev pub StandsAs : List ℕ → DiskShown → List NamedFile → Type 0
+StandsAs name disk files = IsTrue (is_told disk) × (told_moments disk ≡ moments_at files name)
 
--- A file stands as the disk that was closed in its name did, which told.
-abbrev pub IsLeftBy : {D : Type 0} → (D → Bool) → (D → Moments) → List ℕ → D → List NamedFile → Type 0
-IsLeftBy tells moments name disk files = IsTrue (tells disk) × (option_map (λ file. file.moments) (file_of files name) ≡ Some (moments disk))
+-- A disk, which told, was closed in a name: the file stands as the disk did. One that was absent is there now only if the disk was claimed.
+abbrev pub IsLeftBy : List ℕ → DiskShown → List NamedFile → List NamedFile → Type 0
+IsLeftBy name disk before after =
+    IsTrue (is_told disk)
+    × (option_map (λ file. file.moments) (file_of after name) ≡ (if disk.claimed then Some (told_moments disk) else option_map (λ _. told_moments disk) (file_of before name)))
 
 -- The files that are told now were told before, and are the same.
 abbrev pub ChangesNone : Option (List NamedFile) → Option (List NamedFile) → Type 0

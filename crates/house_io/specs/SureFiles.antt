@@ -7,18 +7,20 @@ use Rattle.house_io.specs.declared.shelves.Refusal.TheVariants as why
 use Rattle.house_io.specs.Shelves.{ShelfState}
 use Rattle.house_io.specs.ListForms.{begun}
 use Rattle.house_io.specs.Recorded.{moments_of, room_of}
-use Rattle.house_io.specs.ShelvedFiles.{ShelvedDisk, ShelvedFile, TakesDisk, told_files}
+use Rattle.house_io.specs.ShelvedFiles.{ShelvedDisk, ShelvedFile, ClosingShelf, TakesDisk, told_files}
 
--- the files, the names that were opened, the room of each new disk, and whether the shelf tells
+-- the files, the entries that are reserved for files to be, the names that were opened, the room of each new disk, and whether
+-- the shelf tells
 pub record Shelved : Type 0 where
   pub files : List ShelvedFile
+  pub reserved : List ShelvedFile
   pub opened : List (List ℕ)
   pub room : ℕ
   pub told : Bool
 
 -- a shelf before the first call
 abbrev pub fresh_shelf : List ShelvedFile → ℕ → Shelved
-fresh_shelf files room = record { files = files; opened = []; room = room; told = true }
+fresh_shelf files room = record { files = files; reserved = []; opened = []; room = room; told = true }
 
 -- a shelf as its callers see it; no call on it fails
 abbrev pub sure_state : Shelved → ShelfState
@@ -35,10 +37,14 @@ file_as_shelved file = record { name = string_bytes file.name; bytes = file.byte
 abbrev pub files_as_shelved : List SureFile → List ShelvedFile
 files_as_shelved files = map file_as_shelved files
 
--- the disk of the name is opened
+-- a shelf as a closing of a disk sees it
+abbrev pub closing : Shelved → ClosingShelf
+closing shelf = record { told = shelf.told; files = shelf.files; reserved = shelf.reserved }
+
+-- the disk of the name is opened, and no file changes
 pub record OpensDisk (before : Shelved) (name : List ℕ) (disk : ShelvedDisk) (after : Shelved) : Type 0 where
-  pub takes : TakesDisk name before.room disk before.files after.files
-  pub rest : after ≡ record before { files = after.files; opened = after.opened }
+  pub takes : TakesDisk name before.room disk before.files before.reserved after.reserved
+  pub rest : after ≡ record before { reserved = after.reserved; opened = after.opened }
 
 -- what an opening of a disk answers, and what it leaves; only memory refuses one
 abbrev pub AnswersDisk : Shelved → List ℕ → Result SureDisk Refusal → Shelved → Type 0

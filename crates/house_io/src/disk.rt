@@ -1,56 +1,62 @@
 //! A file that is read and written at offsets, and what a crash may leave of it.
-ghost use Rattle.std.specs.Prelude.{◌≡◌, ◌-◌, ◌≤◌, ℕ, Bool, List, length, take, drop, min, IsTrue, IfOk, OnOk, OnErr};
+ghost use Rattle.std.specs.Prelude.{◌≡◌, ◌-◌, ◌≤◌, ℕ, List, length, take, drop, min, IsTrue, IfOk, OnOk, OnErr};
+ghost use Rattle.house_io.specs.Disks.{DiskShown, is_told, told_moments, IsLater};
 ghost use Rattle.house_io.specs.Faults.{HasCause};
-ghost use Rattle.house_io.specs.Moments.{Moments, IsImage, wrote, synced_at, HasTorn};
+ghost use Rattle.house_io.specs.Moments.{IsImage, wrote, synced_at, HasTorn};
 
 use crate::Failed;
 
-/// A disk. Where it tells, contracts see its moments: what a read gives and what a crash may leave.
+/// A disk. Where it tells, contracts see its moments: what a read gives and what a crash may leave. It is opened for reading; who
+/// writes it has claimed it.
 pub trait Disk {
-    /// It tells its moments. One that ceased to tell never tells again.
-    ghost tells: { Self → Bool };
-
-    /// The present moment and those before it.
-    ghost moments: { Self → Moments };
-
-    /// How often it has failed.
-    ghost faults: { Self → ℕ };
+    /// Its moments, where it tells them, whether it is claimed, and how often it has failed. One that ceased to tell never tells again.
+    ghost shown: { Self → DiskShown };
 
     /// The file's length in bytes.
     fn size(&mut self) -> Result<u64, Failed>
-        ensures size { IfOk result (λ n. IsTrue (tells self.new) → n ≡ length (moments self.old).now.read) }
-        ensures tells { IsTrue (tells self.new) → IsTrue (tells self.old) }
-        ensures moments { IsTrue (tells self.new) → moments self.new ≡ moments self.old }
-        ensures cause { HasCause (faults self.old) (faults self.new) result };
+        ensures size { IfOk result (λ n. IsTrue (is_told (shown self.new)) → n ≡ length (told_moments (shown self.old)).now.read) }
+        ensures moments { IsTrue (is_told (shown self.new)) → told_moments (shown self.new) ≡ told_moments (shown self.old) }
+        ensures later { IsLater (shown self.old) (shown self.new) }
+        ensures cause { HasCause (shown self.old).faults (shown self.new).faults result };
 
     /// Fills a front of the buffer and answers its length, which is less than the buffer's only at the file's end. What stands in
     /// the buffer behind it, or after a failure, is not said.
     fn read_at(&mut self, at: u64, into: &mut [u8]) -> Result<usize, Failed>
         ensures count { IfOk result (λ n. n ≤ length into.old) }
-        ensures bytes { IfOk result (λ n. IsTrue (tells self.new)
-            → (n ≡ min (length into.old) (length (moments self.old).now.read - at))
-            × (take n into.new ≡ take n (drop at (moments self.old).now.read))) }
-        ensures tells { IsTrue (tells self.new) → IsTrue (tells self.old) }
-        ensures moments { IsTrue (tells self.new) → moments self.new ≡ moments self.old }
-        ensures cause { HasCause (faults self.old) (faults self.new) result };
+        ensures bytes { IfOk result (λ n. IsTrue (is_told (shown self.new))
+            → (n ≡ min (length into.old) (length (told_moments (shown self.old)).now.read - at))
+            × (take n into.new ≡ take n (drop at (told_moments (shown self.old)).now.read))) }
+        ensures moments { IsTrue (is_told (shown self.new)) → told_moments (shown self.new) ≡ told_moments (shown self.old) }
+        ensures later { IsLater (shown self.old) (shown self.new) }
+        ensures cause { HasCause (shown self.old).faults (shown self.new).faults result };
+
+    /// Makes the file this disk's alone until it is closed, and makes it where it is absent. It changes nothing else that the disk shows. Of
+    /// a disk that is claimed it is no call.
+    fn claim(&mut self) -> Result<(), Failed>
+        ensures claimed { OnOk result (IsTrue (shown self.new).claimed) }
+        ensures failed { OnErr result (IsLater (shown self.old) (shown self.new)) }
+        ensures told { IsTrue (is_told (shown self.new)) → IsTrue (is_told (shown self.old)) }
+        ensures moments { IsTrue (is_told (shown self.new)) → told_moments (shown self.new) ≡ told_moments (shown self.old) }
+        ensures cause { HasCause (shown self.old).faults (shown self.new).faults result };
 
     /// Writes the whole piece, or fails and may have written anything in its range. A gap after the file's end is filled with
     /// zeros, also before a piece of no bytes.
     fn write_at(&mut self, at: u64, from: &[u8]) -> Result<(), Failed>
-        ensures written { OnOk result (IsTrue (tells self.new)
-            → moments self.new ≡ wrote at from.now (moments self.old)) }
-        ensures torn { OnErr result (IsTrue (tells self.new)
-            → HasTorn at (length from.now) (moments self.old) (moments self.new)) }
-        ensures tells { IsTrue (tells self.new) → IsTrue (tells self.old) }
-        ensures cause { HasCause (faults self.old) (faults self.new) result };
+        requires { IsTrue (shown self.old).claimed }
+        ensures written { OnOk result (IsTrue (is_told (shown self.new))
+            → told_moments (shown self.new) ≡ wrote at from.now (told_moments (shown self.old))) }
+        ensures torn { OnErr result (IsTrue (is_told (shown self.new))
+            → HasTorn at (length from.now) (told_moments (shown self.old)) (told_moments (shown self.new))) }
+        ensures later { IsLater (shown self.old) (shown self.new) }
+        ensures cause { HasCause (shown self.old).faults (shown self.new).faults result };
 
     /// After it the only image is what a read gives.
     fn sync(&mut self) -> Result<(), Failed>
-        ensures synced { OnOk result (IsTrue (tells self.new) → moments self.new ≡ synced_at (moments self.old)) }
-        ensures failed { OnErr result (IsTrue (tells self.new) → moments self.new ≡ moments self.old) }
-        ensures tells { IsTrue (tells self.new) → IsTrue (tells self.old) }
-        ensures cause { HasCause (faults self.old) (faults self.new) result };
+        ensures synced { OnOk result (IsTrue (is_told (shown self.new)) → told_moments (shown self.new) ≡ synced_at (told_moments (shown self.old))) }
+        ensures failed { OnErr result (IsTrue (is_told (shown self.new)) → told_moments (shown self.new) ≡ told_moments (shown self.old)) }
+        ensures later { IsLater (shown self.old) (shown self.new) }
+        ensures cause { HasCause (shown self.old).faults (shown self.new).faults result };
 
     /// What a read gives is one of the images.
-    ghost reads_an_image: { (disk : Self) → IsTrue (tells disk) → IsImage (moments disk).now (moments disk).now.read };
+    ghost reads_an_image: { (disk : Self) → IsTrue (is_told (shown disk)) → IsImage (told_moments (shown disk)).now (told_moments (shown disk)).now.read };
 }

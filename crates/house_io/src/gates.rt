@@ -19,11 +19,7 @@ pub struct GatedDisk<D: Disk, G: Gate> {
 }
 
 impl<D: Disk, G: Gate> Disk for GatedDisk<D, G> {
-    ghost tells = { λ gated. D.tells gated.disk };
-
-    ghost moments = { λ gated. D.moments gated.disk };
-
-    ghost faults = { λ gated. D.faults gated.disk };
+    ghost shown = { λ gated. D.shown gated.disk };
 
     ghost reads_an_image = { λ gated told. D.reads_an_image gated.disk told };
 
@@ -33,6 +29,10 @@ impl<D: Disk, G: Gate> Disk for GatedDisk<D, G> {
 
     fn read_at(&mut self, at: u64, into: &mut [u8]) -> Result<usize, Failed> {
         self.disk.read_at(at, into)
+    }
+
+    fn claim(&mut self) -> Result<(), Failed> {
+        self.disk.claim()
     }
 
     fn write_at(&mut self, at: u64, from: &[u8]) -> Result<(), Failed> {

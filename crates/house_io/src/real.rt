@@ -2,7 +2,11 @@
 //! tell no content.
 mod closing;
 pub mod file_disk;
+pub mod folder_disk;
 pub mod folder_shelf;
+pub mod folder_source;
+pub mod locks;
 mod opening;
+mod reporting;
 pub mod streams;
 pub mod tcp;

@@ -13,7 +13,8 @@ pub enum Refusal {
 
 /// Files that are opened by their names. It counts faults by name, those of closed sources among them.
 pub trait Shelf {
-    ghost use Rattle.house_io.specs.Shelves.{NamedFile, bytes_of, Begins, ChangesNone, ChangesNoFile, ChangesOnly, IfTells, IfWasTold, StandsAs, IsLeftBy, IsOpening, Adds, shelf_state};
+    ghost use Rattle.house_io.specs.Disks.{IsFresh};
+    ghost use Rattle.house_io.specs.Shelves.{NamedFile, bytes_of, Begins, ChangesNone, ChangesOnly, IfTells, IfWasTold, StandsAs, IsLeftBy, IsOpening, Adds, shelf_state};
 
     type Source: Source;
 
@@ -45,20 +46,20 @@ pub trait Shelf {
         ensures told { IfTells (files self.new) (λ _. IsSome (Self.Source.Source.left source)) }
         ensures names { opened self.new ≡ opened self.old };
 
-    /// Opens a file for reading and writing. The disk stands as the file does; an absent one is opened empty.
+    /// Opens a file for reading. The disk stands as the file does; an absent one is opened empty. No file is made or changed: who writes
+    /// claims the disk first.
     fn disk(&mut self, alloc: Global, name: &str) -> Result<Self::Disk, Refusal>
-        ensures fresh { IfOk result (λ disk. Self.Disk.Disk.faults disk ≡ 0) }
-        ensures stands { IfOk result (λ disk. IfTells (files self.new) (λ _. IfWasTold (files self.old)
-            (StandsAs Self.Disk.Disk.tells Self.Disk.Disk.moments name.now disk))) }
-        ensures others { ChangesOnly name.now (files self.old) (files self.new) }
-        ensures unchanged { OnErr result (ChangesNoFile (files self.old) (files self.new)) }
+        ensures fresh { IfOk result (λ disk. IsFresh (Self.Disk.Disk.shown disk)) }
+        ensures stands { IfOk result (λ disk. IfTells (files self.new) (StandsAs name.now (Self.Disk.Disk.shown disk))) }
+        ensures files { ChangesNone (files self.old) (files self.new) }
         ensures opening { IsOpening result name.now (shelf_state files faults opened self.old) (shelf_state files faults opened self.new) };
 
-    /// Takes a disk back, and leaves its file as it stands. It takes no memory.
+    /// Takes a disk back, and leaves its file as it stands. A file that was absent is there from then on only if the disk was claimed. It
+    /// takes no memory.
     fn close_disk(&mut self, name: &str, disk: Self::Disk)
         requires { Contains (opened self.old) name.now }
-        ensures counts { Adds name.now (Self.Disk.Disk.faults disk) (faults self.old) (faults self.new) }
-        ensures left { IfTells (files self.new) (IsLeftBy Self.Disk.Disk.tells Self.Disk.Disk.moments name.now disk) }
+        ensures counts { Adds name.now (Self.Disk.Disk.shown disk).faults (faults self.old) (faults self.new) }
+        ensures left { IfTells (files self.new) (λ after. IfWasTold (files self.old) (λ before. IsLeftBy name.now (Self.Disk.Disk.shown disk) before after)) }
         ensures others { ChangesOnly name.now (files self.old) (files self.new) }
         ensures names { opened self.new ≡ opened self.old };
 }

@@ -16,9 +16,9 @@ fn list_disk_of(alloc: Global, bytes: Vec<u8>, failing: Vec<u64>) -> Option<List
     ListDisk::new(alloc, bytes, 40, failing).ok()
 }
 
-/// A disk of which the second call fails.
+/// A disk of which the third call fails.
 fn list_disk(alloc: Global) -> Option<ListDisk> {
-    list_disk_of(alloc, bytes_of(alloc, b"lots")?, one(alloc, 1)?)
+    list_disk_of(alloc, bytes_of(alloc, b"lots")?, one(alloc, 2)?)
 }
 
 /// A value that a thread may own.
@@ -38,7 +38,8 @@ fn a_thread_may_own_each_disk(rt: HostRuntime) {
 /// A call that may change a disk.
 #[derive(Clone, Copy)]
 pub(crate) enum Change<'a> {
-    /// Writes this text at this offset.
+    Claim,
+    /// Claims the disk, which is no call on one that is claimed, and writes this text at this offset.
     Write(u64, &'a [u8]),
     Sync,
 }
@@ -46,7 +47,11 @@ pub(crate) enum Change<'a> {
 /// Makes one change.
 pub(crate) fn make<D: Disk>(disk: &mut D, change: Change) -> Result<(), Failed> {
     match change {
-        Change::Write(at, text) => disk.write_at(at, text),
+        Change::Claim => disk.claim(),
+        Change::Write(at, text) => match disk.claim() {
+            Ok(()) => disk.write_at(at, text),
+            Err(Failed) => Err(Failed),
+        },
         Change::Sync => disk.sync(),
     }
 }
@@ -103,7 +108,7 @@ fn a_write_after_the_end_leaves_zeros(rt: HostRuntime) {
     assert_eq!(rt; front, *b"lot\0\0s\0\0");
 }
 
-/// A disk on which one write went well, and one failed.
+/// A disk that was claimed, on which one write went well, and one failed.
 fn torn_disk(alloc: Global) -> Option<ListDisk> {
     let mut disk = list_disk(alloc)?;
     let answers = [
@@ -137,6 +142,39 @@ fn a_failed_write_leaves_its_range_in_doubt(rt: HostRuntime) {
             is_image_of_torn_disk(rt.alloc(), fill, image),
             Some(true),
             "{fill:?}"
+        );
+    }
+}
+
+/// Which of some calls on a disk of four bytes fail: the first claim, the second, a third of a disk that is claimed, and the size.
+fn failing_claims(disk: &mut ListDisk) -> [bool; 4] {
+    [
+        make(disk, Change::Claim).is_err(),
+        make(disk, Change::Claim).is_err(),
+        make(disk, Change::Claim).is_err(),
+        size(disk).is_err(),
+    ]
+}
+
+/// The same of one of which the calls with these numbers fail.
+fn claims_failing_at(alloc: Global, failing: &[u64]) -> Option<[bool; 4]> {
+    let failing = failing.to_vec(alloc).ok()?;
+    let mut disk = list_disk_of(alloc, bytes_of(alloc, b"lots")?, failing)?;
+    Some(failing_claims(&mut disk))
+}
+
+/// A claim that fails is a call, and so is the one after it. One of a disk that is claimed is none.
+#[test]
+fn a_disk_is_claimed_once(rt: HostRuntime) {
+    for (failing, claims) in [
+        ([0, 2], [true, false, false, true]),
+        ([1, 3], [false, false, false, true]),
+        ([0, 1], [true, true, false, false]),
+    ] {
+        assert_eq!(rt;
+            claims_failing_at(rt.alloc(), &failing),
+            Some(claims),
+            "{failing:?}"
         );
     }
 }
@@ -228,13 +266,19 @@ fn list_shelf_holds(shelf: &ListShelf, name: &str, text: &str) -> bool {
 }
 
 /// The first row that does not hold of a shelf, and whether it has this text then.
-fn kept_by_list_shelf(alloc: Global, rows: &[Row]) -> Option<(usize, bool)> {
-    let mut shelf = list_shelf(alloc)?;
+fn kept_by_list_shelf(
+    alloc: Global,
+    failing: u64,
+    rows: &[Row],
+    text: &str,
+) -> Option<(usize, bool)> {
+    let mut shelf = list_shelf(alloc, failing)?;
     let other = first_other(alloc, &mut shelf, rows);
-    Some((other, list_shelf_holds(&shelf, "journal", "plts")))
+    Some((other, list_shelf_holds(&shelf, "journal", text)))
 }
 
-/// The sixth call on the disk, its second sync, fails, and then the third opening.
+/// A call fails on the disk that is opened a second time: its claim, since it is to be claimed anew, or its sync. And then the third
+/// opening fails.
 #[test]
 fn a_list_shelf_counts_on_with_a_closed_disk(rt: HostRuntime) {
     let rows = [
@@ -242,7 +286,53 @@ fn a_list_shelf_counts_on_with_a_closed_disk(rt: HostRuntime) {
         ("journal", "pl", Err(Refusal::Failed)),
         ("journal", "x", Err(Refusal::Failed)),
     ];
-    assert_eq!(rt; kept_by_list_shelf(rt.alloc(), &rows), Some((3, true)));
+    for (failing, text) in [(5, "cots"), (7, "plts")] {
+        assert_eq!(rt;
+            kept_by_list_shelf(rt.alloc(), failing, &rows, text),
+            Some((3, true)),
+            "at the call {failing}"
+        );
+    }
+}
+
+/// Opens a disk of this name, makes the changes, and closes it. Answers the length.
+fn sized_by_name<H: Shelf>(
+    alloc: Global,
+    shelf: &mut H,
+    name: &str,
+    changes: &[Change],
+) -> Option<u64> {
+    match changed_by_name(alloc, shelf, name, changes, 0, &mut [0; 8]) {
+        Ok(Ok((_, size))) => Some(size),
+        _ => None,
+    }
+}
+
+/// Whether a file is there once a disk of its name was closed on which nothing was asked for but what it holds, and once one was closed
+/// that was claimed.
+fn absent_in_sure_shelf(alloc: Global) -> Option<[bool; 4]> {
+    let mut shelf = sure_shelf(alloc)?;
+    let read = sized_by_name(alloc, &mut shelf, "absent", &[Change::Sync]);
+    let is_made = shelf.file("absent").is_some();
+    let claimed = sized_by_name(alloc, &mut shelf, "absent", &[Change::Claim]);
+    let is_there = sure_shelf_holds(&shelf, "absent", "");
+    Some([read == Some(0), is_made, claimed == Some(0), is_there])
+}
+
+fn absent_in_list_shelf(alloc: Global) -> Option<[bool; 4]> {
+    let mut shelf = list_shelf(alloc, 9)?;
+    let read = sized_by_name(alloc, &mut shelf, "absent", &[Change::Sync]);
+    let is_made = shelf.file("absent").is_some();
+    let claimed = sized_by_name(alloc, &mut shelf, "absent", &[Change::Claim]);
+    let is_there = list_shelf_holds(&shelf, "absent", "");
+    Some([read == Some(0), is_made, claimed == Some(0), is_there])
+}
+
+#[test]
+fn only_a_claim_makes_a_file(rt: HostRuntime) {
+    let found = [true, false, true, true];
+    assert_eq!(rt; absent_in_sure_shelf(rt.alloc()), Some(found));
+    assert_eq!(rt; absent_in_list_shelf(rt.alloc()), Some(found));
 }
 
 /// Whether a file in the folder that the program runs in has these bytes. It is removed.
@@ -261,6 +351,42 @@ fn a_folder_shelf_makes_a_real_file_and_keeps_it(rt: HostRuntime) -> Result<(), 
     assert!(rt; is_kept(&rt, name, b"pots")?);
     let rows = [("no_folder/journal", "x", Err(Refusal::Failed))];
     assert_eq!(rt; first_other(rt.alloc(), &mut shelf, &rows), 1);
+    Ok(())
+}
+
+/// The length that a disk of this name shows where nothing is changed.
+fn looked_at(rt: &HostRuntime, name: &str) -> Option<u64> {
+    let mut shelf = FolderShelf::new(rt.alloc(), rt);
+    sized_by_name(rt.alloc(), &mut shelf, name, &[])
+}
+
+#[test]
+fn a_look_at_an_absent_name_makes_no_file(rt: HostRuntime) {
+    let name = "an_absent_journal_of_house_io";
+    assert_eq!(rt; looked_at(&rt, name), Some(0));
+    assert!(rt; fs::read(&rt, name).is_err());
+}
+
+/// Which claims of two disks of one name fail: that of the first, that of the second beside it, and that of the second once the first is
+/// closed.
+fn claimed_twice(rt: &HostRuntime, name: &str) -> Option<[bool; 3]> {
+    let mut shelf = FolderShelf::new(rt.alloc(), rt);
+    let mut one = shelf.disk(rt.alloc(), name).ok()?;
+    let mut other = shelf.disk(rt.alloc(), name).ok()?;
+    let first = make(&mut one, Change::Claim).is_err();
+    let beside = make(&mut other, Change::Claim).is_err();
+    shelf.close_disk(name, one);
+    let after = make(&mut other, Change::Claim).is_err();
+    shelf.close_disk(name, other);
+    Some([first, beside, after])
+}
+
+#[test]
+fn a_file_is_claimed_by_one_disk_at_a_time(rt: HostRuntime) -> Result<(), Fail> {
+    let name = "a_claimed_journal_of_house_io";
+    let claims = claimed_twice(&rt, name);
+    fs::remove_file(&rt, name)?;
+    assert_eq!(rt; claims, Some([false, true, false]));
     Ok(())
 }
 

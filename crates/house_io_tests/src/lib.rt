@@ -2,6 +2,8 @@
 #![tactic(auto)]
 
 #[cfg(test)]
+mod calls;
+#[cfg(test)]
 mod disk_tests;
 #[cfg(test)]
 mod file_tests;

@@ -264,11 +264,11 @@ fn add_list_file(alloc: Global, files: &mut Vec<ListFile>, name: &str, failing: 
     }
 }
 
-fn list_files(alloc: Global) -> Option<Vec<ListFile>> {
+fn list_files(alloc: Global, failing: u64) -> Option<Vec<ListFile>> {
     let mut files = Vec::new(alloc);
     let are_added = add_list_file(alloc, &mut files, "sound", 9)
         && add_list_file(alloc, &mut files, "torn", 1)
-        && add_list_file(alloc, &mut files, "journal", 5);
+        && add_list_file(alloc, &mut files, "journal", failing);
     if are_added { Some(files) } else { None }
 }
 
@@ -276,14 +276,14 @@ fn list_shelf_of(alloc: Global, files: Vec<ListFile>, failing: Vec<u64>) -> Opti
     ListShelf::new(alloc, files, 40, failing).ok()
 }
 
-/// A shelf of which the third opening fails.
-pub(crate) fn list_shelf(alloc: Global) -> Option<ListShelf> {
-    list_shelf_of(alloc, list_files(alloc)?, one(alloc, 2)?)
+/// A shelf of which the third opening fails, and the call of this number on the disk of its journal.
+pub(crate) fn list_shelf(alloc: Global, failing: u64) -> Option<ListShelf> {
+    list_shelf_of(alloc, list_files(alloc, failing)?, one(alloc, 2)?)
 }
 
 /// The first row that does not hold of such a shelf.
 fn first_other_in_list_shelf(alloc: Global, rows: &[Row]) -> Option<usize> {
-    let mut shelf = list_shelf(alloc)?;
+    let mut shelf = list_shelf(alloc, 9)?;
     Some(first_other(alloc, &mut shelf, rows))
 }
 

@@ -1,10 +1,11 @@
 -- A file that was opened for reading and closed again was only read, and a disk that was opened, synced and closed was only synced.
-use Rattle.std.proofs.Common.{◌≡◌, ◌≢◌, ◌∙◌, ℕ, List, [], true, false, Option, Some, None, arith, inl, inr, sym, ap, subst, option_map, unwrap_or, bytes_eq}
+use Rattle.std.proofs.Common.{if◌then◌else◌, ◌≡◌, ◌≢◌, ◌∙◌, ℕ, Bool, IsTrue, List, [], true, false, Option, Some, None, arith, inl, inr, refl, sym, ap, subst, option_map, unwrap_or, bytes_eq}
 use Rattle.std.proofs.lemmas.Slice.Eq.{bytes_eq-Decides}
 use Rattle.std.proofs.lemmas.Bool.{cases_Bool}
 use Rattle.std.specs.Prelude.{◌⊎◌}
+use Rattle.house_io.specs.Disks.{DiskShown, is_told, told_moments}
 use Rattle.house_io.specs.Moments.{Moments, opened}
-use Rattle.house_io.specs.Shelves.{NamedFile, IfTells, IfWasTold, ChangesNone, ChangesOnly, RisesOnly, Adds, file_of, moments_at, with_name}
+use Rattle.house_io.specs.Shelves.{NamedFile, IfTells, IfWasTold, IsLeftBy, StandsAs, ChangesNone, ChangesOnly, RisesOnly, Adds, file_of, moments_at, with_name}
 use Rattle.house_run.specs.Frame.{KeepsAll, KeepsContents, OnlySynced, synced_times}
 use Rattle.house_run.specs.Seen.{ShelfSeen}
 use Rattle.house_run.specs.Steps.{OnlyReads}
@@ -36,44 +37,57 @@ closed-again name faults shelf files counts names opened rose named closed added
   names = inr (same ∙ named);
 }
 
--- the file of another name is the same, and that of this one was synced so often
-contents-kept : (name : List ℕ) (old new : Moments) (files between after : List NamedFile)
-    → ((other : List ℕ) → other ≢ name → file_of between other ≡ file_of files other) → ((other : List ℕ) → other ≢ name → file_of after other ≡ file_of between other)
-    → old ≡ moments_at files name → OnlySynced old new → option_map (λ file. file.moments) (file_of after name) ≡ Some new → KeepsContents (λ other. other ≡ name) files after
-contents-kept name old new files between after opening closing stands synced left = record {
-  same = same;
+-- a file that a disk stood for, and that was left as the disk was, unclaimed and synced at most
+
+quiet-synced : (o : Option NamedFile) (old new : Moments) → old ≡ unwrap_or (option_map (λ file. file.moments) o) (opened []) → OnlySynced old new
+    → OnlySynced (unwrap_or (option_map (λ file. file.moments) o) (opened [])) (unwrap_or (option_map (λ _. new) o) (opened []))
+quiet-synced None old new stood synced = record { count = 0; moments_are = refl }
+quiet-synced (Some file) old new stood synced = record { count = synced.count; moments_are = synced.moments_are ∙ ap (synced_times synced.count) stood }
+
+none-moments : (o : Option NamedFile) → option_map (λ file. file.moments) o ≡ None → o ≡ None
+none-moments None none = refl
+none-moments (Some file) none = absurd (let bad : Some file.moments ≡ None = none in cc)
+
+-- where the disk is not claimed
+pub left-quiet : (name : List ℕ) (disk : DiskShown) (before after : List NamedFile) → disk.claimed ≡ false → IsLeftBy name disk before after
+    → option_map (λ file. file.moments) (file_of after name) ≡ option_map (λ _. told_moments disk) (file_of before name)
+left-quiet name disk before after unclaimed left =
+    left.1 ∙ ap (λ (claimed : Bool). if claimed then Some (told_moments disk) else option_map (λ _. told_moments disk) (file_of before name)) unclaimed
+
+pub contents-kept : (name : List ℕ) (old disk : DiskShown) (files after : List NamedFile) → ((other : List ℕ) → other ≢ name → file_of after other ≡ file_of files other)
+    → StandsAs name old files → OnlySynced (told_moments old) (told_moments disk) → disk.claimed ≡ false → IsLeftBy name disk files after → KeepsContents (λ other. other ≡ name) files after
+contents-kept name old disk files after only stands synced unclaimed left = record {
+  same = only;
   synced = λ other. elim (same-or-other name other) [
     | inl e ↦ subst P (sym e) here
-    | inr ne ↦ record { count = 0; moments_are = ap (λ o. unwrap_or (option_map (λ (file : NamedFile). file.moments) o) (opened [])) (same other ne) }
+    | inr ne ↦ record { count = 0; moments_are = ap (λ o. unwrap_or (option_map (λ (file : NamedFile). file.moments) o) (opened [])) (only other ne) }
+  ];
+  absent = λ other none. elim (same-or-other name other) [
+    | inl e ↦ subst A (sym e) gone none
+    | inr ne ↦ only other ne ∙ none
   ];
 }
   where
     P : List ℕ → Type 0
     P other = OnlySynced (moments_at files other) (moments_at after other)
 
-    same : (other : List ℕ) → (other ≡ name → ⊥) → file_of after other ≡ file_of files other
-    same other ne = closing other ne ∙ opening other ne
+    A : List ℕ → Type 0
+    A other = file_of files other ≡ None → file_of after other ≡ None
+
+    quiet : option_map (λ file. file.moments) (file_of after name) ≡ option_map (λ _. told_moments disk) (file_of files name)
+    quiet = left-quiet name disk files after unclaimed left
 
     here : P name
-    here = record { count = synced.count; moments_are = ap (λ o. unwrap_or o (opened [])) left ∙ synced.moments_are ∙ ap (synced_times synced.count) stands }
+    here = subst (OnlySynced (moments_at files name)) (sym (ap (λ o. unwrap_or o (opened [])) quiet)) (quiet-synced (file_of files name) (told_moments old) (told_moments disk) stands.1 synced)
 
-pub disk-closed : (name : List ℕ) (T U : Type 0) (old new : Moments) (before between after : Option (List NamedFile))
-    → ChangesOnly name before between → IfTells between (λ _. IfWasTold before (λ files. T × (old ≡ moments_at files name)))
-    → (U → OnlySynced old new)
-    → ChangesOnly name between after → IfTells after (λ files. U × (option_map (λ file. file.moments) (file_of files name) ≡ Some new))
-    → KeepsAll (λ other. other ≡ name) before after
-disk-closed name T U old new before between None opening stands synced closing left = tt
-disk-closed name T U old new before None (Some after) opening stands synced closing left = absurd closing
-disk-closed name T U old new None (Some between) (Some after) opening stands synced closing left = absurd opening
-disk-closed name T U old new (Some files) (Some between) (Some after) opening stands synced closing left =
-    contents-kept name old new files between after opening closing stands.1 (synced left.0) left.1
+    gone : A name
+    gone none = none-moments (file_of after name) (quiet ∙ ap (option_map (λ _. told_moments disk)) none)
 
--- an opening that is refused changes no file
-pub refused-kept : (name : List ℕ) (before after : Option (List NamedFile)) → IfTells after (λ now. IfWasTold before (λ files. (other : List ℕ) → file_of now other ≡ file_of files other))
-    → KeepsAll (λ other. other ≡ name) before after
-refused-kept name before None same = tt
-refused-kept name None (Some after) same = absurd same
-refused-kept name (Some files) (Some after) same = record {
-  same = λ other ne. same other;
-  synced = λ other. record { count = 0; moments_are = ap (λ o. unwrap_or (option_map (λ (file : NamedFile). file.moments) o) (opened [])) (same other) };
-}
+pub disk-closed : (name : List ℕ) (old disk : DiskShown) (before between after : Option (List NamedFile)) → ChangesNone before between → IfTells between (StandsAs name old)
+    → (IsTrue (is_told disk) → OnlySynced (told_moments old) (told_moments disk)) → disk.claimed ≡ false
+    → ChangesOnly name between after → IfTells after (λ files. IfWasTold between (λ first. IsLeftBy name disk first files)) → KeepsAll (λ other. other ≡ name) before after
+disk-closed name old disk before between None none stands synced unclaimed only left = tt
+disk-closed name old disk before None (Some after) none stands synced unclaimed only left = absurd only
+disk-closed name old disk before (Some files) (Some after) none stands synced unclaimed only left =
+    let P : Option (List NamedFile) → Type 0 = λ o. KeepsAll (λ other. other ≡ name) o (Some after) in
+    subst P (sym none) (contents-kept name old disk files after only stands (synced left.0) unclaimed left)

@@ -35,7 +35,7 @@ pub none-kept : (P : List ℕ → Type 0) (before now : Option (List NamedFile))
 none-kept P before None same = tt
 none-kept P before (Some files) same =
     let Q : Option (List NamedFile) → Type 0 = λ o. KeepsAll P o (Some files) in
-    let here : KeepsContents P files files = record { same = λ name not. refl; synced = λ name. record { count = 0; moments_are = refl } } in
+    let here : KeepsContents P files files = record { same = λ name not. refl; synced = λ name. record { count = 0; moments_are = refl }; absent = λ name none. none } in
     subst Q (sym same) here
 
 synced-more : (m n : ℕ) (ms : Moments) → synced_times m (synced_times n ms) ≡ synced_times (m + n) ms
@@ -49,6 +49,7 @@ contents-then : (P Q : List ℕ → Type 0) (a b c : List NamedFile) → ((name 
 contents-then P Q a b c wider first second = record {
   same = λ name not. second.same name (λ q. not (wider name q)) ∙ first.same name not;
   synced = λ name. synced-then _ _ _ (first.synced name) (second.synced name);
+  absent = λ name none. second.absent name (first.absent name none);
 }
 
 pub kept-then : (P Q : List ℕ → Type 0) (a b c : Option (List NamedFile)) → ((name : List ℕ) → Q name → P name) → KeepsAll P a b → KeepsAll Q b c → KeepsAll P a c

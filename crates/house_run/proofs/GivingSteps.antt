@@ -1,5 +1,6 @@
 -- Doors and books are given back one after another.
 use Rattle.std.proofs.Common.{◌≡◌, ◌∙◌, ◌≤◌, ◌-◌, ◌++◌, ℕ, Bool, IsTrue, List, [], ◌∷◌, length, map, reverse, Option, Some, None, arith, refl, sym, ap, subst, append_assoc, length-append}
+use Rattle.house_io.specs.Disks.{DiskShown}
 use Rattle.std.specs.List.{AllByRecursion}
 use Rattle.std.proofs.lemmas.List.{append-nil, map-append, reverse-append}
 use Rattle.house_io.specs.Faults.{raised_by}
@@ -99,41 +100,41 @@ doors-counts faults doors rest before after counted_before counted none back =
 -- books
 
 -- before a book is taken apart
-pub record BooksApart {D : Type 0} (tells : D → Bool) (moments : D → Moments) (faults : D → ℕ) (books rest : List (BookOf D)) (clocks : List ClockOf) (disks : List D) : Type 0 where
+pub record BooksApart {D : Type 0} (shown : D → DiskShown) (books rest : List (BookOf D)) (clocks : List ClockOf) (disks : List D) : Type 0 where
   pub front : List (BookOf D)
   pub are : books ≡ front ++ reverse rest
   pub clocks_are : histories clocks ≡ map (λ (b : BookOf D). b.state.clock) front
   pub disks_are : disks ≡ map (λ (b : BookOf D). b.disk) front
-  pub kept : AllByRecursion (λ (b : BookOf D). IsKept (IsTrue (tells b.disk)) (moments b.disk) (faults b.disk) b) front
+  pub kept : AllByRecursion (λ (b : BookOf D). IsKept shown b) front
 
-module _ {D : Type 0} (tells : D → Bool) (moments : D → Moments) (faults : D → ℕ) where
-  pub books-begun : (books rest : List (BookOf D)) (clocks : List ClockOf) (disks : List D) → books ≡ reverse rest → clocks ≡ [] → disks ≡ [] → BooksApart tells moments faults books rest clocks disks
+module _ {D : Type 0} (shown : D → DiskShown) where
+  pub books-begun : (books rest : List (BookOf D)) (clocks : List ClockOf) (disks : List D) → books ≡ reverse rest → clocks ≡ [] → disks ≡ [] → BooksApart shown books rest clocks disks
   books-begun books rest clocks disks are none empty = record { front = []; are = are; clocks_are = ap histories none; disks_are = empty; kept = tt }
 
-  pub books-more : (books rest left : List (BookOf D)) (book : BookOf D) (clocks clocks_then : List ClockOf) (clock : ClockOf) (disks disks_then : List D) (disk : D) → rest ≡ left ++ book ∷ [] → BooksApart tells moments faults books rest clocks disks
-      → IsKept (IsTrue (tells book.disk)) (moments book.disk) (faults book.disk) book → clock.history ≡ book.state.clock → disk ≡ book.disk → clocks_then ≡ clocks ++ clock ∷ [] → disks_then ≡ disks ++ disk ∷ []
-      → BooksApart tells moments faults books left clocks_then disks_then
+  pub books-more : (books rest left : List (BookOf D)) (book : BookOf D) (clocks clocks_then : List ClockOf) (clock : ClockOf) (disks disks_then : List D) (disk : D) → rest ≡ left ++ book ∷ [] → BooksApart shown books rest clocks disks
+      → IsKept shown book → clock.history ≡ book.state.clock → disk ≡ book.disk → clocks_then ≡ clocks ++ clock ∷ [] → disks_then ≡ disks ++ disk ∷ []
+      → BooksApart shown books left clocks_then disks_then
   books-more books rest left book clocks clocks_then clock disks disks_then disk is apart kept history same clocks_more disks_more = record {
     front = apart.front ++ book ∷ [];
     are = turned books apart.front rest left book is apart.are;
     clocks_are =
         ap histories clocks_more ∙ map-append (λ (c : ClockOf). c.history) clocks (clock ∷ []) ∙ (λ i. apart.clocks_are i ++ history i ∷ []) ∙ sym (map-append (λ (b : BookOf D). b.state.clock) apart.front (book ∷ []));
     disks_are = disks_more ∙ (λ i. apart.disks_are i ++ same i ∷ []) ∙ sym (map-append (λ (b : BookOf D). b.disk) apart.front (book ∷ []));
-    kept = all-more (λ (b : BookOf D). IsKept (IsTrue (tells b.disk)) (moments b.disk) (faults b.disk) b) apart.front book apart.kept kept;
+    kept = all-more (λ (b : BookOf D). IsKept shown b) apart.front book apart.kept kept;
   }
 
   -- no book is left
-  pub books-apart : (books rest : List (BookOf D)) (clocks : List ClockOf) (disks : List D) → rest ≡ [] → BooksApart tells moments faults books rest clocks disks → record {
+  pub books-apart : (books rest : List (BookOf D)) (clocks : List ClockOf) (disks : List D) → rest ≡ [] → BooksApart shown books rest clocks disks → record {
     clocks : histories clocks ≡ map (λ (b : BookOf D). b.state.clock) books;
     disks : disks ≡ map (λ (b : BookOf D). b.disk) books;
-    kept : AllByRecursion (λ (b : BookOf D). IsKept (IsTrue (tells b.disk)) (moments b.disk) (faults b.disk) b) books;
+    kept : AllByRecursion (λ (b : BookOf D). IsKept shown b) books;
   }
   books-apart books rest clocks disks none apart =
       let e = whole books apart.front (apart.are ∙ ap (λ l. apart.front ++ reverse l) none) in
       record {
         clocks = apart.clocks_are ∙ ap (map (λ (b : BookOf D). b.state.clock)) e;
         disks = apart.disks_are ∙ ap (map (λ (b : BookOf D). b.disk)) e;
-        kept = subst (AllByRecursion (λ (b : BookOf D). IsKept (IsTrue (tells b.disk)) (moments b.disk) (faults b.disk) b)) e apart.kept;
+        kept = subst (AllByRecursion (λ (b : BookOf D). IsKept shown b)) e apart.kept;
       }
 
 -- lists

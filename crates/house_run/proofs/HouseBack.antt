@@ -1,5 +1,6 @@
 -- What is left of a house that was served, or not, once it was closed.
 use Rattle.std.proofs.Common.{◌≡◌, ◌∙◌, ◌<◌, ◌≤◌, ◌+◌, ◌-◌, ◌++◌, ℕ, zero, suc, Bool, true, false, IsTrue, List, [], ◌∷◌, length, map, take, drop, get_or, Option, Some, None, Result, Ok, Err, arith, inl, inr, refl, sym, ap, subst}
+use Rattle.house_io.specs.Disks.{DiskShown}
 use Rattle.std.specs.List.{AllByRecursion}
 use Rattle.std.specs.Prelude.{◌⊎◌}
 use Rattle.std.proofs.lemmas.Bool.{cases_Bool}
@@ -29,9 +30,9 @@ use Rattle.house_run.specs.declared.ends.Ended.{Ended}
 use Rattle.house_run.specs.declared.hosting.Hosted.{Hosted}
 use Rattle.house_run.proofs.GivingSteps.{map-map, raised-later, raised-none, told-then}
 
-pub books-back : {D : Type 0} (tells : D → Bool) (moments : D → Moments) (faults : D → ℕ) (desks : List (Opened (BookOf D))) (passes : List HousePassOf) (books : List (BookOf D)) (disks : List D) → AreClosed desks passes books
-    → disks ≡ map (λ (b : BookOf D). b.disk) books → AllByRecursion (λ (b : BookOf D). IsKept (IsTrue (tells b.disk)) (moments b.disk) (faults b.disk) b) books → BooksBack tells moments faults desks books disks
-books-back tells moments faults desks passes books disks closed are kept = record { count = closed.count; origins = λ k d b below. (closed.each k d b below).origin_is; disks_are = are; kept = kept }
+pub books-back : {D : Type 0} (shown : D → DiskShown) (desks : List (Opened (BookOf D))) (passes : List HousePassOf) (books : List (BookOf D)) (disks : List D) → AreClosed desks passes books
+    → disks ≡ map (λ (b : BookOf D). b.disk) books → AllByRecursion (λ (b : BookOf D). IsKept shown b) books → BooksBack shown desks books disks
+books-back shown desks passes books disks closed are kept = record { count = closed.count; origins = λ k d b below. (closed.each k d b below).origin_is; disks_are = are; kept = kept }
 
 all-cell : {A : Type 0} (P : A → Type 0) (xs : List A) (k : ℕ) → ((x : A) → k < length xs → P (get_or xs k x)) → AllByRecursion P (take 1 (drop k xs))
 all-cell P [] zero holds = tt
@@ -50,11 +51,11 @@ none-own house (p ∷ passes) k new =
     all-join (λ (q : Known Entry Origin). q.own ≡ []) (take 1 (drop k p.passes)) (column k passes) (all-cell (λ (q : Known Entry Origin). q.own ≡ []) p.passes k (new.0.own k)) (none-own house passes k new.1)
 
 -- a house that was closed with new passes has the books that it had
-pub unused-back : {D : Type 0} (tells : D → Bool) (moments : D → Moments) (faults : D → ℕ) (house : HouseOf D) (passes : List HousePassOf) (books : List (BookOf D)) (disks : List D) → AllByRecursion (IsNewPass house) passes → AreClosed house.desks passes books
-    → disks ≡ map (λ (b : BookOf D). b.disk) books → AllByRecursion (λ (b : BookOf D). IsKept (IsTrue (tells b.disk)) (moments b.disk) (faults b.disk) b) books → HouseUnused tells moments faults house.desks disks
-unused-back {D} tells moments faults house passes books disks new closed are kept = record {
+pub unused-back : {D : Type 0} (shown : D → DiskShown) (house : HouseOf D) (passes : List HousePassOf) (books : List (BookOf D)) (disks : List D) → AllByRecursion (IsNewPass house) passes → AreClosed house.desks passes books
+    → disks ≡ map (λ (b : BookOf D). b.disk) books → AllByRecursion (λ (b : BookOf D). IsKept shown b) books → HouseUnused shown house.desks disks
+unused-back {D} shown house passes books disks new closed are kept = record {
   books = books;
-  back = books-back tells moments faults house.desks passes books disks closed are kept;
+  back = books-back shown house.desks passes books disks closed are kept;
   unused = λ k d b below. same-history (λ (x : BookOf D). x.state.history) (λ (x : BookOf D). x.origin) (get_or house.desks k d).book (column k passes) (get_or books k b) (none-own house passes k new) (closed.each k d b below);
 }
 
@@ -151,19 +152,19 @@ module _ {R M : Type 0} (told : R → Option (DoorLinks M)) (faults : R → ℕ)
     };
   }
 
-module _ {D R L M : Type 0} (tells : D → Bool) (moments : D → Moments) (disk_faults : D → ℕ) (told : R → Option (DoorLinks M)) (faults : R → ℕ) (link_told : M → Option LinkBytes) (link_faults : M → ℕ) (auction : Auction) (sessions : ℕ) where
+module _ {D R L M : Type 0} (shown : D → DiskShown) (told : R → Option (DoorLinks M)) (faults : R → ℕ) (link_told : M → Option LinkBytes) (link_faults : M → ℕ) (auction : Auction) (sessions : ℕ) where
   as-outcome : (answer : Result Hosted Ended) (count : ℕ) (desks : List (Opened (BookOf D))) (passes : List HousePassOf) (disks : List D) (before after : Option (NetLists R L)) (counted counted_after : ℕ)
-      → HouseServed {L = L} tells moments disk_faults told faults link_told link_faults auction count sessions desks passes disks answer before after counted counted_after
-      → HouseOutcome {L = L} tells moments disk_faults told faults link_told link_faults auction count sessions desks passes answer disks before after counted counted_after
+      → HouseServed {L = L} shown told faults link_told link_faults auction count sessions desks passes disks answer before after counted counted_after
+      → HouseOutcome {L = L} shown told faults link_told link_faults auction count sessions desks passes answer disks before after counted counted_after
   as-outcome (Ok hosted) count desks passes disks before after counted counted_after served = served
   as-outcome (Err end) count desks passes disks before after counted counted_after served = inl served
 
   -- a house was served: its doors are back at the net, and its books were taken apart
   pub served-outcome : (answer : Result Hosted Ended) (house : HouseOf D) (passes : List HousePassOf) (doors : List R) (books : List (BookOf D)) (logs : List (DoorLog R)) (disks : List D) (before between after : Option (NetLists R L)) (counted counted_after : ℕ)
       → IsServed told faults link_told link_faults auction sessions house passes doors books logs → AllByRecursion (λ door. faults door ≡ 0) doors → IfTold before between (GivesDoors told (length doors) doors)
-      → disks ≡ map (λ (b : BookOf D). b.disk) books → AllByRecursion (λ (b : BookOf D). IsKept (IsTrue (tells b.disk)) (moments b.disk) (disk_faults b.disk) b) books
+      → disks ≡ map (λ (b : BookOf D). b.disk) books → AllByRecursion (λ (b : BookOf D). IsKept shown b) books
       → IfTold between after (TakesAll (map (λ (log : DoorLog R). log.door) logs)) → counted_after ≡ raised_by_all counted (map (λ (log : DoorLog R). faults log.door) logs) → LogsOutcome books logs answer
-      → HouseOutcome {L = L} tells moments disk_faults told faults link_told link_faults auction (length doors) sessions house.desks passes answer disks before after counted counted_after
+      → HouseOutcome {L = L} shown told faults link_told link_faults auction (length doors) sessions house.desks passes answer disks before after counted counted_after
   served-outcome answer house passes doors books logs disks before between after counted counted_after served fresh gives are kept takes raised outcome =
       let runs = served.runs in
       let first = subst (AllByRecursion (λ door. faults door ≡ 0)) served.doors_are fresh in
@@ -174,7 +175,7 @@ module _ {D R L M : Type 0} (tells : D → Bool) (moments : D → Moments) (disk
       let O : List (DoorLog R) → Type 0 = λ ls. LogsOutcome books ls answer in
       as-outcome answer (length doors) house.desks passes disks before after counted counted_after (record {
         books = books;
-        back = books-back tells moments disk_faults house.desks (map (λ (r : DoorRun R M). r.after) runs) books disks served.closed are kept;
+        back = books-back shown house.desks (map (λ (r : DoorRun R M). r.after) runs) books disks served.closed are kept;
         runs = runs;
         passes_are = served.passes_are;
         ran = record {

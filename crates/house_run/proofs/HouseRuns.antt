@@ -1,5 +1,6 @@
 -- From the disks of a house's journals to these disks again.
-use Rattle.std.proofs.Common.{◌≡◌, ◌∙◌, ◌<◌, ◌≤◌, ◌-◌, ◌^◌, min, ℕ, zero, suc, Bool, IsTrue, List, [], ◌∷◌, length, map, get_or, Option, Result, Ok, Err, arith, inl, inr, refl, sym, ap, subst}
+use Rattle.std.proofs.Common.{true≢false, ◌≡◌, ◌∙◌, ◌<◌, ◌≤◌, ◌-◌, ◌^◌, min, ℕ, zero, suc, Bool, IsTrue, List, [], ◌∷◌, length, map, get_or, Option, Result, Ok, Err, arith, inl, inr, refl, sym, ap, subst}
+use Rattle.house_io.specs.Disks.{DiskShown, is_told, told_moments}
 use Rattle.std.specs.List.{AllByRecursion, flat_map}
 use Rattle.std.specs.Prelude.{◌⊎◌}
 use Rattle.std.proofs.lemmas.Bool.{cases_lt}
@@ -15,7 +16,7 @@ use Rattle.clock.specs.Reports.{ClockHistory}
 use Rattle.recovery.specs.Journaled.{Owner, owner_of}
 use Rattle.clock_book.specs.Books.{BookOf, IsKept}
 use Rattle.clock_book.specs.DeskHistories.{marks_in}
-use Rattle.clock_book.specs.Opened.{Opens}
+use Rattle.clock_book.specs.Opened.{IsLeftUnlessClaimed, Opens}
 use Rattle.clock_book.specs.declared.faults.OpenFault.{OpenFault}
 use Rattle.clock_book.specs.declared.faults.OpenFault.TheVariants as why
 use Rattle.clock_family.specs.Houses.{HouseOf, HousePassOf, IsNewPass, IsOpened}
@@ -59,19 +60,20 @@ histories-in [] (b ∷ books) e = absurd (omega arith)
 histories-in (d ∷ desks) [] e = absurd (omega arith)
 histories-in (d ∷ desks) (b ∷ books) e = ap (λ l. b.state.clock ∷ l) (histories-in desks books (let t : length books ≡ length desks = omega arith in t))
 
-module _ {D : Type 0} (tells : D → Bool) (moments : D → Moments) (faults : D → ℕ) (terms : Terms) (digest : List ℕ) where
+module _ {D : Type 0} (shown : D → DiskShown) (terms : Terms) (digest : List ℕ) where
   -- one clock of a house that was opened and closed
   record RanAt (old disks : List D) (desks : List (Opened (BookOf D))) (books : List (BookOf D)) (k : ℕ) : Type 0 where
     desk : Opened (BookOf D)
     book : BookOf D
     run_is : (c : ClockRun) → get_or (runs_in desks books) k c ≡ run_of (get_or desks k desk).book (get_or books k book)
     clock : IsClockRun (owner_of terms k digest) (run_of (get_or desks k desk).book (get_or books k book))
-    marks : (d : D) → min (marks_in (get_or books k book).state.history) (2 ^ 64 - 1) ≤ faults (get_or disks k d)
-    journal : (d : D) → IsTrue (tells (get_or disks k d)) → IsJournalRun (owner_of terms k digest) (run_of (get_or desks k desk).book (get_or books k book)) (moments (get_or old k d)) (moments (get_or disks k d))
+    claimed : (d : D) → IsTrue (shown (get_or disks k d)).claimed
+    marks : (d : D) → min (marks_in (get_or books k book).state.history) (2 ^ 64 - 1) ≤ (shown (get_or disks k d)).faults
+    journal : (d : D) → IsTrue (is_told (shown (get_or disks k d))) → IsJournalRun (owner_of terms k digest) (run_of (get_or desks k desk).book (get_or books k book)) (told_moments (shown (get_or old k d))) (told_moments (shown (get_or disks k d)))
 
   ran-at : (old disks : List D) (house : HouseOf D) (books : List (BookOf D)) → length house.desks ≡ length old
-      → ((k : ℕ) (x : D) (d : Opened (BookOf D)) → k < length old → Opens tells moments faults (owner_of terms k digest) (get_or old k x) (get_or house.desks k d).book)
-      → BooksBack tells moments faults house.desks books disks → (k : ℕ) → k < length old → RanAt old disks house.desks books k
+      → ((k : ℕ) (x : D) (d : Opened (BookOf D)) → k < length old → Opens shown (owner_of terms k digest) (get_or old k x) (get_or house.desks k d).book)
+      → BooksBack shown house.desks books disks → (k : ℕ) → k < length old → RanAt old disks house.desks books k
   ran-at old disks house books count opens back k below =
       let long = back.count in
       let desk = some-of house.desks k (omega arith) in
@@ -81,26 +83,29 @@ module _ {D : Type 0} (tells : D → Bool) (moments : D → Moments) (faults : D
       let within : k < length house.desks = omega arith in
       let inside : k < length books = omega arith in
       let same = back.origins k desk book within in
-      let Kept : BookOf D → Type 0 = λ b. IsKept (IsTrue (tells b.disk)) (moments b.disk) (faults b.disk) b in
+      let Kept : BookOf D → Type 0 = λ b. IsKept shown b in
       let kept = All-from_recursion Kept books back.kept k book inside in
       let x = some-of old k below in
       record {
         desk = desk;
         book = book;
         run_is = λ c. runs-at house.desks books k c desk book long within;
-        clock = clock-run tells moments faults (owner_of terms k digest) (get_or old k x) first closed (opens k x desk below) same kept;
+        clock = clock-run shown (owner_of terms k digest) (get_or old k x) first closed (opens k x desk below) same kept;
+        claimed = λ d.
+            let is : get_or disks k d ≡ closed.disk = ap (λ l. get_or l k d) back.disks_are ∙ get_or-map (λ (b : BookOf D). b.disk) books k book d inside in
+            subst (λ (y : D). IsTrue (shown y).claimed) (sym is) kept.claimed;
         marks = λ d.
             let is : get_or disks k d ≡ closed.disk = ap (λ l. get_or l k d) back.disks_are ∙ get_or-map (λ (b : BookOf D). b.disk) books k book d inside in
-            subst (λ (y : D). min (marks_in closed.state.history) (2 ^ 64 - 1) ≤ faults y) (sym is) kept.marks;
+            subst (λ (y : D). min (marks_in closed.state.history) (2 ^ 64 - 1) ≤ (shown y).faults) (sym is) kept.marks;
         journal = λ d told.
             let is : get_or disks k d ≡ closed.disk = ap (λ l. get_or l k d) back.disks_are ∙ get_or-map (λ (b : BookOf D). b.disk) books k book d inside in
-            let J : D → Type 0 = λ y. IsJournalRun (owner_of terms k digest) (run_of first closed) (moments (get_or old k d)) (moments y) in
-            subst J (sym is) (journal-run tells moments faults (owner_of terms k digest) (get_or old k d) first closed (opens k d desk below) same kept (subst (λ y. IsTrue (tells y)) is told));
+            let J : D → Type 0 = λ y. IsJournalRun (owner_of terms k digest) (run_of first closed) (told_moments (shown (get_or old k d))) (told_moments (shown y)) in
+            subst J (sym is) (journal-run shown (owner_of terms k digest) (get_or old k d) first closed (opens k d desk below) same kept (subst (λ y. IsTrue (is_told (shown y))) is told));
       }
 
   -- the passes with which the doors began were new ones of the house
-  new-passes : (count : ℕ) (old disks : List D) (house : HouseOf D) (all : List HousePassOf) (books : List (BookOf D)) (p : HousePassOf) → IsOpened tells moments faults terms digest count old house all
-      → BooksBack tells moments faults house.desks books disks → IsNewPass house p → AreNewPasses terms digest (runs_in house.desks books) p.passes
+  new-passes : (count : ℕ) (old disks : List D) (house : HouseOf D) (all : List HousePassOf) (books : List (BookOf D)) (p : HousePassOf) → IsOpened shown terms digest count old house all
+      → BooksBack shown house.desks books disks → IsNewPass house p → AreNewPasses terms digest (runs_in house.desks books) p.passes
   new-passes count old disks house all books p opened back new =
       let long = length-runs house.desks books back.count in
       let same = new.of_house.count in
@@ -117,13 +122,13 @@ module _ {D : Type 0} (tells : D → Bool) (moments : D → Moments) (faults : D
             (record { of = subst O whose (new.of_house.book k q inside); seen = new.seen k r.desk q within; own = new.own k q inside });
       }
 
-  begin-all : {R L : Type 0} (count : ℕ) (old disks : List D) (house : HouseOf D) (all : List HousePassOf) (books : List (BookOf D)) (runs : List (DoorRun R L)) → IsOpened tells moments faults terms digest count old house all
-      → BooksBack tells moments faults house.desks books disks → AllByRecursion (IsNewPass house) (map (λ (r : DoorRun R L). r.before) runs) → BeginNew terms digest (runs_in house.desks books) runs
+  begin-all : {R L : Type 0} (count : ℕ) (old disks : List D) (house : HouseOf D) (all : List HousePassOf) (books : List (BookOf D)) (runs : List (DoorRun R L)) → IsOpened shown terms digest count old house all
+      → BooksBack shown house.desks books disks → AllByRecursion (IsNewPass house) (map (λ (r : DoorRun R L). r.before) runs) → BeginNew terms digest (runs_in house.desks books) runs
   begin-all count old disks house all books [] opened back new = tt
   begin-all count old disks house all books (r ∷ runs) opened back new = (new-passes count old disks house all books r.before opened back new.0, begin-all count old disks house all books runs opened back new.1)
 
-  refused-host : {N : Type 0} (fault : OpenFault) (old disks : List D) (clock : ℕ) (told : Option N) (counted : ℕ) → IsNotOpen tells moments faults terms digest old disks clock fault
-      → HostEnd {N = N} tells moments faults terms digest old disks told told counted counted (end_at clock fault)
+  refused-host : {N : Type 0} (fault : OpenFault) (old disks : List D) (clock : ℕ) (told : Option N) (counted : ℕ) → IsNotOpen shown terms digest old disks clock fault
+      → HostEnd {N = N} shown terms digest old disks told told counted counted (end_at clock fault)
   refused-host why.DiskFault old disks clock told counted not = inl (record { clock = clock; end_is = refl; not_open = not; same = record { told_same = refl; counted_same = refl } })
   refused-host why.NoMemory old disks clock told counted not = inr (inr (inr (record { end_is = refl; steady = refl })))
   refused-host (why.Broken broken) old disks clock told counted not = inr (inl (record { clock = clock; fault = why.Broken broken; end_is = refl; not_open = not; refusal = tt; same = record { told_same = refl; counted_same = refl } }))
@@ -131,40 +136,54 @@ module _ {D : Type 0} (tells : D → Bool) (moments : D → Moments) (faults : D
       inr (inl (record { clock = clock; fault = why.NotAcceptable number judgement; end_is = refl; not_open = not; refusal = tt; same = record { told_same = refl; counted_same = refl } }))
 
   -- each disk was left by an opening that was refused, or its book was closed unused
-  left-unopened : (fault : OpenFault) (old disks : List D) (clock : ℕ) → IsNotOpen tells moments faults terms digest old disks clock fault → (k : ℕ) (d : D) → LeavesDisk tells moments (owner_of terms k digest) (get_or old k d) (get_or disks k d)
+  left-unopened : (fault : OpenFault) (old disks : List D) (clock : ℕ) → IsNotOpen shown terms digest old disks clock fault → (k : ℕ) (d : D) → LeavesDisk shown (owner_of terms k digest) (get_or old k d) (get_or disks k d)
   left-unopened fault old disks clock not k d = of (cases_lt k clock)
     where
-      of : (k < clock) ⊎ (clock ≤ k) → LeavesDisk tells moments (owner_of terms k digest) (get_or old k d) (get_or disks k d)
+      of : (k < clock) ⊎ (clock ≤ k) → LeavesDisk shown (owner_of terms k digest) (get_or old k d) (get_or disks k d)
       of (inl before) =
           let was = not.before k d before in
-          inr (run_of was.first (back_of was.first (get_or disks k d)), was-run tells moments faults (owner_of terms k digest) (get_or old k d) (get_or disks k d) was, refl, was-journal tells moments faults (owner_of terms k digest) (get_or old k d) (get_or disks k d) was)
+          inr (run_of was.first (back_of was.first (get_or disks k d)), was-run shown (owner_of terms k digest) (get_or old k d) (get_or disks k d) was, refl, was-journal shown (owner_of terms k digest) (get_or old k d) (get_or disks k d) was)
       of (inr beyond) = elim (cases_lt clock k) [
-        | inl after ↦ inl (λ told. inl (ap moments (not.after k d after)))
+        | inl after ↦ inl (λ told. inl (ap (λ (y : D). told_moments (shown y)) (not.after k d after)))
         | inr same ↦
             let here : clock ≡ k = omega arith in
-            subst (λ (n : ℕ). LeavesDisk tells moments (owner_of terms n digest) (get_or old n d) (get_or disks n d)) here (inl (not.refused d).leaves)
+            subst (λ (n : ℕ). LeavesDisk shown (owner_of terms n digest) (get_or old n d) (get_or disks n d)) here (inl (not.refused d).leaves)
       ]
 
-module _ {D R L M : Type 0} (tells : D → Bool) (moments : D → Moments) (disk_faults : D → ℕ) (told : R → Option (DoorLinks M)) (faults : R → ℕ) (link_told : M → Option LinkBytes) (link_faults : M → ℕ) (auction : Auction) (count sessions : ℕ) where
+  -- each disk that is not claimed was left as it was
+  quiet-unopened : (fault : OpenFault) (old disks : List D) (clock : ℕ) → IsNotOpen shown terms digest old disks clock fault → (k : ℕ) (d : D) → IsLeftUnlessClaimed (shown (get_or old k d)) (shown (get_or disks k d))
+  quiet-unopened fault old disks clock not k d = of (cases_lt k clock)
+    where
+      of : (k < clock) ⊎ (clock ≤ k) → IsLeftUnlessClaimed (shown (get_or old k d)) (shown (get_or disks k d))
+      of (inl before) = λ unclaimed. absurd (true≢false (sym (not.before k d before).claimed ∙ unclaimed))
+      of (inr beyond) = elim (cases_lt clock k) [
+        | inl after ↦ λ unclaimed told. ap (λ (y : D). told_moments (shown y)) (not.after k d after)
+        | inr same ↦
+            let here : clock ≡ k = omega arith in
+            subst (λ (n : ℕ). IsLeftUnlessClaimed (shown (get_or old n d)) (shown (get_or disks n d))) here (not.refused d).unclaimed
+      ]
+
+module _ {D R L M : Type 0} (shown : D → DiskShown) (told : R → Option (DoorLinks M)) (faults : R → ℕ) (link_told : M → Option LinkBytes) (link_faults : M → ℕ) (auction : Auction) (count sessions : ℕ) where
   -- no house was opened
-  pub not-hosted : (fault : OpenFault) (old disks : List D) (clock : ℕ) (lists : Option (NetLists R L)) (counted : ℕ) → IsNotOpen tells moments disk_faults auction.terms auction.digest old disks clock fault
-      → HostOutcome {L = L} tells moments disk_faults told faults link_told link_faults auction count sessions old (Err (end_at clock fault)) disks lists lists counted counted
+  pub not-hosted : (fault : OpenFault) (old disks : List D) (clock : ℕ) (lists : Option (NetLists R L)) (counted : ℕ) → IsNotOpen shown auction.terms auction.digest old disks clock fault
+      → HostOutcome {L = L} shown told faults link_told link_faults auction count sessions old (Err (end_at clock fault)) disks lists lists counted counted
   not-hosted fault old disks clock lists counted not = inr (record {
     disks_count = not.count;
-    left = λ k d below. left-unopened tells moments disk_faults auction.terms auction.digest fault old disks clock not k d;
+    left = λ k d below. left-unopened shown auction.terms auction.digest fault old disks clock not k d;
+    unclaimed = λ k d below. quiet-unopened shown auction.terms auction.digest fault old disks clock not k d;
     net_is = told-same (LeavesNet told count) lists (λ x. inl refl);
-    cause = refused-host tells moments disk_faults auction.terms auction.digest fault old disks clock lists counted not;
+    cause = refused-host shown auction.terms auction.digest fault old disks clock lists counted not;
   })
 
   -- a house was opened, and served
   hosted-served : (answer : Result Hosted Ended) (old disks : List D) (house : HouseOf D) (passes : List HousePassOf) (told_before told_after : Option (NetLists R L)) (counted_before counted : ℕ)
-      → IsOpened tells moments disk_faults auction.terms auction.digest count old house passes
-      → HouseServed {L = L} tells moments disk_faults told faults link_told link_faults auction count sessions house.desks passes disks answer told_before told_after counted_before counted
-      → IsHosted {L = L} tells moments disk_faults told faults link_told link_faults auction count sessions old disks answer told_before told_after counted_before counted
+      → IsOpened shown auction.terms auction.digest count old house passes
+      → HouseServed {L = L} shown told faults link_told link_faults auction count sessions house.desks passes disks answer told_before told_after counted_before counted
+      → IsHosted {L = L} shown told faults link_told link_faults auction count sessions old disks answer told_before told_after counted_before counted
   hosted-served answer old disks house passes told_before told_after counted_before counted opened served =
       let back = served.back in
       let books = served.books in
-      let at = ran-at tells moments disk_faults auction.terms auction.digest old disks house books opened.clocks opened.books back in
+      let at = ran-at shown auction.terms auction.digest old disks house books opened.clocks opened.books back in
       let long : length (runs_in house.desks books) ≡ length old = length-runs house.desks books back.count ∙ opened.clocks in
       let all : length disks ≡ length books = ap length back.disks_are ∙ length-map books (λ (b : BookOf D). b.disk) in
       let A : List ClockHistory → Type 0 = λ cs. ServedAnswer cs served.runs answer counted_before counted in
@@ -175,12 +194,13 @@ module _ {D R L M : Type 0} (tells : D → Bool) (moments : D → Moments) (disk
         clocks_are = λ k c below. let r = at k (omega arith) in subst (λ (run : ClockRun). IsClockRun (owner_of auction.terms k auction.digest) run) (sym (r.run_is c)) r.clock;
         journals_are = λ k c d below told_now.
             let r = at k (omega arith) in
-            subst (λ (run : ClockRun). IsJournalRun (owner_of auction.terms k auction.digest) run (moments (get_or old k d)) (moments (get_or disks k d))) (sym (r.run_is c)) (r.journal d told_now);
+            subst (λ (run : ClockRun). IsJournalRun (owner_of auction.terms k auction.digest) run (told_moments (shown (get_or old k d))) (told_moments (shown (get_or disks k d)))) (sym (r.run_is c)) (r.journal d told_now);
+        claimed = λ k d below. (let r = at k (omega arith) in r.claimed d);
         marks = λ k c d below.
             let r = at k (omega arith) in
-            subst (λ (run : ClockRun). min (marks_in run.closed.history) (2 ^ 64 - 1) ≤ disk_faults (get_or disks k d)) (sym (r.run_is c)) (r.marks d);
+            subst (λ (run : ClockRun). min (marks_in run.closed.history) (2 ^ 64 - 1) ≤ (shown (get_or disks k d)).faults) (sym (r.run_is c)) (r.marks d);
         runs = served.runs;
-        new = begin-all tells moments disk_faults auction.terms auction.digest count old disks house passes books served.runs opened back (subst (AllByRecursion (IsNewPass house)) served.passes_are opened.new);
+        new = begin-all shown auction.terms auction.digest count old disks house passes books served.runs opened back (subst (AllByRecursion (IsNewPass house)) served.passes_are opened.new);
         ran = served.ran;
         joins = λ k c below.
             let r = at k (omega arith) in
@@ -190,18 +210,18 @@ module _ {D R L M : Type 0} (tells : D → Bool) (moments : D → Moments) (disk
       }
 
   house-end : (old disks : List D) (told_before told_after : Option (NetLists R L)) (counted_before counted : ℕ) (end : Ended) → HouseEnd counted_before counted end
-      → HostEnd {N = NetLists R L} tells moments disk_faults auction.terms auction.digest old disks told_before told_after counted_before counted end
+      → HostEnd {N = NetLists R L} shown auction.terms auction.digest old disks told_before told_after counted_before counted end
   house-end old disks told_before told_after counted_before counted end cause = inr (inr cause)
 
   -- a house was opened, and closed unused
   hosted-unused : (end : Ended) (old disks : List D) (house : HouseOf D) (passes : List HousePassOf) (told_before told_after : Option (NetLists R L)) (counted_before counted : ℕ)
-      → IsOpened tells moments disk_faults auction.terms auction.digest count old house passes
-      → HouseNotServed {L = L} tells moments disk_faults told faults link_told link_faults auction count sessions house.desks disks end told_before told_after counted_before counted
-      → IsUnhosted {L = L} tells moments disk_faults told faults link_told link_faults auction count sessions old disks end told_before told_after counted_before counted
+      → IsOpened shown auction.terms auction.digest count old house passes
+      → HouseNotServed {L = L} shown told faults link_told link_faults auction count sessions house.desks disks end told_before told_after counted_before counted
+      → IsUnhosted {L = L} shown told faults link_told link_faults auction count sessions old disks end told_before told_after counted_before counted
   hosted-unused end old disks house passes told_before told_after counted_before counted opened not =
       let back = not.closed.back in
       let books = not.closed.books in
-      let at = ran-at tells moments disk_faults auction.terms auction.digest old disks house books opened.clocks opened.books back in
+      let at = ran-at shown auction.terms auction.digest old disks house books opened.clocks opened.books back in
       let all : length disks ≡ length books = ap length back.disks_are ∙ length-map books (λ (b : BookOf D). b.disk) in
       record {
         disks_count = all ∙ back.count ∙ opened.clocks;
@@ -209,15 +229,16 @@ module _ {D R L M : Type 0} (tells : D → Bool) (moments : D → Moments) (disk
             let r = at k below in
             let within : k < length house.desks = (let o = opened.clocks in omega arith) in
             inr (run_of (get_or house.desks k r.desk).book (get_or books k r.book), r.clock, not.closed.unused k r.desk r.book within, r.journal d);
+        unclaimed = λ k d below unclaimed. absurd (let r = at k below in true≢false (sym (r.claimed d) ∙ unclaimed));
         net_is = not.net_is;
         cause = house-end old disks told_before told_after counted_before counted end not.cause;
       }
 
   -- a house was opened, and came to this
   pub hosted : (answer : Result Hosted Ended) (old disks : List D) (house : HouseOf D) (passes : List HousePassOf) (told_before told_after : Option (NetLists R L)) (counted_before counted : ℕ)
-      → IsOpened tells moments disk_faults auction.terms auction.digest count old house passes
-      → HouseOutcome {L = L} tells moments disk_faults told faults link_told link_faults auction count sessions house.desks passes answer disks told_before told_after counted_before counted
-      → HostOutcome {L = L} tells moments disk_faults told faults link_told link_faults auction count sessions old answer disks told_before told_after counted_before counted
+      → IsOpened shown auction.terms auction.digest count old house passes
+      → HouseOutcome {L = L} shown told faults link_told link_faults auction count sessions house.desks passes answer disks told_before told_after counted_before counted
+      → HostOutcome {L = L} shown told faults link_told link_faults auction count sessions old answer disks told_before told_after counted_before counted
   hosted (Ok done) old disks house passes told_before told_after counted_before counted opened served = hosted-served (Ok done) old disks house passes told_before told_after counted_before counted opened served
   hosted (Err end) old disks house passes told_before told_after counted_before counted opened (inl served) = inl (hosted-served (Err end) old disks house passes told_before told_after counted_before counted opened served)
   hosted (Err end) old disks house passes told_before told_after counted_before counted opened (inr not) = inr (hosted-unused end old disks house passes told_before told_after counted_before counted opened not)

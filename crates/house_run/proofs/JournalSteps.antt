@@ -1,11 +1,12 @@
 -- The journals of an auction's clocks, opened, read and closed one after another.
-use Rattle.std.proofs.Common.{◌≡◌, ◌∙◌, ◌<◌, ◌≤◌, ◌+◌, ◌++◌, ℕ, zero, suc, List, [], ◌∷◌, map, Option, Some, None, Ok, Err, arith, inl, inr, refl, sym, ap, subst, option_map, unwrap_or}
+use Rattle.std.proofs.Common.{◌≡◌, ◌∙◌, ◌<◌, ◌≤◌, ◌+◌, ◌++◌, ℕ, IsTrue, false, zero, suc, List, [], ◌∷◌, map, Option, Some, None, Ok, Err, arith, inl, inr, refl, sym, ap, subst}
 use Rattle.std.specs.Prelude.{◌⊎◌, Result}
 use Rattle.std.specs.List.{AllByRecursion, range_with_len}
 use Rattle.std.proofs.lemmas.List.{map-append}
+use Rattle.house_io.specs.Disks.{DiskShown, is_told, told_moments}
 use Rattle.house_io.specs.Faults.{Rose}
-use Rattle.house_io.specs.Moments.{Moments, opened, synced_at}
-use Rattle.house_io.specs.Shelves.{NamedFile, IfTells, file_of, with_name}
+use Rattle.house_io.specs.Moments.{Moments, synced_at}
+use Rattle.house_io.specs.Shelves.{NamedFile, ChangesOnly, IfTells, IfWasTold, IsLeftBy, StandsAs, file_of, with_name}
 use Rattle.lot_base.specs.declared.limits.TheConstants.{MOST_BIDDERS}
 use Rattle.lot_base.specs.declared.auction_terms.Terms.{Terms}
 use Rattle.clock.specs.Reports.{ClockHistory, ClockOf, histories}
@@ -18,6 +19,7 @@ use Rattle.house_run.specs.Journals.{AreFromJournals, IsFromJournal, IsReadAt}
 use Rattle.house_run.specs.Needs.{IsJournal, first_journals, journal_name, with_names}
 use Rattle.house_run.specs.Seen.{ShelfSeen, content}
 use Rattle.house_run.specs.Steps.{EndsAtJournal, IsSteady, IsUnread, OnlySyncs, OpensOnly, SyncsFirst, SyncsJournals}
+use Rattle.house_run.proofs.Closing.{contents-kept}
 use Rattle.house_run.proofs.Framing.{content-now, content-same, counts-then, kept-then, names-then, one-counts}
 
 -- one disk
@@ -26,16 +28,17 @@ pub synced-so : (old new : Moments) → (new ≡ old) ⊎ (new ≡ synced_at old
 synced-so old new (inl e) = record { count = 0; moments_are = e }
 synced-so old new (inr e) = record { count = 1; moments_are = e }
 
-read-same : (old new : Moments) → (new ≡ old) ⊎ (new ≡ synced_at old) → new.now.read ≡ old.now.read
-read-same old new (inl e) = ap (λ (ms : Moments). ms.now.read) e
-read-same old new (inr e) = ap (λ (ms : Moments). ms.now.read) e
-
 -- a file that was closed reads as its disk did at first
-pub disk-read : (Q : List ℕ → Type 0) (name : List ℕ) (U : Type 0) (old new : Moments) (after : Option (List NamedFile)) → (U → (new ≡ old) ⊎ (new ≡ synced_at old))
-    → IfTells after (λ files. U × (option_map (λ file. file.moments) (file_of files name) ≡ Some new)) → (U → Q old.now.read) → IfTells after (λ files. Q (content files name))
-disk-read Q name U old new None synced left q = tt
-disk-read Q name U old new (Some after) synced left q =
-    let same : content after name ≡ old.now.read = content-now (file_of after name) ∙ ap (λ (o : Option Moments). (unwrap_or o (opened [])).now.read) left.1 ∙ read-same old new (synced left.0) in
+pub disk-read : (Q : List ℕ → Type 0) (name : List ℕ) (old disk : DiskShown) (before after : Option (List NamedFile)) → IfTells before (StandsAs name old)
+    → (IsTrue (is_told disk) → OnlySynced (told_moments old) (told_moments disk)) → disk.claimed ≡ false
+    → ChangesOnly name before after → IfTells after (λ files. IfWasTold before (λ first. IsLeftBy name disk first files)) → (IsTrue (is_told disk) → Q (told_moments old).now.read)
+    → IfTells after (λ files. Q (content files name))
+disk-read Q name old disk before None stands synced unclaimed only left q = tt
+disk-read Q name old disk None (Some after) stands synced unclaimed only left q = absurd only
+disk-read Q name old disk (Some files) (Some after) stands synced unclaimed only left q =
+    let kept = contents-kept name old disk files after only stands (synced left.0) unclaimed left in
+    let read : content files name ≡ (told_moments old).now.read = content-now (file_of files name) ∙ ap (λ (ms : Moments). ms.now.read) (sym stands.1) in
+    let same : content after name ≡ (told_moments old).now.read = sym (content-same (λ other. other ≡ name) files after name kept) ∙ read in
     subst Q (sym same) (q left.0)
 
 pub count-read : {T : Type 0} (result : Result T OpenFault) (old new : Moments) → IsSyncedBy result old new → (new ≡ old) ⊎ (new ≡ synced_at old)

@@ -128,17 +128,13 @@ module _ (auction journals : List ℕ) (s : Serving) (value : Auction) (seen : O
     ran = record {
       count_is = served.ran.count_is;
       clocks_are = served.ran.clocks_are;
-      marks = λ k c below. marks-then k (served.ran.marks k c below);
+      marks = λ k c below. let e = r.steady (journal_name journals k) in let m = served.ran.marks k c below in omega arith;
       journals_are = first-told _ seen.shelf.files_before files seen.shelf.files r.read served.ran.journals_are;
     };
     new = served.new;
     serving = served.serving;
     joins = served.joins;
   }
-    where
-      marks-then : {A : Type 0} (k : ℕ) → A ⊎ FailedAt (later seen.shelf files faults names) (journal_name journals k) → A ⊎ FailedAt seen.shelf (journal_name journals k)
-      marks-then k (inl none) = inl none
-      marks-then k (inr failed) = inr (failed-then k failed)
 
   -- it was not
   not-then : (end : Ended) (net : NetSeen) → KeepsJournals journals (value.terms.bidders + 1) (later seen.shelf files faults names) → AuctionNotServed value journals s (later seen.shelf files faults names) net end → AuctionNotServed value journals s seen.shelf net end

@@ -1,8 +1,9 @@
 -- The targets of a migration are opened, the reports are moved to them, and they are given back.
-use Rattle.std.proofs.Common.{◌≡◌, ◌∙◌, ◌<◌, ◌≤◌, ◌+◌, ℕ, Bool, IsTrue, List, [], length, get_or, Option, Some, None, Result, Ok, Err, arith, inl, inr, refl, sym, ap, subst}
+use Rattle.std.proofs.Common.{◌≡◌, ◌∙◌, ◌<◌, ◌≤◌, ◌+◌, ℕ, Bool, IsTrue, List, [], length, get_or, Option, Some, None, Result, Ok, Err, arith, inl, inr, refl, sym, ap, subst, unwrap_or}
+use Rattle.house_io.specs.Disks.{DiskShown, IsFresh, is_told, told_moments}
 use Rattle.std.proofs.lemmas.List.Elements.{All-from_recursion}
 use Rattle.house_io.specs.Faults.{Rose}
-use Rattle.house_io.specs.Moments.{Moments}
+use Rattle.house_io.specs.Moments.{Moments, opened}
 use Rattle.house_io.specs.Shelves.{NamedFile, IfTells, IfWasTold, moments_at}
 use Rattle.lot_base.specs.declared.auction_terms.Terms.{Terms}
 use Rattle.auction_file.specs.declared.listing.Auction.{Auction}
@@ -15,7 +16,7 @@ use Rattle.clock_book.proofs.OneAnswer.{one-answer}
 use Rattle.migration.specs.Moving.{IsFront, IsMoved, IsNoFrontAt, LeavesTarget}
 use Rattle.std.proofs.lemmas.Bool.{cases_lt}
 use Rattle.std.specs.Prelude.{◌⊎◌, ⊤}
-use Rattle.clock_book.specs.Opened.{LeftUnopened}
+use Rattle.clock_book.specs.Opened.{IsLeftUnlessClaimed, LeftUnopened}
 use Rattle.migration.specs.Moves.{AreOpenedUpTo, HasMoveCause, IsFull, IsNotFront, IsNotOpened, Moves, OnlyOpened, TellsFaultOf}
 use Rattle.migration.specs.declared.faults.MoveFault.{MoveFault}
 use Rattle.migration.specs.declared.faults.MoveFault.TheVariants as fault
@@ -42,7 +43,7 @@ same-targets : (value : Auction) (cs : List ClockHistory) (target : List ℕ) (a
     → LeavesTarget (owner_of value.terms k value.digest) (get_or cs k h).reports (moments_at before (journal_name target k)) (moments_at after (journal_name target k))))
 same-targets value cs target a None kept = tt
 same-targets value cs target None (Some c) kept = absurd kept
-same-targets value cs target (Some a) (Some c) kept = λ k h few. inl (kept (journal_name target k))
+same-targets value cs target (Some a) (Some c) kept = λ k h few. inl (ap (λ o. unwrap_or o (opened [])) (kept (journal_name target k)))
 
 -- of most ends nothing is told besides
 nothing-told : (value : Auction) (target : List ℕ) (a c : Option (List NamedFile)) → KeepsMoments a c → IfTells c (λ after. IfWasTold a (λ before. (k : ℕ) (h : ClockHistory) → k ≤ value.terms.bidders → ⊤))
@@ -135,34 +136,34 @@ tells-move (fault.NotFront clock number) target k told = absurd told
 tells-move (fault.Full clock needed) target k told = absurd told
 tells-move fault.NoMemory target k told = absurd told
 
-module _ {D : Type 0} (tells : D → Bool) (moments : D → Moments) (faults : D → ℕ) (value : Auction) (cs : List ClockHistory) (target : List ℕ) (old disks : List D) (shelf : ShelfSeen) (files : Option (List NamedFile)) (counts : List ℕ → ℕ) (names : List (List ℕ))
+module _ {D : Type 0} (shown : D → DiskShown) (value : Auction) (cs : List ClockHistory) (target : List ℕ) (old disks : List D) (shelf : ShelfSeen) (files : Option (List NamedFile)) (counts : List ℕ → ℕ) (names : List (List ℕ))
     (long : length old ≡ value.terms.bidders + 1)
-    (are : AreOpen tells moments faults target old (between shelf.files_before files shelf.faults_before counts shelf.opened_before names))
-    (given : AreGivenBack tells moments faults target disks (between files shelf.files counts shelf.faults names shelf.opened)) where
+    (are : AreOpen shown target old (between shelf.files_before files shelf.faults_before counts shelf.opened_before names))
+    (given : AreGivenBack shown target disks (between files shelf.files counts shelf.faults names shelf.opened)) where
   abbrev first-files : Option (List NamedFile)
   first-files = told_first shelf.files_before shelf.files
 
   -- what holds of the moments of each disk holds of those of its target
-  at-each : (Q : ℕ → ClockHistory → Moments → Moments → Type 0) → length disks ≡ length old
-      → ((k : ℕ) (d : D) (c : ClockHistory) → k < length old → IsTrue (tells (get_or disks k d)) → Q k c (moments (get_or old k d)) (moments (get_or disks k d)))
+  at-each : (Q : ℕ → ClockHistory → Moments → Moments → Type 0) → length disks ≡ length old → ((k : ℕ) (d : D) → k < length old → IsLeftUnlessClaimed (shown (get_or old k d)) (shown (get_or disks k d)))
+      → ((k : ℕ) (d : D) (c : ClockHistory) → k < length old → IsTrue (is_told (shown (get_or disks k d))) → Q k c (told_moments (shown (get_or old k d))) (told_moments (shown (get_or disks k d))))
       → IfTells shelf.files (λ after. IfWasTold shelf.files_before (λ before. (k : ℕ) (c : ClockHistory) → k ≤ value.terms.bidders → Q k c (moments_at before (journal_name target k)) (moments_at after (journal_name target k))))
-  at-each Q same holds =
+  at-each Q same quiet holds =
       tells-map shelf.files_before shelf.files (λ x y. (k : ℕ) → k < length old → (c : ClockHistory) → Q k c (moments_at x (journal_name target k)) (moments_at y (journal_name target k)))
       (λ x y. (k : ℕ) (c : ClockHistory) → k ≤ value.terms.bidders → Q k c (moments_at x (journal_name target k)) (moments_at y (journal_name target k)))
       (λ x y all k c few. all k (omega arith) c)
-      (journal-moments tells moments target (λ k m n. (c : ClockHistory) → Q k c m n) old disks shelf.files_before files shelf.files (IsJournalBelow target (length old)) (IsJournalBelow target (length disks)) are.others given.others
-      are.stand given.left same (λ k d below told c. holds k d c below told))
+      (journal-moments shown target (λ k m n. (c : ClockHistory) → Q k c m n) old disks shelf.files_before files shelf.files (IsJournalBelow target (length disks)) are.same
+      are.stand given.left same given.others quiet (λ k d below told c. holds k d c below told))
 
   -- what was read of each disk was found of its target
-  found-at : (Q : List ℕ → Type 0) (k : ℕ) (d : D) → k < length old → length disks ≡ length old → (IsTrue (tells (get_or disks k d)) → Q (moments (get_or old k d)).now.read) → IfTells first-files (λ told. Q (content told (journal_name target k)))
+  found-at : (Q : List ℕ → Type 0) (k : ℕ) (d : D) → k < length old → length disks ≡ length old → (IsTrue (is_told (shown (get_or disks k d))) → Q (told_moments (shown (get_or old k d))).now.read) → IfTells first-files (λ told. Q (content told (journal_name target k)))
   found-at Q k d below same holds =
-      told-content tells moments (journal_name target k) Q (get_or old k d) (get_or disks k d) shelf.files_before files shelf.files (IsJournalBelow target (length old)) (IsJournalBelow target (length disks))
-      are.others given.others (are.stand k d below) (given.left k d (omega arith)) holds
+      told-content shown (journal_name target k) Q (get_or old k d) (get_or disks k d) shelf.files_before files shelf.files
+      are.same (are.stand k d below) (given.left k d (omega arith)) holds
 
-  fresh-at : (k : ℕ) (d : D) → k < length old → faults (get_or old k d) ≡ 0
-  fresh-at k d below = All-from_recursion (λ (x : D). faults x ≡ 0) old are.fresh k d below
+  fresh-at : (k : ℕ) (d : D) → k < length old → (shown (get_or old k d)).faults ≡ 0
+  fresh-at k d below = (All-from_recursion (λ (x : D). IsFresh (shown x)) old are.fresh k d below).faults
 
-  counts-kept : (answer : Result (Unit {0}) MoveFault) (end : Ended) → Moves tells moments faults value.terms value.digest cs old disks answer → ((k : ℕ) → TellsFaultOf k answer → TellsTarget target end (journal_name target k))
+  counts-kept : (answer : Result (Unit {0}) MoveFault) (end : Ended) → Moves shown value.terms value.digest cs old disks answer → ((k : ℕ) → TellsFaultOf k answer → TellsTarget target end (journal_name target k))
       → RisesAmong (TellsTarget target end) shelf.faults_before shelf.faults
   counts-kept answer end moves tell = record {
     later = λ s. let e = are.steady s in let l = given.counts.later s in omega arith;
@@ -188,30 +189,30 @@ module _ {D : Type 0} (tells : D → Bool) (moments : D → Moments) (faults : D
           ]
 
   abbrev Told : Ended → ℕ → D → ClockHistory → Type 0
-  Told end k d c = IsTrue (tells (get_or disks k d)) → TellsLeft end (owner_of value.terms k value.digest) k (get_or cs k c).reports (moments (get_or old k d)) (moments (get_or disks k d))
+  Told end k d c = IsTrue (is_told (shown (get_or disks k d))) → TellsLeft end (owner_of value.terms k value.digest) k (get_or cs k c).reports (told_moments (shown (get_or old k d))) (told_moments (shown (get_or disks k d)))
 
   -- what is told besides of each target
-  unopened-at : (clock : ℕ) → AreOpenedUpTo tells moments faults value.terms value.digest cs old disks clock → (k : ℕ) (d : D) → IsTrue (tells (get_or disks k d))
-      → LeftUnopened (owner_of value.terms k value.digest) (moments (get_or old k d)) (moments (get_or disks k d))
+  unopened-at : (clock : ℕ) → AreOpenedUpTo shown value.terms value.digest cs old disks clock → (k : ℕ) (d : D) → IsTrue (is_told (shown (get_or disks k d)))
+      → LeftUnopened (owner_of value.terms k value.digest) (told_moments (shown (get_or old k d))) (told_moments (shown (get_or disks k d)))
   unopened-at clock opened k d told = of (cases_lt k clock)
     where
-      of : (k < clock) ⊎ (clock ≤ k) → LeftUnopened (owner_of value.terms k value.digest) (moments (get_or old k d)) (moments (get_or disks k d))
+      of : (k < clock) ⊎ (clock ≤ k) → LeftUnopened (owner_of value.terms k value.digest) (told_moments (shown (get_or old k d))) (told_moments (shown (get_or disks k d)))
       of (inl before) = inr (opened.before k d before told)
       of (inr beyond) = elim (cases_lt clock k) [
-        | inl after ↦ inl (ap moments (opened.later k d after))
+        | inl after ↦ inl (ap (λ (y : D). told_moments (shown y)) (opened.later k d after))
         | inr same ↦
             let here : clock ≡ k = omega arith in
-            let U : ℕ → Type 0 = λ n. IsTrue (tells (get_or disks n d)) → LeftUnopened (owner_of value.terms n value.digest) (moments (get_or old n d)) (moments (get_or disks n d)) in
+            let U : ℕ → Type 0 = λ n. IsTrue (is_told (shown (get_or disks n d))) → LeftUnopened (owner_of value.terms n value.digest) (told_moments (shown (get_or old n d))) (told_moments (shown (get_or disks n d))) in
             subst U here (opened.here d) told
       ]
 
-  told-opened : (clock : ℕ) (refusal : OpenFault) → AreOpenedUpTo tells moments faults value.terms value.digest cs old disks clock → (k : ℕ) (d : D) (c : ClockHistory) → Told (move_end (fault.NotOpened clock refusal)) k d c
+  told-opened : (clock : ℕ) (refusal : OpenFault) → AreOpenedUpTo shown value.terms value.digest cs old disks clock → (k : ℕ) (d : D) (c : ClockHistory) → Told (move_end (fault.NotOpened clock refusal)) k d c
   told-opened clock why.DiskFault opened k d c told = tt
   told-opened clock why.NoMemory opened k d c told = tt
   told-opened clock (why.Broken broken) opened k d c told = unopened-at clock opened k d told
   told-opened clock (why.NotAcceptable number judgement) opened k d c told = unopened-at clock opened k d told
 
-  told-left : (w : MoveFault) → OnlyOpened tells moments faults value.terms value.digest cs old disks (Err w) → HasMoveCause tells moments faults value.terms value.digest cs old disks w
+  told-left : (w : MoveFault) → OnlyOpened shown value.terms value.digest cs old disks (Err w) → HasMoveCause shown value.terms value.digest cs old disks w
       → (k : ℕ) (d : D) (c : ClockHistory) → k < length old → Told (move_end w) k d c
   told-left (fault.NotOpened clock refusal) only cause k d c below = told-opened clock refusal only k d c
   told-left (fault.NotFront clock number) only cause k d c below = λ told. inr (only k d below told)
@@ -219,38 +220,38 @@ module _ {D : Type 0} (tells : D → Bool) (moments : D → Moments) (faults : D
   told-left (fault.DiskFault clock) only cause k d c below = λ told. tt
   told-left fault.NoMemory only cause k d c below = λ told. tt
 
-  targets-kept : (answer : Result (Unit {0}) MoveFault) (end : Ended) → Moves tells moments faults value.terms value.digest cs old disks answer → ((k : ℕ) → TellsFaultOf k answer → TellsTarget target end (journal_name target k))
+  targets-kept : (answer : Result (Unit {0}) MoveFault) (end : Ended) → Moves shown value.terms value.digest cs old disks answer → ((k : ℕ) → TellsFaultOf k answer → TellsTarget target end (journal_name target k))
       → ((k : ℕ) (d : D) (c : ClockHistory) → k < length old → Told end k d c) → KeepsTargets value cs target shelf end
   targets-kept answer end moves tell besides =
-      let keeps = keeps-journals tells moments faults target old disks shelf files counts names (value.terms.bidders + 1) long moves.count are given in
+      let keeps = keeps-journals shown target old disks shelf files counts names (value.terms.bidders + 1) long moves.count are given in
       record {
         others = keeps.others;
-        left = at-each (λ k c m n. LeavesTarget (owner_of value.terms k value.digest) (get_or cs k c).reports m n) moves.count moves.left;
-        told = at-each (λ k c m n. TellsLeft end (owner_of value.terms k value.digest) k (get_or cs k c).reports m n) moves.count besides;
+        left = at-each (λ k c m n. LeavesTarget (owner_of value.terms k value.digest) (get_or cs k c).reports m n) moves.count moves.unclaimed moves.left;
+        told = at-each (λ k c m n. TellsLeft end (owner_of value.terms k value.digest) k (get_or cs k c).reports m n) moves.count moves.unclaimed besides;
         counts = counts-kept answer end moves tell;
         front = keeps.front;
         few = keeps.few;
         names = keeps.names;
       }
 
-  pub journals-moved : (done : Unit {0}) → Moves tells moments faults value.terms value.digest cs old disks (Ok done) → JournalsMoved value cs target shelf
+  pub journals-moved : (done : Unit {0}) → Moves shown value.terms value.digest cs old disks (Ok done) → JournalsMoved value cs target shelf
   journals-moved done moves = record {
     keeps = targets-kept (Ok done) how.Done moves (λ k told. absurd told) (λ k d c below told. tt);
-    moved = at-each (λ k c m n. IsMoved (owner_of value.terms k value.digest) (get_or cs k c).reports m n) moves.count moves.moved;
+    moved = at-each (λ k c m n. IsMoved (owner_of value.terms k value.digest) (get_or cs k c).reports m n) moves.count moves.unclaimed moves.moved;
   }
 
   -- why they were not moved
 
-  failed-at : (clock : ℕ) → clock < length old → length disks ≡ length old → ((d : D) → Rose (faults (get_or old clock d)) (faults (get_or disks clock d))) → NotMoving value cs target shelf (how.DiskFault clock)
+  failed-at : (clock : ℕ) → clock < length old → length disks ≡ length old → ((d : D) → Rose (shown (get_or old clock d)).faults (shown (get_or disks clock d)).faults) → NotMoving value cs target shelf (how.DiskFault clock)
   failed-at clock within same rose =
       let d = some-of old clock within in
-      ((omega arith), journal-rose tells moments faults target old disks shelf files counts names clock d within same are given (fresh-at clock d within) (rose d))
+      ((omega arith), journal-rose shown target old disks shelf files counts names clock d within same are given (fresh-at clock d within) (rose d))
 
-  open-at : (k : ℕ) (d : D) → k < length old → length disks ≡ length old → (IsTrue (tells (get_or disks k d)) → (c : ClockHistory) × IsOpening (owner_of value.terms k value.digest) (moments (get_or old k d)).now.read (Ok c))
+  open-at : (k : ℕ) (d : D) → k < length old → length disks ≡ length old → (IsTrue (is_told (shown (get_or disks k d))) → (c : ClockHistory) × IsOpening (owner_of value.terms k value.digest) (told_moments (shown (get_or old k d))).now.read (Ok c))
       → IfTells first-files (λ told. (c : ClockHistory) × StandsForHistory (owner_of value.terms k value.digest) c (content told (journal_name target k)))
   open-at k d below same holds = found-at (λ file. (c : ClockHistory) × StandsForHistory (owner_of value.terms k value.digest) c file) k d below same holds
 
-  first-refused : (clock : ℕ) (refusal : OpenFault) → length disks ≡ length old → IsNotOpened tells moments faults value.terms value.digest cs old disks clock refusal → IsRefusal refusal
+  first-refused : (clock : ℕ) (refusal : OpenFault) → length disks ≡ length old → IsNotOpened shown value.terms value.digest cs old disks clock refusal → IsRefusal refusal
       → IsFirstRefused first-files value.terms value.digest target clock refusal
   first-refused clock refusal same not refuses =
       let w = not.within in
@@ -263,11 +264,11 @@ module _ {D : Type 0} (tells : D → Bool) (moments : D → Moments) (faults : D
         refused = record {
           refusal = refuses;
           in_file = found-at (λ file. IsOpening (owner_of value.terms clock value.digest) file (Err refusal)) clock d w same
-              (λ told. reads-opening (owner_of value.terms clock value.digest) (moments (get_or old clock d)).now.read refusal refuses (not.refused d told));
+              (λ told. reads-opening (owner_of value.terms clock value.digest) (told_moments (shown (get_or old clock d))).now.read refusal refuses (not.refused d told));
         };
       }
 
-  first-off : (clock number : ℕ) → length disks ≡ length old → IsNotFront tells moments faults value.terms value.digest cs old disks clock number → IsFirstOff value cs target shelf clock number first-files
+  first-off : (clock number : ℕ) → length disks ≡ length old → IsNotFront shown value.terms value.digest cs old disks clock number → IsFirstOff value cs target shelf clock number first-files
   first-off clock number same not =
       let w = not.within in
       let d = some-of old clock w in
@@ -279,12 +280,12 @@ module _ {D : Type 0} (tells : D → Bool) (moments : D → Moments) (faults : D
             (λ k below. found-at (λ file. (c : ClockHistory) → IsFront (owner_of value.terms k value.digest) (get_or cs k c).reports file) k d (omega arith) same (λ told c. not.before k d c below told));
         off = found-at (λ file. (c x : ClockHistory) → StandsForHistory (owner_of value.terms clock value.digest) c file → IsNoFrontAt number c.reports (get_or cs clock x).reports) clock d w same (λ told c x stands.
             let off = not.differs d x told in
-            let one : Ok off.0 ≡ Ok c = one-answer (owner_of value.terms clock value.digest) (moments (get_or old clock d)).now.read (Ok off.0) (Ok c) off.1 stands in
+            let one : Ok off.0 ≡ Ok c = one-answer (owner_of value.terms clock value.digest) (told_moments (shown (get_or old clock d))).now.read (Ok off.0) (Ok c) off.1 stands in
             let is : off.0 ≡ c = cc in
             subst (λ (h : ClockHistory). IsNoFrontAt number h.reports (get_or cs clock x).reports) is off.2);
       }
 
-  target-full : (clock needed : ℕ) → length disks ≡ length old → IsFull tells moments faults value.terms value.digest cs old disks clock needed → IsTargetFull value cs target shelf clock needed first-files
+  target-full : (clock needed : ℕ) → length disks ≡ length old → IsFull shown value.terms value.digest cs old disks clock needed → IsTargetFull value cs target shelf clock needed first-files
   target-full clock needed same full =
       let w = full.within in
       let d = some-of old clock w in
@@ -297,21 +298,21 @@ module _ {D : Type 0} (tells : D → Bool) (moments : D → Moments) (faults : D
         full = full.full;
       }
 
-  not-opened : (clock : ℕ) (refusal : OpenFault) → length disks ≡ length old → IsNotOpened tells moments faults value.terms value.digest cs old disks clock refusal
+  not-opened : (clock : ℕ) (refusal : OpenFault) → length disks ≡ length old → IsNotOpened shown value.terms value.digest cs old disks clock refusal
       → NotMoving value cs target shelf (move_end (fault.NotOpened clock refusal))
   not-opened clock why.DiskFault same not = failed-at clock not.within same (λ d. (not.counts d).1)
   not-opened clock why.NoMemory same not = tt
   not-opened clock (why.Broken broken) same not = ((let w = not.within in omega arith), first-refused clock (why.Broken broken) same not tt)
   not-opened clock (why.NotAcceptable number judgement) same not = ((let w = not.within in omega arith), first-refused clock (why.NotAcceptable number judgement) same not tt)
 
-  not-moving : (w : MoveFault) → length disks ≡ length old → HasMoveCause tells moments faults value.terms value.digest cs old disks w → NotMoving value cs target shelf (move_end w)
+  not-moving : (w : MoveFault) → length disks ≡ length old → HasMoveCause shown value.terms value.digest cs old disks w → NotMoving value cs target shelf (move_end w)
   not-moving (fault.NotOpened clock refusal) same cause = not-opened clock refusal same cause
   not-moving (fault.NotFront clock number) same cause = first-off clock number same cause
   not-moving (fault.Full clock needed) same cause = target-full clock needed same cause
   not-moving (fault.DiskFault clock) same cause = failed-at clock cause.within same cause.rose
   not-moving fault.NoMemory same cause = tt
 
-  pub journals-not-moved : (w : MoveFault) → Moves tells moments faults value.terms value.digest cs old disks (Err w) → JournalsNotMoved value cs target shelf (move_end w)
+  pub journals-not-moved : (w : MoveFault) → Moves shown value.terms value.digest cs old disks (Err w) → JournalsNotMoved value cs target shelf (move_end w)
   journals-not-moved w moves = record {
     keeps = targets-kept (Err w) (move_end w) moves (tells-move w target) (told-left w moves.unoffered moves.cause);
     cause = not-moving w moves.count moves.cause;

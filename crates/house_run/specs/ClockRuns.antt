@@ -22,11 +22,12 @@ pub record ClockRun : Type 0 where
   pub opening : List Entry
   pub closed : BookState
 
--- The book is the owner's. At the opening each report was noted as offered, and the history at the closing is a legal one. A report that is
--- pending is in doubt by the history of the desk, and the clock would take it next.
+-- The book is the owner's. At the opening each report was noted as offered, and the origin says how many these were. The history at the closing
+-- is a legal one. A report that is pending is in doubt by the history of the desk, and the clock would take it next.
 pub record IsClockRun (owner : Owner) (run : ClockRun) : Type 0 where
   pub owner_is : owner_in run.origin ≡ owner
   pub opening_is : run.opening ≡ map Offered (reports_in run.opening)
+  pub least_is : run.origin.reports ≡ length (reports_in run.opening)
   pub history : IsHistoryOf owner run.closed.clock
   pub reports : reports_in run.closed.history ≡ run.closed.clock.reports
   pub next : IfSome run.closed.pending (IsNext run.closed.clock)

@@ -1,10 +1,11 @@
 -- The journals of an auction's clocks, all open at once: what opening them leaves of the shelf, and what giving them back does.
-use Rattle.std.specs.Prelude.{◌≡◌, ◌<◌, ◌≤◌, ℕ, Bool, List, length, map, slice_index_or, Option, String, string_bytes, Contains}
+use Rattle.std.specs.Prelude.{◌≡◌, ◌<◌, ◌≤◌, ℕ, List, length, map, slice_index_or, Option, String, string_bytes, Contains, option_map}
+use Rattle.house_io.specs.Disks.{DiskShown, IsFresh}
 use Rattle.std.specs.declared.alloc.Global.{Global}
 use Rattle.std.specs.List.{AllByRecursion}
 use Rattle.house_io.specs.Faults.{raised_by}
 use Rattle.house_io.specs.Moments.{Moments}
-use Rattle.house_io.specs.Shelves.{NamedFile, IfTells, IfWasTold, IsLeftBy, StandsAs, file_of, moments_at}
+use Rattle.house_io.specs.Shelves.{NamedFile, ChangesNone, IfTells, IfWasTold, IsLeftBy, StandsAs, file_of}
 use Rattle.clock_book.specs.declared.faults.OpenFault.{OpenFault}
 use Rattle.clock_book.specs.declared.faults.OpenFault.TheVariants as why
 use Rattle.house_io.specs.declared.shelves.Refusal.{Refusal}
@@ -31,27 +32,31 @@ abbrev pub KeepsOthers : List ℕ → ℕ → Option (List NamedFile) → Option
 KeepsOthers journals count before now =
     IfTells now (λ after. IfWasTold before (λ files. (name : List ℕ) → (IsJournalBelow journals count name → ⊥) → file_of after name ≡ file_of files name))
 
--- Each file has the moments that it had, where the files are told: an absent one may be made, empty.
+-- the moments of the file of a name, where there is one
+abbrev pub file_moments : List NamedFile → List ℕ → Option Moments
+file_moments files name = option_map (λ file. file.moments) (file_of files name)
+
+-- Each file has the moments that it had, where the files are told, and none is there that was not.
 abbrev pub KeepsMoments : Option (List NamedFile) → Option (List NamedFile) → Type 0
 KeepsMoments before now =
-    IfTells now (λ after. IfWasTold before (λ files. (name : List ℕ) → moments_at after name ≡ moments_at files name))
+    IfTells now (λ after. IfWasTold before (λ files. (name : List ℕ) → file_moments after name ≡ file_moments files name))
 
--- The journals of the first clocks are open: each of these disks stands as its file did, and nothing else of the shelf was changed.
-pub record AreOpen {D : Type 0} (tells : D → Bool) (moments : D → Moments) (faults : D → ℕ) (journals : List ℕ) (disks : List D) (shelf : ShelfSeen) : Type 0 where
-  pub fresh : AllByRecursion (λ disk. faults disk ≡ 0) disks
-  pub stand : (k : ℕ) (d : D) → k < length disks
-      → IfTells shelf.files (λ now. IfWasTold shelf.files_before (StandsAs tells moments (journal_name journals k) (slice_index_or disks k d)))
-  pub others : KeepsOthers journals (length disks) shelf.files_before shelf.files
+-- The journals of the first clocks are open: each of these disks stands as its file does, unclaimed, and no file was changed.
+pub record AreOpen {D : Type 0} (shown : D → DiskShown) (journals : List ℕ) (disks : List D) (shelf : ShelfSeen) : Type 0 where
+  pub fresh : AllByRecursion (λ disk. IsFresh (shown disk)) disks
+  pub stand : (k : ℕ) (d : D) → k < length disks → IfTells shelf.files (StandsAs (journal_name journals k) (shown (slice_index_or disks k d)))
+  pub same : ChangesNone shelf.files_before shelf.files
   pub steady : IsSteady shelf
   pub names : shelf.opened ≡ with_names (first_journals journals (length disks)) shelf.opened_before
 
--- The journals of the first clocks were closed: each stands as its disk did, with the disk's faults added, and nothing else was changed.
-pub record AreGivenBack {D : Type 0} (tells : D → Bool) (moments : D → Moments) (faults : D → ℕ) (journals : List ℕ) (disks : List D) (shelf : ShelfSeen) : Type 0 where
-  pub left : (k : ℕ) (d : D) → k < length disks → IfTells shelf.files (IsLeftBy tells moments (journal_name journals k) (slice_index_or disks k d))
+-- The journals of the first clocks were closed: each was left as its disk stood, with the disk's faults added, and nothing else was changed.
+pub record AreGivenBack {D : Type 0} (shown : D → DiskShown) (journals : List ℕ) (disks : List D) (shelf : ShelfSeen) : Type 0 where
+  pub left : (k : ℕ) (d : D) → k < length disks
+      → IfTells shelf.files (λ after. IfWasTold shelf.files_before (λ before. IsLeftBy (journal_name journals k) (shown (slice_index_or disks k d)) before after))
   pub others : KeepsOthers journals (length disks) shelf.files_before shelf.files
   pub counts : RisesAmong (IsJournalBelow journals (length disks)) shelf.faults_before shelf.faults
   pub added : (k : ℕ) (d : D) → k < length disks
-      → shelf.faults (journal_name journals k) ≡ raised_by (shelf.faults_before (journal_name journals k)) (faults (slice_index_or disks k d))
+      → shelf.faults (journal_name journals k) ≡ raised_by (shelf.faults_before (journal_name journals k)) (shown (slice_index_or disks k d)).faults
   pub names : shelf.opened ≡ shelf.opened_before
 
 -- why the journal of this clock is not opened

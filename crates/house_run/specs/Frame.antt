@@ -38,10 +38,11 @@ pub record OnlySynced (before after : Moments) : Type 0 where
   pub count : ℕ
   pub moments_are : after ≡ synced_times count before
 
--- Files with P were synced at most, and an absent one of them may be made, empty. Every other file is the same.
+-- Files with P were synced at most, and every other file is the same. None is there that was not.
 pub record KeepsContents (P : List ℕ → Type 0) (before after : List NamedFile) : Type 0 where
   pub same : (name : List ℕ) → (P name → ⊥) → file_of after name ≡ file_of before name
   pub synced : (name : List ℕ) → OnlySynced (moments_at before name) (moments_at after name)
+  pub absent : (name : List ℕ) → file_of before name ≡ None → file_of after name ≡ None
 
 abbrev pub KeepsAll : (List ℕ → Type 0) → Option (List NamedFile) → Option (List NamedFile) → Type 0
 KeepsAll P before now = IfTells now (λ after. IfWasTold before (λ files. KeepsContents P files after))

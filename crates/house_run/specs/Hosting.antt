@@ -1,5 +1,6 @@
 -- What a house comes to that is opened on the disks of its journals, served at doors on a net, and closed.
 use Rattle.std.specs.Prelude.{◌≡◌, ◌≤◌, ◌<◌, ◌⊎◌, ◌++◌, ◌-◌, ◌^◌, min, ℕ, Bool, false, List, length, map, take, drop, slice_index_or, IsTrue, Option, Result, Ok, Err, vec_capacity}
+use Rattle.house_io.specs.Disks.{DiskShown, is_told, told_moments}
 use Rattle.std.specs.List.{AllByRecursion, flat_map}
 use Rattle.house_io.specs.Doors.{DoorLinks, IsEmptyDoor}
 use Rattle.house_io.specs.Faults.{Rose}
@@ -13,7 +14,7 @@ use Rattle.lot_base.specs.declared.auction_terms.Terms.{Terms}
 use Rattle.recovery.specs.Journaled.{Owner, owner_of}
 use Rattle.clock_book.specs.Books.{BookOf, IsKept}
 use Rattle.clock_book.specs.DeskHistories.{marks_in}
-use Rattle.clock_book.specs.Opened.{LeftUnopened}
+use Rattle.clock_book.specs.Opened.{IsLeftUnlessClaimed, LeftUnopened}
 use Rattle.clock_book.specs.declared.faults.OpenFault.{OpenFault}
 use Rattle.clock_book.specs.declared.faults.OpenFault.TheVariants as why
 use Rattle.clock_family.specs.Houses.{HousePassOf}
@@ -38,11 +39,11 @@ pub record DoorsServed {R L M : Type 0} (told : R → Option (DoorLinks M)) (cou
   pub after_is : after ≡ record before { doors = drop count before.doors; closed = before.closed ++ back }
 
 -- the books of a house, whose desks these were, once it was closed, and their disks
-pub record BooksBack {D : Type 0} (tells : D → Bool) (moments : D → Moments) (faults : D → ℕ) (desks : List (Opened (BookOf D))) (books : List (BookOf D)) (disks : List D) : Type 0 where
+pub record BooksBack {D : Type 0} (shown : D → DiskShown) (desks : List (Opened (BookOf D))) (books : List (BookOf D)) (disks : List D) : Type 0 where
   pub count : length books ≡ length desks
   pub origins : (k : ℕ) (d : Opened (BookOf D)) (b : BookOf D) → k < length desks → (slice_index_or books k b).origin ≡ (slice_index_or desks k d).book.origin
   pub disks_are : disks ≡ map (λ (b : BookOf D). b.disk) books
-  pub kept : AllByRecursion (λ (b : BookOf D). IsKept (IsTrue (tells b.disk)) (moments b.disk) (faults b.disk) b) books
+  pub kept : AllByRecursion (λ (b : BookOf D). IsKept shown b) books
 
 module _ {R L M : Type 0} (told : R → Option (DoorLinks M)) (faults : R → ℕ) (link_told : M → Option LinkBytes) (link_faults : M → ℕ) (auction : Auction) (count sessions : ℕ) where
   -- So many doors of a net served so many sessions each, or failed before.
@@ -71,9 +72,9 @@ abbrev pub LeavesNet : {R L M : Type 0} → (R → Option (DoorLinks M)) → ℕ
 LeavesNet {R = R} told count before after = (after ≡ before) ⊎ ((given : List R) × DoorsServed told count given given before after)
 
 -- the books of a house, whose desks these were, once it was closed unused, and their disks
-pub record HouseUnused {D : Type 0} (tells : D → Bool) (moments : D → Moments) (faults : D → ℕ) (desks : List (Opened (BookOf D))) (disks : List D) : Type 0 where
+pub record HouseUnused {D : Type 0} (shown : D → DiskShown) (desks : List (Opened (BookOf D))) (disks : List D) : Type 0 where
   pub books : List (BookOf D)
-  pub back : BooksBack tells moments faults desks books disks
+  pub back : BooksBack shown desks books disks
   pub unused : (k : ℕ) (d : Opened (BookOf D)) (b : BookOf D) → k < length desks → (slice_index_or books k b).state.history ≡ (slice_index_or desks k d).book.state.history
 
 -- What is told of doors that served, where none failed: how the sessions at each ended, and these clocks.
@@ -92,11 +93,11 @@ abbrev pub ServedAnswer : {R L : Type 0} → List ClockHistory → List (DoorRun
 ServedAnswer clocks doors (Ok hosted) before now = TellsServed clocks doors hosted before now
 ServedAnswer clocks doors (Err end) before now = TellsFailed doors end before now
 
-module _ {D R L M : Type 0} (tells : D → Bool) (moments : D → Moments) (disk_faults : D → ℕ) (told : R → Option (DoorLinks M)) (faults : R → ℕ) (link_told : M → Option LinkBytes) (link_faults : M → ℕ) (auction : Auction) (count sessions : ℕ) where
+module _ {D R L M : Type 0} (shown : D → DiskShown) (told : R → Option (DoorLinks M)) (faults : R → ℕ) (link_told : M → Option LinkBytes) (link_faults : M → ℕ) (auction : Auction) (count sessions : ℕ) where
   -- a house of these desks was served with these passes at doors of the net, and closed
   pub record HouseServed (desks : List (Opened (BookOf D))) (passes : List HousePassOf) (disks : List D) (answer : Result Hosted Ended) (told_before told_after : Option (NetLists R L)) (counted_before counted : ℕ) : Type 0 where
     pub books : List (BookOf D)
-    pub back : BooksBack tells moments disk_faults desks books disks
+    pub back : BooksBack shown desks books disks
     pub runs : List (DoorRun R M)
     pub passes_are : passes ≡ map (λ (r : DoorRun R M). r.before) runs
     pub ran : DoorsRan {L = L} told faults link_told link_faults auction count sessions runs told_before told_after
@@ -106,7 +107,7 @@ module _ {D R L M : Type 0} (tells : D → Bool) (moments : D → Moments) (disk
 
   -- a house of these desks was closed unused
   pub record HouseNotServed (desks : List (Opened (BookOf D))) (disks : List D) (end : Ended) (told_before told_after : Option (NetLists R L)) (counted_before counted : ℕ) : Type 0 where
-    pub closed : HouseUnused tells moments disk_faults desks disks
+    pub closed : HouseUnused shown desks disks
     pub net_is : IfTold told_before told_after (LeavesNet told count)
     pub cause : HouseEnd counted_before counted end
 
@@ -139,26 +140,27 @@ net_end refusal.NoMemory = how.NoMemory
 
 -- The disk of a clock was left as an opening that was refused leaves it, or as one does whose book was closed unused. What is said of its
 -- moments is said where it tells.
-abbrev pub LeavesDisk : {D : Type 0} → (D → Bool) → (D → Moments) → Owner → D → D → Type 0
-LeavesDisk tells moments owner before after =
-    (IsTrue (tells after) → LeftUnopened owner (moments before) (moments after))
-    ⊎ ((run : ClockRun) × IsClockRun owner run × IsUnused run × (IsTrue (tells after) → IsJournalRun owner run (moments before) (moments after)))
+abbrev pub LeavesDisk : {D : Type 0} → (D → DiskShown) → Owner → D → D → Type 0
+LeavesDisk shown owner before after =
+    (IsTrue (is_told (shown after)) → LeftUnopened owner (told_moments (shown before)) (told_moments (shown after)))
+    ⊎ ((run : ClockRun) × IsClockRun owner run × IsUnused run × (IsTrue (is_told (shown after)) → IsJournalRun owner run (told_moments (shown before)) (told_moments (shown after))))
 
 -- nothing was done on the net
 pub record IsSameNet {N : Type 0} (told_before told_after : Option N) (counted_before counted : ℕ) : Type 0 where
   pub told_same : told_after ≡ told_before
   pub counted_same : counted ≡ counted_before
 
-module _ {D R L M : Type 0} (tells : D → Bool) (moments : D → Moments) (disk_faults : D → ℕ) (told : R → Option (DoorLinks M)) (faults : R → ℕ) (link_told : M → Option LinkBytes) (link_faults : M → ℕ) (auction : Auction) (count sessions : ℕ) where
+module _ {D R L M : Type 0} (shown : D → DiskShown) (told : R → Option (DoorLinks M)) (faults : R → ℕ) (link_told : M → Option LinkBytes) (link_faults : M → ℕ) (auction : Auction) (count sessions : ℕ) where
   -- A house was opened on these disks, one for each clock, served at doors of the net, and closed. The disks came back in order.
   pub record IsHosted (old disks : List D) (answer : Result Hosted Ended) (told_before told_after : Option (NetLists R L)) (counted_before counted : ℕ) : Type 0 where
     pub disks_count : length disks ≡ length old
     pub clocks : List ClockRun
     pub count_is : length clocks ≡ length old
     pub clocks_are : (k : ℕ) (c : ClockRun) → k < length clocks → IsClockRun (owner_of auction.terms k auction.digest) (slice_index_or clocks k c)
-    pub journals_are : (k : ℕ) (c : ClockRun) (d : D) → k < length clocks → IsTrue (tells (slice_index_or disks k d))
-        → IsJournalRun (owner_of auction.terms k auction.digest) (slice_index_or clocks k c) (moments (slice_index_or old k d)) (moments (slice_index_or disks k d))
-    pub marks : (k : ℕ) (c : ClockRun) (d : D) → k < length clocks → min (marks_in (slice_index_or clocks k c).closed.history) (2 ^ 64 - 1) ≤ disk_faults (slice_index_or disks k d)
+    pub journals_are : (k : ℕ) (c : ClockRun) (d : D) → k < length clocks → IsTrue (is_told (shown (slice_index_or disks k d)))
+        → IsJournalRun (owner_of auction.terms k auction.digest) (slice_index_or clocks k c) (told_moments (shown (slice_index_or old k d))) (told_moments (shown (slice_index_or disks k d)))
+    pub claimed : (k : ℕ) (d : D) → k < length clocks → IsTrue (shown (slice_index_or disks k d)).claimed
+    pub marks : (k : ℕ) (c : ClockRun) (d : D) → k < length clocks → min (marks_in (slice_index_or clocks k c).closed.history) (2 ^ 64 - 1) ≤ (shown (slice_index_or disks k d)).faults
     pub runs : List (DoorRun R M)
     pub new : BeginNew auction.terms auction.digest clocks runs
     pub ran : DoorsRan {L = L} told faults link_told link_faults auction count sessions runs told_before told_after
@@ -166,12 +168,12 @@ module _ {D R L M : Type 0} (tells : D → Bool) (moments : D → Moments) (disk
         → Joins (slice_index_or clocks k c).opening (slice_index_or clocks k c).closed.history (flat_map turns_of runs) k
     pub answer_is : ServedAnswer (map (λ (c : ClockRun). c.closed.clock) clocks) runs answer counted_before counted
 
-module _ {D N : Type 0} (tells : D → Bool) (moments : D → Moments) (disk_faults : D → ℕ) (terms : Terms) (digest : List ℕ) (old disks : List D) (told_before told_after : Option N) (counted_before counted : ℕ) (end : Ended) where
+module _ {D N : Type 0} (shown : D → DiskShown) (terms : Terms) (digest : List ℕ) (old disks : List D) (told_before told_after : Option N) (counted_before counted : ℕ) (end : Ended) where
   -- the disk of a clock failed
   pub record IsDiskEnd : Type 0 where
     pub clock : ℕ
     pub end_is : end ≡ how.DiskFault clock
-    pub not_open : IsNotOpen tells moments disk_faults terms digest old disks clock why.DiskFault
+    pub not_open : IsNotOpen shown terms digest old disks clock why.DiskFault
     pub same : IsSameNet told_before told_after counted_before counted
 
   -- the journal of a clock was refused
@@ -179,7 +181,7 @@ module _ {D N : Type 0} (tells : D → Bool) (moments : D → Moments) (disk_fau
     pub clock : ℕ
     pub fault : OpenFault
     pub end_is : end ≡ how.BadJournal clock fault
-    pub not_open : IsNotOpen tells moments disk_faults terms digest old disks clock fault
+    pub not_open : IsNotOpen shown terms digest old disks clock fault
     pub refusal : IsRefusal fault
     pub same : IsSameNet told_before told_after counted_before counted
 
@@ -187,17 +189,18 @@ module _ {D N : Type 0} (tells : D → Bool) (moments : D → Moments) (disk_fau
   abbrev pub HostEnd : Type 0
   HostEnd = IsDiskEnd ⊎ (IsRefusedEnd ⊎ HouseEnd counted_before counted end)
 
-module _ {D R L M : Type 0} (tells : D → Bool) (moments : D → Moments) (disk_faults : D → ℕ) (told : R → Option (DoorLinks M)) (faults : R → ℕ) (link_told : M → Option LinkBytes) (link_faults : M → ℕ) (auction : Auction) (count sessions : ℕ) where
+module _ {D R L M : Type 0} (shown : D → DiskShown) (told : R → Option (DoorLinks M)) (faults : R → ℕ) (link_told : M → Option LinkBytes) (link_faults : M → ℕ) (auction : Auction) (count sessions : ℕ) where
   -- no house was served on these disks: not all books were opened, or a house of them was closed unused
   pub record IsUnhosted (old disks : List D) (end : Ended) (told_before told_after : Option (NetLists R L)) (counted_before counted : ℕ) : Type 0 where
     pub disks_count : length disks ≡ length old
-    pub left : (k : ℕ) (d : D) → k < length old → LeavesDisk tells moments (owner_of auction.terms k auction.digest) (slice_index_or old k d) (slice_index_or disks k d)
+    pub left : (k : ℕ) (d : D) → k < length old → LeavesDisk shown (owner_of auction.terms k auction.digest) (slice_index_or old k d) (slice_index_or disks k d)
+    pub unclaimed : (k : ℕ) (d : D) → k < length old → IsLeftUnlessClaimed (shown (slice_index_or old k d)) (shown (slice_index_or disks k d))
     pub net_is : IfTold told_before told_after (LeavesNet told count)
-    pub cause : HostEnd tells moments disk_faults auction.terms auction.digest old disks told_before told_after counted_before counted end
+    pub cause : HostEnd shown auction.terms auction.digest old disks told_before told_after counted_before counted end
 
   abbrev pub HostOutcome : List D → Result Hosted Ended → List D → Option (NetLists R L) → Option (NetLists R L) → ℕ → ℕ → Type 0
   HostOutcome old (Ok hosted) disks told_before told_after counted_before counted =
-      IsHosted tells moments disk_faults told faults link_told link_faults auction count sessions old disks (Ok hosted) told_before told_after counted_before counted
+      IsHosted shown told faults link_told link_faults auction count sessions old disks (Ok hosted) told_before told_after counted_before counted
   HostOutcome old (Err end) disks told_before told_after counted_before counted =
-      IsHosted tells moments disk_faults told faults link_told link_faults auction count sessions old disks (Err end) told_before told_after counted_before counted
+      IsHosted shown told faults link_told link_faults auction count sessions old disks (Err end) told_before told_after counted_before counted
       ⊎ IsUnhosted old disks end told_before told_after counted_before counted

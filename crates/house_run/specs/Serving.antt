@@ -2,6 +2,7 @@
 use Rattle.std.specs.Prelude.{◌≡◌, ◌≤◌, ◌<◌, ◌⊎◌, ◌+◌, ◌++◌, ℕ, List, length, map, take, drop, slice_index_or, Option, Result, Ok, Err, IfSome, []}
 use Rattle.std.specs.List.{AllByRecursion, flat_map}
 use Rattle.house_io.specs.Doors.{DoorLinks}
+use Rattle.house_io.specs.Faults.{raised_by}
 use Rattle.house_io.specs.Told.{IfTold}
 use Rattle.house_io.specs.Shelves.{IfTells, IfWasTold, moments_at}
 use Rattle.auction_file.specs.declared.listing.Auction.{Auction}
@@ -36,11 +37,11 @@ pub record ServesAt (count : ℕ) (given back : List DoorSeen) (before after : N
 abbrev pub LeavesNetAt : ℕ → NetView → NetView → Type 0
 LeavesNetAt count before after = (after ≡ before) ⊎ ((given : List DoorSeen) × ServesAt count given given before after)
 
--- The clocks of an auction came to these runs, and their journals to what these say. A mark is noted only where a call on the journal failed.
+-- The clocks of an auction came to these runs, and their journals to what these say. For each mark a fault was added to the count of the journal.
 pub record ClocksRan (value : Auction) (journals : List ℕ) (shelf : ShelfSeen) (clocks : List ClockRun) : Type 0 where
   pub count_is : length clocks ≡ value.terms.bidders + 1
   pub clocks_are : (k : ℕ) (c : ClockRun) → k < length clocks → IsClockRun (owner_of value.terms k value.digest) (slice_index_or clocks k c)
-  pub marks : (k : ℕ) (c : ClockRun) → k < length clocks → (marks_in (slice_index_or clocks k c).closed.history ≡ 0) ⊎ FailedAt shelf (journal_name journals k)
+  pub marks : (k : ℕ) (c : ClockRun) → k < length clocks → raised_by (shelf.faults_before (journal_name journals k)) (marks_in (slice_index_or clocks k c).closed.history) ≤ shelf.faults (journal_name journals k)
   pub journals_are : IfTells shelf.files (λ after. IfWasTold shelf.files_before (λ before. (k : ℕ) (c : ClockRun) → k < length clocks
       → IsJournalRun (owner_of value.terms k value.digest) (slice_index_or clocks k c) (moments_at before (journal_name journals k)) (moments_at after (journal_name journals k))))
 

@@ -73,7 +73,7 @@ pub(crate) fn take_apart<D: Disk>(
     requires room { (length books.items ≤ vec_capacity clocks.old) × (length books.items ≤ vec_capacity disks.old) }
     ensures clocks { histories clocks.new.items ≡ map (λ book. book.state.clock) books.items }
     ensures disks { disks.new.items ≡ map (λ book. book.disk) books.items }
-    ensures kept { AllByRecursion (λ book. IsKept (IsTrue (D.tells book.disk)) (D.moments book.disk) (D.faults book.disk) book) books.items }
+    ensures kept { AllByRecursion (λ book. IsKept D.shown book) books.items }
 {
     let mut rest = books;
     rest.reverse();

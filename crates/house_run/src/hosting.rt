@@ -72,7 +72,7 @@ fn close_house<D: Disk>(house: House<D>, passes: Vec<HousePass<D>>, room: Room<D
     requires all { AreAllOf house.desks passes.items }
     requires new { AllByRecursion (IsNewPass house) passes.items }
     requires room { IsRoom (length house.desks) 0 room }
-    ensures { HouseUnused D.tells D.moments D.faults house.desks result.items }
+    ensures { HouseUnused D.shown house.desks result.items }
 {
     let Room {
         mut clocks,
@@ -92,7 +92,7 @@ fn close_served<D: Disk, N: Net>(
 ) -> (Result<Hosted, Ended>, Vec<D>)
     requires { IsRoom (length books.items) (length logs.items) room }
     ensures disks { result.1.items ≡ map (λ book. book.disk) books.items }
-    ensures kept { AllByRecursion (λ book. IsKept (IsTrue (D.tells book.disk)) (D.moments book.disk) (D.faults book.disk) book) books.items }
+    ensures kept { AllByRecursion (λ book. IsKept D.shown book) books.items }
     ensures lists { IfTold (N.told net.old) (N.told net.new) (TakesAll (map (λ log. log.door) logs.items)) }
     ensures faults { N.faults net.new ≡ raised_by_all (N.faults net.old) (map (λ log. N.Door.Door.faults log.door) logs.items) }
     ensures outcome { LogsOutcome books.items logs.items result.0 }
@@ -130,7 +130,7 @@ fn host_doors<T: Threads + Wait + Sync, D: Disk + Send, N: Net>(
     requires sessions { (1 ≤ sessions) × (sessions ≤ 10000) }
     requires room { IsRoom (length house.desks) (length doors.items) room }
     ensures { (before : _) → IfTold before (N.told net.old) (GivesDoors N.Door.Door.told (length doors.items) doors.items)
-        → HouseOutcome D.tells D.moments D.faults N.Door.Door.told N.Door.Door.faults N.Door.Link.Link.told N.Door.Link.Link.faults auction.now (length doors.items) sessions house.desks passes.items result.0 result.1.items before (N.told net.new) (N.faults net.old) (N.faults net.new) }
+        → HouseOutcome D.shown N.Door.Door.told N.Door.Door.faults N.Door.Link.Link.told N.Door.Link.Link.faults auction.now (length doors.items) sessions house.desks passes.items result.0 result.1.items before (N.told net.new) (N.faults net.old) (N.faults net.new) }
 {
     match serve(rt, alloc, auction, house, passes, doors, sessions) {
         Ok(served) => {
@@ -168,7 +168,7 @@ fn host_house<T: Threads + Wait + Sync, D: Disk + Send, N: Net>(
     requires doors { length passes.items ≡ doors }
     requires sessions { (1 ≤ sessions) × (sessions ≤ 10000) }
     requires room { IsRoom (length house.desks) doors room }
-    ensures { HouseOutcome D.tells D.moments D.faults N.Door.Door.told N.Door.Door.faults N.Door.Link.Link.told N.Door.Link.Link.faults auction.now doors sessions house.desks passes.items result.0 result.1.items (N.told net.old) (N.told net.new) (N.faults net.old) (N.faults net.new) }
+    ensures { HouseOutcome D.shown N.Door.Door.told N.Door.Door.faults N.Door.Link.Link.told N.Door.Link.Link.faults auction.now doors sessions house.desks passes.items result.0 result.1.items (N.told net.old) (N.told net.new) (N.faults net.old) (N.faults net.new) }
 {
     match net.doors(alloc, address, doors) {
         Ok(doors) => host_doors(
@@ -192,7 +192,7 @@ pub(crate) fn host<T: Threads + Wait + Sync, D: Disk + Send, N: Net>(
     requires disks { length disks.items ≡ auction.now.terms.bidders + 1 }
     requires doors { (1 ≤ doors) × (doors ≤ 64) }
     requires sessions { (1 ≤ sessions) × (sessions ≤ 10000) }
-    ensures { HostOutcome D.tells D.moments D.faults N.Door.Door.told N.Door.Door.faults N.Door.Link.Link.told N.Door.Link.Link.faults auction.now doors sessions disks.items result.0 result.1.items (N.told net.old) (N.told net.new) (N.faults net.old) (N.faults net.new) }
+    ensures { HostOutcome D.shown N.Door.Door.told N.Door.Door.faults N.Door.Link.Link.told N.Door.Link.Link.faults auction.now doors sessions disks.items result.0 result.1.items (N.told net.old) (N.told net.new) (N.faults net.old) (N.faults net.new) }
 {
     let Ok(room) = reserve(alloc, disks.len(), doors as usize) else {
         return (Err(Ended::NoMemory), disks);

@@ -1,5 +1,6 @@
 -- The books on the targets, and what offering reports to them does.
 use Rattle.std.specs.Prelude.{◌≡◌, ◌⊎◌, ℕ, ◌<◌, ◌≤◌, Bool, IsTrue, List, length, map, take, slice_index_or, Option, Some, None, Result, OnOk, IfErr}
+use Rattle.house_io.specs.Disks.{DiskShown, is_told, told_moments, IsLater}
 use Rattle.lot_base.specs.declared.auction_terms.Terms.{Terms}
 use Rattle.demand_set.specs.declared.reports.Report.{Report}
 use Rattle.house_io.specs.Faults.{Rose}
@@ -31,9 +32,9 @@ abbrev pub disks_of : {D : Type 0} → List (BookOf D) → List D
 disks_of {D} books = map (λ (b : BookOf D). b.disk) books
 
 -- books that were opened on the disks, clock by clock
-pub record AreOpen {D : Type 0} (tells : D → Bool) (moments : D → Moments) (faults : D → ℕ) (terms : Terms) (digest : List ℕ) (disks : List D) (books : List (BookOf D)) : Type 0 where
+pub record AreOpen {D : Type 0} (shown : D → DiskShown) (terms : Terms) (digest : List ℕ) (disks : List D) (books : List (BookOf D)) : Type 0 where
   pub within : length books ≤ length disks
-  pub each : (k : ℕ) (x : D) (b : BookOf D) → k < length books → Opens tells moments faults (owner_of terms k digest) (slice_index_or disks k x) (slice_index_or books k b)
+  pub each : (k : ℕ) (x : D) (b : BookOf D) → k < length books → Opens shown (owner_of terms k digest) (slice_index_or disks k x) (slice_index_or books k b)
 
 module _ {D : Type 0} (clocks : List ClockHistory) (books : List (BookOf D)) where
   -- the reports of the first so many books are fronts of those of their clocks
@@ -61,11 +62,11 @@ pub record HasFirst {D : Type 0} (source : ClockHistory) (count : ℕ) (b : Book
   pub number : source.number ≡ b.origin.clock
 
 -- What offering reports did to a book: at each moment the file stood for a front of the clock's reports with at least those of the book.
-pub record GoesOn {D : Type 0} (tells : D → Bool) (moments : D → Moments) (source : ClockHistory) (old new : BookOf D) : Type 0 where
+pub record GoesOn {D : Type 0} (shown : D → DiskShown) (source : ClockHistory) (old new : BookOf D) : Type 0 where
   pub origin : new.origin ≡ old.origin
-  pub told : IsTrue (tells new.disk) → IsTrue (tells old.disk)
-  pub leaves : IsTrue (tells new.disk) → (moments new.disk ≡ moments old.disk)
-      ⊎ AtEach (StandsForFront (owner_in old.origin) source.reports (length old.state.clock.reports)) (moments old.disk) (moments new.disk)
+  pub later : IsLater (shown old.disk) (shown new.disk)
+  pub leaves : IsTrue (is_told (shown new.disk)) → (told_moments (shown new.disk) ≡ told_moments (shown old.disk))
+      ⊎ AtEach (StandsForFront (owner_in old.origin) source.reports (length old.state.clock.reports)) (told_moments (shown old.disk)) (told_moments (shown new.disk))
 
 -- why not all reports were offered, by the count of the disk's faults
 abbrev pub StopsFor : ℕ → ℕ → Owner → List Report → Stopped → Type 0
@@ -83,17 +84,17 @@ pub record AreReady {D : Type 0} (clocks : List ClockHistory) (books : List (Boo
   pub count : length clocks ≡ length books
   pub each : (k : ℕ) (b : BookOf D) (c : ClockHistory) → k < length books → HasFirst (slice_index_or clocks k c) (length (slice_index_or books k b).state.clock.reports) (slice_index_or books k b)
 
-module _ {D : Type 0} (tells : D → Bool) (moments : D → Moments) (faults : D → ℕ) (clocks : List ClockHistory) (old new : List (BookOf D)) where
+module _ {D : Type 0} (shown : D → DiskShown) (clocks : List ClockHistory) (old new : List (BookOf D)) where
   -- the book of this clock stands for all reports of the clock
   abbrev pub IsWhole : ℕ → BookOf D → ClockHistory → Type 0
-  IsWhole k b c = IsTrue (tells (slice_index_or new k b).disk) → Leaves (StandsForReports (owner_in (slice_index_or old k b).origin) (slice_index_or clocks k c).reports) (moments (slice_index_or new k b).disk).now
+  IsWhole k b c = IsTrue (is_told (shown (slice_index_or new k b).disk)) → Leaves (StandsForReports (owner_in (slice_index_or old k b).origin) (slice_index_or clocks k c).reports) (told_moments (shown (slice_index_or new k b).disk)).now
 
   -- at this clock the reports were not all offered, for want of room or for a fault of the disk, and those of the smaller clocks were
   pub record StopsAt (clock : ℕ) (why : Stopped) : Type 0 where
     pub within : clock < length old
     pub before : (k : ℕ) (b : BookOf D) (c : ClockHistory) → k < clock → IsWhole k b c
     pub cause : (b : BookOf D) (c : ClockHistory)
-        → StopsFor (faults (slice_index_or old clock b).disk) (faults (slice_index_or new clock b).disk) (owner_in (slice_index_or old clock b).origin) (slice_index_or clocks clock c).reports why
+        → StopsFor (shown (slice_index_or old clock b).disk).faults (shown (slice_index_or new clock b).disk).faults (owner_in (slice_index_or old clock b).origin) (slice_index_or clocks clock c).reports why
 
   abbrev pub IsStop : MoveFault → Type 0
   IsStop (fault.Full clock needed) = StopsAt clock (stopped.Full needed)
@@ -104,8 +105,8 @@ module _ {D : Type 0} (tells : D → Bool) (moments : D → Moments) (faults : D
   -- what offering the reports of all clocks to the books does
   pub record AreOffered (answer : Result (Unit {0}) MoveFault) : Type 0 where
     pub count : length new ≡ length old
-    pub each : (k : ℕ) (b : BookOf D) (c : ClockHistory) → k < length old → GoesOn tells moments (slice_index_or clocks k c) (slice_index_or old k b) (slice_index_or new k b)
-    pub counts : (k : ℕ) (b : BookOf D) → k < length old → (faults (slice_index_or new k b).disk ≡ faults (slice_index_or old k b).disk)
-        ⊎ (TellsFaultOf k answer × (faults (slice_index_or old k b).disk ≤ faults (slice_index_or new k b).disk))
+    pub each : (k : ℕ) (b : BookOf D) (c : ClockHistory) → k < length old → GoesOn shown (slice_index_or clocks k c) (slice_index_or old k b) (slice_index_or new k b)
+    pub counts : (k : ℕ) (b : BookOf D) → k < length old → ((shown (slice_index_or new k b).disk).faults ≡ (shown (slice_index_or old k b).disk).faults)
+        ⊎ (TellsFaultOf k answer × ((shown (slice_index_or old k b).disk).faults ≤ (shown (slice_index_or new k b).disk).faults))
     pub whole : OnOk answer ((k : ℕ) (b : BookOf D) (c : ClockHistory) → k < length old → IsWhole k b c)
     pub cause : IfErr answer IsStop

@@ -26,7 +26,7 @@ pub fn move_journals<D: Disk>(
 ) -> (Result<(), MoveFault>, Vec<D>)
     requires clocks { AreClocksAs terms.now (histories clocks.now) }
     requires disks { length disks.items ≡ length clocks.now }
-    ensures { Moves D.tells D.moments D.faults terms.now digest.now (histories clocks.now) disks.items result.1.items result.0 }
+    ensures { Moves D.shown terms.now digest.now (histories clocks.now) disks.items result.1.items result.0 }
 {
     match open_books(alloc, disks, terms, digest) {
         Err(GivenBack { disks, fault }) => (Err(fault), disks),

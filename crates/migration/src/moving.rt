@@ -1,5 +1,6 @@
 //! Reports that are offered to the books on the targets.
 ghost use Rattle.std.specs.Prelude.{◌≡◌, ◌+◌, ◌<◌, length, IsTrue, OnOk, IfErr};
+ghost use Rattle.house_io.specs.Disks.{is_told, told_moments};
 ghost use Rattle.house_io.specs.Moments.{Leaves};
 ghost use Rattle.recovery.specs.Journaled.{StandsForReports};
 ghost use Rattle.clock.specs.Reports.{histories};
@@ -22,7 +23,7 @@ pub(crate) fn move_all<D: Disk>(
 ) -> Result<(), MoveFault>
     requires count { length books.old ≡ terms.now.bidders + 1 }
     requires ready { AreReady (histories clocks.now) books.old }
-    ensures { AreOffered D.tells D.moments D.faults (histories clocks.now) books.old books.new result }
+    ensures { AreOffered D.shown (histories clocks.now) books.old books.new result }
 {
     for clock in 0..terms.bidders + 1 {
         let source = &clocks[clock as usize];
@@ -52,10 +53,10 @@ fn move_reports<D: Disk>(
     book: &mut ClockBook<D>,
 ) -> Result<(), Stopped>
     requires { HasFirst source.now.history (length book.old.state.clock.reports) book.old }
-    ensures goes_on { GoesOn D.tells D.moments source.now.history book.old book.new }
-    ensures whole { OnOk result (IsTrue (D.tells book.new.disk) → Leaves (StandsForReports (owner_in book.old.origin) source.now.history.reports) (D.moments book.new.disk).now) }
-    ensures steady { OnOk result (D.faults book.new.disk ≡ D.faults book.old.disk) }
-    ensures err { IfErr result (StopsFor (D.faults book.old.disk) (D.faults book.new.disk) (owner_in book.old.origin) source.now.history.reports) }
+    ensures goes_on { GoesOn D.shown source.now.history book.old book.new }
+    ensures whole { OnOk result (IsTrue (is_told (D.shown book.new.disk)) → Leaves (StandsForReports (owner_in book.old.origin) source.now.history.reports) (told_moments (D.shown book.new.disk)).now) }
+    ensures steady { OnOk result ((D.shown book.new.disk).faults ≡ (D.shown book.old.disk).faults) }
+    ensures err { IfErr result (StopsFor (D.shown book.old.disk).faults (D.shown book.new.disk).faults (owner_in book.old.origin) source.now.history.reports) }
 {
     let found = book.clock().count();
     for place in found..source.count() {
@@ -77,10 +78,10 @@ fn offer_next<D: Disk>(
 ) -> Result<(), Stopped>
     requires first { HasFirst source.now.history place book.old }
     requires more { place < length source.now.history.reports }
-    ensures goes_on { GoesOn D.tells D.moments source.now.history book.old book.new }
+    ensures goes_on { GoesOn D.shown source.now.history book.old book.new }
     ensures first { OnOk result (HasFirst source.now.history (place + 1) book.new) }
-    ensures steady { OnOk result (D.faults book.new.disk ≡ D.faults book.old.disk) }
-    ensures err { IfErr result (StopsFor (D.faults book.old.disk) (D.faults book.new.disk) (owner_in book.old.origin) source.now.history.reports) }
+    ensures steady { OnOk result ((D.shown book.new.disk).faults ≡ (D.shown book.old.disk).faults) }
+    ensures err { IfErr result (StopsFor (D.shown book.old.disk).faults (D.shown book.new.disk).faults (owner_in book.old.origin) source.now.history.reports) }
 {
     let _legal = source.number();
     let _most = source.count();

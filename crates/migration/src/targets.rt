@@ -35,10 +35,10 @@ pub(crate) fn open_books<D: Disk>(
     digest: &[u8; 32],
 ) -> Result<Targets<D>, GivenBack<D>>
     requires { length disks.items ≡ terms.now.bidders + 1 }
-    ensures ok { IfOk result (λ o. AreOpen D.tells D.moments D.faults terms.now digest.now disks.items o.books.items) }
+    ensures ok { IfOk result (λ o. AreOpen D.shown terms.now digest.now disks.items o.books.items) }
     ensures count { IfOk result (λ o. length o.books.items ≡ length disks.items) }
     ensures room { IfOk result (λ o. (length o.room.items ≡ 0) × (length disks.items ≤ vec_capacity o.room)) }
-    ensures err { IfErr result (λ e. (clocks : List ClockHistory) → Moves D.tells D.moments D.faults terms.now digest.now clocks disks.items e.disks.items (Err e.fault)) }
+    ensures err { IfErr result (λ e. (clocks : List ClockHistory) → Moves D.shown terms.now digest.now clocks disks.items e.disks.items (Err e.fault)) }
 {
     let Ok(mut books) = Vec::with_capacity(alloc, disks.len()) else {
         return Err(GivenBack {

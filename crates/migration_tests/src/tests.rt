@@ -18,7 +18,7 @@ const OLD: [u8; 32] = [7; 32];
 const NEW: [u8; 32] = [9; 32];
 
 /// The number, from 0, of the last call of a disk in the opening of an empty file.
-const OPENING: u64 = 8;
+const OPENING: u64 = 10;
 
 /// How many calls an append makes.
 const APPEND: u64 = 4;
@@ -240,14 +240,14 @@ fn a_move_that_was_stopped_goes_on(rt: HostRuntime) -> Result<(), Fail> {
     let alloc = rt.alloc();
     let all = seller_of(alloc, &first_lines(), &[report(2, 1, 1)])?;
     let done = stopped_at(alloc, &all, 1_000)?;
+    let not_opened = MoveFault::NotOpened {
+        clock: 1,
+        fault: OpenFault::DiskFault,
+    };
+    // The claim, the first sync, a write of the first record, and its last sync.
     let table = [
-        (
-            0,
-            MoveFault::NotOpened {
-                clock: 1,
-                fault: OpenFault::DiskFault,
-            },
-        ),
+        (0, not_opened),
+        (1, not_opened),
         (OPENING + 1, MoveFault::DiskFault(1)),
         (OPENING + APPEND, MoveFault::DiskFault(1)),
     ];

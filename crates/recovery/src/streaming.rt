@@ -1,5 +1,6 @@
 //! The reports of a journal's file, one after another.
 ghost use Rattle.std.specs.Prelude.{◌≡◌, ◌≤◌, [], List, ℕ, length, slice_get, IsTrue, IfOk, IfSome, IfNone, Some, None};
+ghost use Rattle.house_io.specs.Disks.{is_told, told_moments, IsLater};
 ghost use Rattle.demand_set.specs.declared.reports.Report.{Report as ReportValue};
 ghost use Rattle.report_journal.specs.Calls.{OnlyReads};
 ghost use Rattle.report_journal.specs.Scans.{IsScan, IsInOrder, places_in};
@@ -77,11 +78,11 @@ impl Reports {
         digest: &[u8; 32],
     ) -> Result<Reports, RecoverFault>
         ensures begun { IfOk result (HasBegun (owner_of terms.now clock digest.now)) }
-        ensures given { IfOk result (λ r. HasGiven (IsTrue (D.tells disk.new)) r [] (D.moments disk.new).now.read) }
+        ensures given { IfOk result (λ r. HasGiven (IsTrue (is_told (D.shown disk.new))) r [] (told_moments (D.shown disk.new)).now.read) }
         ensures in_order { IfOk result (λ r. IsInOrder r.scan) }
-        ensures synced { IsTrue (D.tells disk.new) → IsSyncedBy result (D.moments disk.old) (D.moments disk.new) }
-        ensures tells { IsTrue (D.tells disk.new) → IsTrue (D.tells disk.old) }
-        ensures faults { CountsFaults (D.faults disk.old) (D.faults disk.new) result }
+        ensures synced { IsTrue (is_told (D.shown disk.new)) → IsSyncedBy result (told_moments (D.shown disk.old)) (told_moments (D.shown disk.new)) }
+        ensures later { IsLater (D.shown disk.old) (D.shown disk.new) }
+        ensures faults { CountsFaults (D.shown disk.old).faults (D.shown disk.new).faults result }
     {
         let window = Window::new(alloc)?;
         let scan = scanned(alloc, disk)?;
@@ -118,12 +119,12 @@ impl Reports {
     /// The next report of the file, or the first broken record, or the end. A broken record and the end are answered again. On a
     /// refusal nothing changes but what was read ahead.
     pub fn next<D: Disk>(&mut self, alloc: Global, disk: &mut D) -> Result<Next, RecoverFault>
-        ensures answer { (given : List ReportValue) → HasGiven (IsTrue (D.tells disk.old)) self.old given (D.moments disk.old).now.read
-            → Answers (IsTrue (D.tells disk.new)) self.new given (D.moments disk.new).now.read result }
+        ensures answer { (given : List ReportValue) → HasGiven (IsTrue (is_told (D.shown disk.old))) self.old given (told_moments (D.shown disk.old)).now.read
+            → Answers (IsTrue (is_told (D.shown disk.new))) self.new given (told_moments (D.shown disk.new)).now.read result }
         ensures goes_on { GoesOn self.old self.new result }
         ensures again { AnswersAgain self.old result }
-        ensures reads { OnlyReads D.tells D.moments disk.old disk.new }
-        ensures faults { CountsFaults (D.faults disk.old) (D.faults disk.new) result }
+        ensures reads { OnlyReads D.shown disk.old disk.new }
+        ensures faults { CountsFaults (D.shown disk.old).faults (D.shown disk.new).faults result }
     {
         if let Some(broken) = self.broken {
             return Ok(Next::Broken(broken));
@@ -146,11 +147,11 @@ impl Reports {
     ) -> Result<Next, RecoverFault>
         requires unbroken { self.old.broken ≡ None }
         requires next { slice_get (places_in self.old.scan) self.old.given ≡ Some place }
-        ensures answer { (given : List ReportValue) → HasGiven (IsTrue (D.tells disk.old)) self.old given (D.moments disk.old).now.read
-            → Answers (IsTrue (D.tells disk.new)) self.new given (D.moments disk.new).now.read result }
+        ensures answer { (given : List ReportValue) → HasGiven (IsTrue (is_told (D.shown disk.old))) self.old given (told_moments (D.shown disk.old)).now.read
+            → Answers (IsTrue (is_told (D.shown disk.new))) self.new given (told_moments (D.shown disk.new)).now.read result }
         ensures goes_on { GoesOn self.old self.new result }
-        ensures reads { OnlyReads D.tells D.moments disk.old disk.new }
-        ensures faults { CountsFaults (D.faults disk.old) (D.faults disk.new) result }
+        ensures reads { OnlyReads D.shown disk.old disk.new }
+        ensures faults { CountsFaults (D.shown disk.old).faults (D.shown disk.new).faults result }
     {
         if let Err(Failed) = self.window.cover(disk, place) {
             return Err(RecoverFault::DiskFault);
@@ -220,11 +221,11 @@ fn damaged_number(scan: &Scanned) -> Option<u32>
 
 /// Scans a disk.
 fn scanned<D: Disk>(alloc: Global, disk: &mut D) -> Result<Scanned, RecoverFault>
-    ensures found { IfOk result (λ s. IsTrue (D.tells disk.new) → IsScan s (D.moments disk.old).now.read) }
+    ensures found { IfOk result (λ s. IsTrue (is_told (D.shown disk.new)) → IsScan s (told_moments (D.shown disk.old)).now.read) }
     ensures in_order { IfOk result IsInOrder }
-    ensures synced { IsTrue (D.tells disk.new) → IsSyncedBy result (D.moments disk.old) (D.moments disk.new) }
-    ensures tells { IsTrue (D.tells disk.new) → IsTrue (D.tells disk.old) }
-    ensures faults { CountsFaults (D.faults disk.old) (D.faults disk.new) result }
+    ensures synced { IsTrue (is_told (D.shown disk.new)) → IsSyncedBy result (told_moments (D.shown disk.old)) (told_moments (D.shown disk.new)) }
+    ensures later { IsLater (D.shown disk.old) (D.shown disk.new) }
+    ensures faults { CountsFaults (D.shown disk.old).faults (D.shown disk.new).faults result }
 {
     match scan(alloc, disk) {
         Ok(found) => Ok(found),

@@ -380,8 +380,9 @@ fn first_other_in(alloc: Global, file: &[u8], call: u64, steps: &[Step]) -> Opti
     first_other_on(alloc, &mut disk, steps)
 }
 
-/// The number of the call that reads payloads: after a sync, a read of the header, the size, and a read for each of two gates.
-const PAYLOADS: u64 = 5;
+/// The number of the call that reads payloads: after a sync, a read of the header, the size, a read of the first gate, the size behind its
+/// record, and a read of the second gate.
+const PAYLOADS: u64 = 6;
 
 const AFTER_A_FAULT: &[Step] = &[
     Step::Fault(RecoverFault::DiskFault),

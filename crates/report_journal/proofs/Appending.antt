@@ -1,6 +1,7 @@
 -- What an append leaves that wrote nothing, and one that put its record.
 use Rattle.std.proofs.Common.{◌≡◌, inl, Bool, IsTrue, ℕ, ◌+◌, List, [], length, refl, subst, arith}
 use Rattle.std.specs.Prelude.{Err}
+use Rattle.house_io.specs.Disks.{DiskShown, is_told, told_moments}
 use Rattle.house_io.specs.Moments.{Moments, AtEach, Torn}
 use Rattle.report_journal.specs.declared.faults.JournalFault.{JournalFault}
 use Rattle.report_journal.specs.Calls.{Writes, AppendLeaves}
@@ -12,18 +13,18 @@ use Rattle.report_journal.proofs.Kept.{nothing_done, nothing_written}
 use Rattle.report_journal.proofs.Rooms.{filled-length}
 
 -- who is refused before the first write has not asked, and has written nothing
-pub untouched : {D : Type 0} (tells : D → Bool) (moments : D → Moments) (says : List ℕ → Type 0) (payload : List ℕ) (fault : JournalFault) (j : JournalOf D)
-    → (IsTrue (tells j.disk) → IsKept j.contents j.places j.end j.pending (moments j.disk))
-    → (next : List ℕ) × IsAsked {T = ℕ} says next (Err fault) × Writes tells moments payload next j j (Err fault)
-untouched tells moments says payload fault j kept = (
+pub untouched : {D : Type 0} (shown : D → DiskShown) (says : List ℕ → Type 0) (payload : List ℕ) (fault : JournalFault) (j : JournalOf D)
+    → (IsTrue (is_told (shown j.disk)) → IsKept j.contents j.places j.end j.pending (told_moments (shown j.disk)))
+    → (next : List ℕ) × IsAsked {T = ℕ} says next (Err fault) × Writes shown payload next j j (Err fault)
+untouched shown says payload fault j kept = (
   [],
   inl refl,
   record {
     laid = refl;
     end = λ told. refl;
     leaves = λ none told. record {
-      stand = nothing_done j.contents j.places j.end j.pending (moments j.disk) (kept told) none payload;
-      range = nothing_written j.contents j.places j.end j.pending (moments j.disk) (kept told) none _ _;
+      stand = nothing_done j.contents j.places j.end j.pending (told_moments (shown j.disk)) (kept told) none payload;
+      range = nothing_written j.contents j.places j.end j.pending (told_moments (shown j.disk)) (kept told) none _ _;
     };
   },
 )

@@ -2,19 +2,20 @@
 use Rattle.std.proofs.Common.{◌≡◌, ◌≢◌, ◌↔◌, Bool, true, false, IsTrue, get_or, inl, inr, ⊎_elim, ℕ, ◌+◌, ◌≤◌, List, [], ◌∷◌, ◌++◌, length, take, drop, Option, Some, None, refl, sym, ◌∙◌, ap, subst, arith, append_assoc, length-append}
 use Rattle.std.proofs.lemmas.List.{take_at, drop_at, get_or_at}
 use Rattle.std.specs.Int.{w32, to_be_bytes}
-use Rattle.house_io.specs.Moments.{Moment, Moments, Leaves, AtEach, Torn, IsSettled, settled}
+use Rattle.house_io.specs.Moments.{Moment, Moments, Leaves, AtEach, Torn, IsSettled, settled, synced_at}
 use Rattle.std.specs.List.{AllByRecursion}
-use Rattle.house_io.proofs.Moments.{at_start, at_next, at_now, leaves_settled}
+use Rattle.house_io.proofs.Moments.{at_start, at_next, at_both, at_weaker, at_now, leaves_settled}
 use Rattle.report_journal.specs.Format.{Contents, header_bytes, first_gate, body, records, front, IsPayload, StandsFor, Fits}
 use Rattle.lot_base.specs.declared.limits.TheConstants.{GREATEST_PAYLOAD, GREATEST_FILE}
 use Rattle.report_journal.specs.declared.spellings.TheConstants.{OPEN}
 use Rattle.report_journal.specs.declared.headers.Header.{Header}
 use Rattle.report_journal.specs.Calls.{MendLeaves}
-use Rattle.report_journal.specs.Puts.{Takes, with_one_more, IsBeforeOrAfter, IsSynced}
+use Rattle.report_journal.specs.Puts.{Takes, with_one_more, IsBeforeOrAfter, IsSynced, IsReopened}
 use Rattle.report_journal.specs.Journals.{said, payload_at, payloads_at, ArePlaced, Stands, IsKept, LiesAhead}
 use Rattle.report_journal.specs.declared.places.Place.{Place}
 use Rattle.report_journal.proofs.Records.{front-push}
 use Rattle.report_journal.proofs.Spans.{at_rest}
+use Rattle.report_journal.proofs.Reopened.{torn_gate}
 
 regroup : (pre size payload more : List ℕ) → pre ++ (OPEN ∷ size ++ payload) ++ more ≡ (pre ++ OPEN ∷ size) ++ payload ++ more
 regroup pre size payload more = ap (λ (l : List ℕ). l ++ more) (sym (append_assoc pre (OPEN ∷ size) payload))
@@ -153,49 +154,55 @@ open_at x payload end file is stands =
 pub settled_is : (m : Moment) (file : List ℕ) → m ≡ settled file → IsSettled m
 settled_is m file is = is ∙ ap settled (sym (ap (λ (n : Moment). n.read) is))
 
--- what lies behind the last gate lies there after a sync
-pub still_ahead : (ahead : Option ℕ) (bytes : List ℕ) (end : ℕ) (old new : Moments) → IsSynced old new → LiesAhead ahead bytes end old.now.read → LiesAhead ahead bytes end new.now.read
-still_ahead ahead bytes end old new synced lies =
-    ⊎_elim
-    (λ same. subst (λ (ms : Moments). LiesAhead ahead bytes end ms.now.read) (sym same) lies)
-    (λ done. subst (λ (ms : Moments). LiesAhead ahead bytes end ms.now.read) (sym done) lies)
-    synced
-
 module _ (header : Header) (places : List Place) (end : ℕ) (old new : Moments) (payload : List ℕ)
-    (kept : IsKept (said header places old.now.read) places end (Some payload) old) (is_synced : IsSynced old new) where
+    (kept : IsKept (said header places old.now.read) places end (Some payload) old) where
   abbrev was : Contents
   was = said header places old.now.read
 
   abbrev P : List ℕ → Type 0
   P = IsBeforeOrAfter was payload
 
-  read_is : new.now.read ≡ old.now.read
-  read_is = ⊎_elim (λ same. ap (λ (ms : Moments). ms.now.read) same) (λ done. ap (λ (ms : Moments). ms.now.read) done) is_synced
+  stands_after : get_or old.now.read end 0 ≡ OPEN → StandsFor (with_one_more was payload) old.now.read
+  stands_after opened = ⊎_elim (λ before. absurd (shut_at was end old.now.read kept.size before opened)) (λ after. after) kept.stands.0.read
 
-  pub mend_moments : AtEach P old new
-  mend_moments = ⊎_elim
+  mend_synced : IsSynced old new → AtEach P old new
+  mend_synced is_synced = ⊎_elim
       (λ same. subst (AtEach P old) (sym same) (at_start P old kept.stands.0))
       (λ done. at_next P old new (settled old.now.read) kept.stands.0 done (leaves_settled P old.now.read kept.stands.0.read))
       is_synced
 
-  pub still_is : said header places new.now.read ≡ was
-  still_is = ap (λ (f : List ℕ). said header places f) read_is
+  mend_opened : get_or old.now.read end 0 ≡ OPEN → AtEach (Torn end 1 old.now.read) (synced_at old) new → AtEach P old new
+  mend_opened opened each =
+      at_both P old (synced_at old) new
+      (at_next P old (synced_at old) (settled old.now.read) kept.stands.0 refl (leaves_settled P old.now.read kept.stands.0.read))
+      (at_weaker (Torn end 1 old.now.read) P (synced_at old) new (λ c torn. torn_gate was payload end old.now.read c kept.size (stands_after opened) torn) each)
 
-  pub still_kept : IsKept (said header places new.now.read) places end (Some payload) new
-  still_kept = doubt_kept header places end old payload (Some payload) kept new (at_now P old new mend_moments) kept.stands.1
+  pub mend_moments : IsReopened end old new → AtEach P old new
+  mend_moments reopened = ⊎_elim mend_synced (λ again. mend_opened again.0 again.1) reopened
 
-  pub dropped : (get_or old.now.read end 0 ≡ OPEN → ⊥) → StandsFor was new.now.read
-  dropped closed = subst (StandsFor was) (sym read_is) (⊎_elim (λ before. before) (λ after. absurd (closed (open_at was payload end old.now.read kept.size after))) kept.stands.0.read)
+  module _ (reopened : IsReopened end old new) where
+    abbrev now_leaves : Leaves P new.now
+    now_leaves = at_now P old new (mend_moments reopened)
 
-  pub drop_kept : IsSettled new.now → (get_or old.now.read end 0 ≡ OPEN → ⊥) → IsKept (said header places new.now.read) places end None new
-  drop_kept is_settled closed = subst (λ (z : Contents). IsKept z places end None new) (sym still_is) (record {
-    stands = (is_settled, dropped closed);
-    placed = kept.placed;
-    size = kept.size;
-  })
+    pub still_is : said header places new.now.read ≡ was
+    still_is = doubt_is header places end old payload (Some payload) kept new now_leaves kept.stands.1
 
-  pub counted : get_or old.now.read end 0 ≡ OPEN → StandsFor (with_one_more was payload) new.now.read
-  counted opened = subst (StandsFor (with_one_more was payload)) (sym read_is) (⊎_elim (λ before. absurd (shut_at was end old.now.read kept.size before opened)) (λ after. after) kept.stands.0.read)
+    pub still_kept : IsKept (said header places new.now.read) places end (Some payload) new
+    still_kept = doubt_kept header places end old payload (Some payload) kept new now_leaves kept.stands.1
+
+  module _ (read_is : new.now.read ≡ old.now.read) where
+    pub dropped : (get_or old.now.read end 0 ≡ OPEN → ⊥) → StandsFor was new.now.read
+    dropped closed = subst (StandsFor was) (sym read_is) (⊎_elim (λ before. before) (λ after. absurd (closed (open_at was payload end old.now.read kept.size after))) kept.stands.0.read)
+
+    pub drop_kept : IsSettled new.now → (get_or old.now.read end 0 ≡ OPEN → ⊥) → IsKept (said header places new.now.read) places end None new
+    drop_kept is_settled closed = subst (λ (z : Contents). IsKept z places end None new) (ap (λ (f : List ℕ). said header places f) (sym read_is)) (record {
+      stands = (is_settled, dropped closed);
+      placed = kept.placed;
+      size = kept.size;
+    })
+
+    pub counted : get_or old.now.read end 0 ≡ OPEN → StandsFor (with_one_more was payload) new.now.read
+    counted opened = subst (StandsFor (with_one_more was payload)) (sym read_is) (stands_after opened)
 
 -- a test that was made
 pub is_false : {b : Bool} {Q : Type 0} → (IsTrue b ↔ Q) → b ≡ false → Q → ⊥
@@ -206,9 +213,9 @@ is_true {b = b} iff is = iff.0 is
 
 -- what a mend leaves at each moment, whatever is in doubt
 module _ (header : Header) (places : List Place) (end : ℕ) (old new : Moments) (pending : Option (List ℕ))
-    (kept : IsKept (said header places old.now.read) places end pending old) (is_synced : IsSynced old new) where
-  pub mend_leaves : MendLeaves pending (said header places old.now.read) old new
+    (kept : IsKept (said header places old.now.read) places end pending old) (reopened : IsReopened end old new) where
+  pub mend_leaves : MendLeaves pending (said header places old.now.read) end old new
   mend_leaves = record {
-    synced = is_synced;
-    stand = λ payload is. mend_moments header places end old new payload (subst (λ (p : Option (List ℕ)). IsKept (said header places old.now.read) places end p old) is kept) is_synced;
+    reopened = reopened;
+    stand = λ payload is. mend_moments header places end old new payload (subst (λ (p : Option (List ℕ)). IsKept (said header places old.now.read) places end p old) is kept) reopened;
   }

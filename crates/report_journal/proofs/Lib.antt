@@ -16,3 +16,4 @@ pub mod TwoWrites
 pub mod Ahead
 pub mod Putting
 pub mod Appending
+pub mod Reopened

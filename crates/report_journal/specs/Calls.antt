@@ -2,6 +2,7 @@
 -- the new one. What is said of contents, moments and bytes is said where the disk tells them at the call's end; all else always.
 use Rattle.std.specs.Prelude.{◌≡◌, ◌≢◌, ℕ, ◌+◌, ◌-◌, ◌≤◌, ◌<◌, max, Bool, IsTrue, List, [], ◌∷◌, ◌++◌, length, slice_index, Option, Some, None, IsSome, MatchOption, Result, Ok, Err}
 use Rattle.house_io.specs.Faults.{Rose}
+use Rattle.house_io.specs.Disks.{DiskShown, is_told, told_moments, IsLater}
 use Rattle.house_io.specs.Moments.{Moments, Leaves, AtEach, Torn, overlaid, synced_at}
 use Rattle.lot_base.specs.declared.limits.TheConstants.{GREATEST_FILE}
 use Rattle.report_journal.specs.declared.spellings.TheConstants.{OPEN}
@@ -10,17 +11,17 @@ use Rattle.report_journal.specs.declared.faults.JournalFault.TheVariants.{Full, 
 use Rattle.report_journal.specs.declared.faults.Mended.{Mended}
 use Rattle.report_journal.specs.declared.faults.Mended.TheVariants.{Nothing, Counted, Dropped}
 use Rattle.report_journal.specs.Format.{Contents, StandsFor, body, header_bytes, first_gate}
-use Rattle.report_journal.specs.Puts.{empty, with_one_more, IsBeforeOrAfter, IsUnformedOrEmpty, IsSynced}
+use Rattle.report_journal.specs.Puts.{empty, with_one_more, IsBeforeOrAfter, IsUnformedOrEmpty, IsSynced, IsReopened}
 use Rattle.report_journal.specs.Padding.{behind_of}
 use Rattle.report_journal.specs.Scans.{contents_of, places_in, end_in}
 use Rattle.report_journal.specs.declared.headers.Header.{Header}
 use Rattle.report_journal.specs.declared.scanning.Scanned.{Scanned}
 use Rattle.report_journal.specs.Journals.{JournalOf, KeepsRecords, AddsRecord}
 
--- A call that only reads a disk: what tells now told before, and no moment was added.
-pub record OnlyReads {D : Type 0} (tells : D → Bool) (moments : D → Moments) (old new : D) : Type 0 where
-  pub told : IsTrue (tells new) → IsTrue (tells old)
-  pub same : IsTrue (tells new) → moments new ≡ moments old
+-- A call that only reads a disk: no moment was added.
+pub record OnlyReads {D : Type 0} (shown : D → DiskShown) (old new : D) : Type 0 where
+  pub later : IsLater (shown old) (shown new)
+  pub same : IsTrue (is_told (shown new)) → told_moments (shown new) ≡ told_moments (shown old)
 
 -- The count of a disk's faults over a call: DiskFault comes only where it rose, and with any other answer it is as before.
 abbrev pub CountsFaults : {T : Type 0} → ℕ → ℕ → Result T JournalFault → Type 0
@@ -48,12 +49,12 @@ pub record IsReady {D : Type 0} (payload : List ℕ) (j : JournalOf D) : Type 0 
   pub fits : record_end payload j ≤ GREATEST_FILE
 
 -- Of two states of a journal: what counts is the same, and so is what is in doubt; the contents are where the disk tells.
-pub record KeepsAll {D : Type 0} (tells : D → Bool) (old new : JournalOf D) : Type 0 where
+pub record KeepsAll {D : Type 0} (shown : D → DiskShown) (old new : JournalOf D) : Type 0 where
   pub records : KeepsRecords old new
   pub pending : new.pending ≡ old.pending
   pub spare : new.spare ≡ old.spare
   pub laid : new.laid ≡ old.laid
-  pub contents : IsTrue (tells new.disk) → new.contents ≡ old.contents
+  pub contents : IsTrue (is_told (shown new.disk)) → new.contents ≡ old.contents
 
 -- at each moment of a forming a read and each image are unformed or stand for no payloads, and no byte but those of the header and
 -- of the gates before and after it differs from before
@@ -62,36 +63,36 @@ pub record FormLeaves (header : Header) (old new : Moments) : Type 0 where
   pub range : AtEach (Torn 0 (first_gate header + 1) old.now.read) old new
 
 -- a journal of no payloads, formed on this disk: every image has it, and the bytes of its header were written and no others
-pub record Forms {D : Type 0} (tells : D → Bool) (moments : D → Moments) (faults : D → ℕ) (header : Header) (old : D) (new : JournalOf D) : Type 0 where
+pub record Forms {D : Type 0} (shown : D → DiskShown) (header : Header) (old : D) (new : JournalOf D) : Type 0 where
   pub contents : new.contents ≡ empty header
   pub places : new.places ≡ []
   pub end : new.end ≡ first_gate header
   pub pending : new.pending ≡ None
   pub spare : new.spare ≡ 0
   pub laid : new.laid ≡ first_gate header + 1
-  pub steady : faults new.disk ≡ faults old
-  pub told : IsTrue (tells new.disk) → IsTrue (tells old)
-  pub every_image : IsTrue (tells new.disk) → Leaves (StandsFor (empty header)) (moments new.disk).now
-  pub written : IsTrue (tells new.disk) → (moments new.disk).now.read ≡ overlaid (moments old).now.read 0 (OPEN ∷ header_bytes header ++ 0 ∷ [])
-  pub leaves : IsTrue (tells new.disk) → FormLeaves header (moments old) (moments new.disk)
+  pub steady : (shown new.disk).faults ≡ (shown old).faults
+  pub later : IsLater (shown old) (shown new.disk)
+  pub every_image : IsTrue (is_told (shown new.disk)) → Leaves (StandsFor (empty header)) (told_moments (shown new.disk)).now
+  pub written : IsTrue (is_told (shown new.disk)) → (told_moments (shown new.disk)).now.read ≡ overlaid (told_moments (shown old)).now.read 0 (OPEN ∷ header_bytes header ++ 0 ∷ [])
+  pub leaves : IsTrue (is_told (shown new.disk)) → FormLeaves header (told_moments (shown old)) (told_moments (shown new.disk))
 
 -- why a forming is refused: for a fault of the disk, or for memory, and then the disk is as it was
-abbrev pub RefusesToForm : {D : Type 0} → (D → ℕ) → D → D → JournalFault → Type 0
-RefusesToForm faults old new DiskFault = (faults old ≤ faults new) × Rose (faults old) (faults new)
-RefusesToForm faults old new NoMemory = new ≡ old
-RefusesToForm faults old new NotMended = ⊥
-RefusesToForm faults old new (Full needed) = ⊥
+abbrev pub RefusesToForm : {D : Type 0} → (D → DiskShown) → D → D → JournalFault → Type 0
+RefusesToForm shown old new DiskFault = ((shown old).faults ≤ (shown new).faults) × Rose (shown old).faults (shown new).faults
+RefusesToForm shown old new NoMemory = new ≡ old
+RefusesToForm shown old new NotMended = ⊥
+RefusesToForm shown old new (Full needed) = ⊥
 
 -- a disk on which no journal was formed
-pub record FailsToForm {D : Type 0} (tells : D → Bool) (moments : D → Moments) (faults : D → ℕ) (header : Header) (old new : D) (fault : JournalFault) : Type 0 where
-  pub refuses : RefusesToForm faults old new fault
-  pub told : IsTrue (tells new) → IsTrue (tells old)
-  pub leaves : IsTrue (tells new) → FormLeaves header (moments old) (moments new)
+pub record FailsToForm {D : Type 0} (shown : D → DiskShown) (header : Header) (old new : D) (fault : JournalFault) : Type 0 where
+  pub refuses : RefusesToForm shown old new fault
+  pub later : IsLater (shown old) (shown new)
+  pub leaves : IsTrue (is_told (shown new)) → FormLeaves header (told_moments (shown old)) (told_moments (shown new))
 
 -- the journal that a scan found on a disk
-pub record Attaches {D : Type 0} (moments : D → Moments) (given : D) (scan : Scanned) (new : JournalOf D) : Type 0 where
+pub record Attaches {D : Type 0} (shown : D → DiskShown) (given : D) (scan : Scanned) (new : JournalOf D) : Type 0 where
   pub disk : new.disk ≡ given
-  pub contents : new.contents ≡ contents_of scan (moments given).now.read
+  pub contents : new.contents ≡ contents_of scan (told_moments (shown given)).now.read
   pub places : new.places ≡ places_in scan
   pub end : new.end ≡ end_in scan
   pub pending : new.pending ≡ None
@@ -131,10 +132,10 @@ pub record AppendLeaves (payload behind : List ℕ) (contents : Contents) (end :
   pub range : AtEach (Torn end (6 + length payload + length behind) old.now.read) old new
 
 -- what an append has written, where this payload was likely to come next
-pub record Writes {D : Type 0} (tells : D → Bool) (moments : D → Moments) (payload next : List ℕ) (old new : JournalOf D) (result : Result ℕ JournalFault) : Type 0 where
+pub record Writes {D : Type 0} (shown : D → DiskShown) (payload next : List ℕ) (old new : JournalOf D) (result : Result ℕ JournalFault) : Type 0 where
   pub laid : LaidBy payload next old new result
-  pub end : IsTrue (tells new.disk) → AppendEnds payload (behind payload next old) old.contents new.contents old.end (moments old.disk) (moments new.disk) result
-  pub leaves : old.pending ≡ None → IsTrue (tells new.disk) → AppendLeaves payload (behind payload next old) old.contents old.end (moments old.disk) (moments new.disk)
+  pub end : IsTrue (is_told (shown new.disk)) → AppendEnds payload (behind payload next old) old.contents new.contents old.end (told_moments (shown old.disk)) (told_moments (shown new.disk)) result
+  pub leaves : old.pending ≡ None → IsTrue (is_told (shown new.disk)) → AppendLeaves payload (behind payload next old) old.contents old.end (told_moments (shown old.disk)) (told_moments (shown new.disk))
 
 -- A mend. A record that it drops is spare again.
 abbrev pub Mends : {D : Type 0} → JournalOf D → JournalOf D → Result Mended JournalFault → Type 0
@@ -155,9 +156,10 @@ MendEnds pending old new end before now (Ok Counted) =
 MendEnds pending old new end before now (Ok Dropped) = (new ≡ old) × Leaves (StandsFor old) now.now × (slice_index before.now.read end ≢ OPEN)
 MendEnds pending old new end before now (Err fault) = new ≡ old
 
--- where the disk tells: at each moment of a mend a read and each image stand for the counted payloads, with the one in doubt or without
-pub record MendLeaves (pending : Option (List ℕ)) (contents : Contents) (old new : Moments) : Type 0 where
-  pub synced : IsSynced old new
+-- where the disk tells: a mend syncs, and writes the byte of an open gate alone; at each moment a read and each image stand for the counted
+-- payloads, with the one in doubt or without
+pub record MendLeaves (pending : Option (List ℕ)) (contents : Contents) (end : ℕ) (old new : Moments) : Type 0 where
+  pub reopened : IsReopened end old new
   pub stand : (payload : List ℕ) → pending ≡ Some payload → AtEach (IsBeforeOrAfter contents payload) old new
 
 -- the good sync with which a scan begins: at Ok it was done, and on a refusal at most it was

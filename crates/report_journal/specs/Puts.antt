@@ -1,5 +1,6 @@
 -- What the calls of a journal change of the contents that its file stands for.
 use Rattle.std.specs.Prelude.{◌≡◌, ◌≢◌, ◌⊎◌, ℕ, ◌+◌, ◌<◌, ◌≤◌, max, Bool, IsTrue, List, [], ◌∷◌, ◌++◌, length, drop, slice_index, Result, Ok, Err, OnOk}
+use Rattle.house_io.specs.Disks.{DiskShown, is_told, told_moments}
 use Rattle.house_io.specs.Moments.{Moment, Moments, AtEach, Torn, IsSettled, overlaid, settled, synced_at}
 use Rattle.report_journal.specs.declared.headers.Header.{Header}
 use Rattle.report_journal.specs.declared.spellings.TheConstants.{OPEN}
@@ -49,10 +50,10 @@ pub record TornTwice (a n b k : ℕ) (old new : List ℕ) : Type 0 where
 
 -- what opening a gate before these bytes leaves, which begin with the record of a payload: the file with them, at each moment the payloads
 -- before or these and the new one, and no other byte that differs
-pub record Opens {D T E : Type 0} (tells : D → Bool) (moments : D → Moments) (gate : ℕ) (payload bytes : List ℕ) (old new : D) (result : Result T E) : Type 0 where
-  pub done : OnOk result (IsTrue (tells new) → (moments new).now ≡ settled (overlaid (moments old).now.read gate (OPEN ∷ bytes)))
-  pub stand : IsTrue (tells new) → (x : Contents) → Takes x payload gate (moments old).now.read → AtEach (IsBeforeOrAfter x payload) (moments old) (moments new)
-  pub range : IsTrue (tells new) → AtEach (Torn gate (1 + length bytes) (moments old).now.read) (moments old) (moments new)
+pub record Opens {D T E : Type 0} (shown : D → DiskShown) (gate : ℕ) (payload bytes : List ℕ) (old new : D) (result : Result T E) : Type 0 where
+  pub done : OnOk result (IsTrue (is_told (shown new)) → (told_moments (shown new)).now ≡ settled (overlaid (told_moments (shown old)).now.read gate (OPEN ∷ bytes)))
+  pub stand : IsTrue (is_told (shown new)) → (x : Contents) → Takes x payload gate (told_moments (shown old)).now.read → AtEach (IsBeforeOrAfter x payload) (told_moments (shown old)) (told_moments (shown new))
+  pub range : IsTrue (is_told (shown new)) → AtEach (Torn gate (1 + length bytes) (told_moments (shown old)).now.read) (told_moments (shown old)) (told_moments (shown new))
 
 -- What a crash may leave of a file while these bytes are put after this gate: first they are torn, and once they are there
 -- the gate is.
@@ -72,3 +73,8 @@ pub record IsHead (h : Header) (bytes : List ℕ) : Type 0 where
 -- the disk was synced, or nothing happened to it
 abbrev pub IsSynced : Moments → Moments → Type 0
 IsSynced old new = (new ≡ old) ⊎ (new ≡ synced_at old)
+
+-- the disk was synced, or nothing happened to it; or it was synced, its gate read open, and then the gate was opened once more, which a
+-- crash may have cut short
+abbrev pub IsReopened : ℕ → Moments → Moments → Type 0
+IsReopened gate old new = IsSynced old new ⊎ ((slice_index old.now.read gate ≡ OPEN) × AtEach (Torn gate 1 old.now.read) (synced_at old) new)

@@ -1,5 +1,6 @@
 //! A disk that is read in chunks.
 ghost use Rattle.std.specs.Prelude.{◌≡◌, ◌+◌, ◌-◌, ◌≤◌, length, take, drop, min, vec_len, IsTrue, IfOk, OnOk};
+ghost use Rattle.house_io.specs.Disks.{is_told, told_moments};
 ghost use Rattle.house_io.specs.Faults.{HasCause};
 ghost use Rattle.report_journal.specs.Calls.{OnlyReads};
 ghost use Rattle.report_journal.specs.Scans.{IsChunk};
@@ -49,11 +50,11 @@ impl Chunk {
     /// Reads the file from this offset on.
     fn load<D: Disk>(&mut self, disk: &mut D, at: u32) -> Result<(), Failed>
         ensures at { OnOk result (self.new.at ≡ at) }
-        ensures chunk { OnOk result (IsTrue (D.tells disk.new) → IsChunk self.new.bytes.items self.new.at self.new.filled (D.moments disk.old).now.read) }
-        ensures filled { OnOk result (IsTrue (D.tells disk.new)
-            → self.new.filled ≡ min (vec_len self.new.bytes) (length (D.moments disk.old).now.read - at)) }
-        ensures reads { OnlyReads D.tells D.moments disk.old disk.new }
-        ensures cause { HasCause (D.faults disk.old) (D.faults disk.new) result }
+        ensures chunk { OnOk result (IsTrue (is_told (D.shown disk.new)) → IsChunk self.new.bytes.items self.new.at self.new.filled (told_moments (D.shown disk.old)).now.read) }
+        ensures filled { OnOk result (IsTrue (is_told (D.shown disk.new))
+            → self.new.filled ≡ min (vec_len self.new.bytes) (length (told_moments (D.shown disk.old)).now.read - at)) }
+        ensures reads { OnlyReads D.shown disk.old disk.new }
+        ensures cause { HasCause (D.shown disk.old).faults (D.shown disk.new).faults result }
     {
         match disk.read_at(at as u64, &mut self.bytes) {
             Ok(count) => {
@@ -86,14 +87,14 @@ pub fn read_head<D: Disk>(
     gate: u32,
     head: &mut [u8; 5],
 ) -> Result<usize, Failed>
-    requires chunk { IsTrue (D.tells disk.old) → IsChunk chunk.old.bytes.items chunk.old.at chunk.old.filled (D.moments disk.old).now.read }
+    requires chunk { IsTrue (is_told (D.shown disk.old)) → IsChunk chunk.old.bytes.items chunk.old.at chunk.old.filled (told_moments (D.shown disk.old)).now.read }
     ensures count { IfOk result (λ n. n ≤ 5) }
-    ensures bytes { IfOk result (λ n. IsTrue (D.tells disk.new)
-        → (n ≡ min 5 (length (D.moments disk.old).now.read - gate))
-        × (take n head.new ≡ take n (drop gate (D.moments disk.old).now.read))) }
-    ensures chunk { OnOk result (IsTrue (D.tells disk.new) → IsChunk chunk.new.bytes.items chunk.new.at chunk.new.filled (D.moments disk.old).now.read) }
-    ensures reads { OnlyReads D.tells D.moments disk.old disk.new }
-    ensures cause { HasCause (D.faults disk.old) (D.faults disk.new) result }
+    ensures bytes { IfOk result (λ n. IsTrue (is_told (D.shown disk.new))
+        → (n ≡ min 5 (length (told_moments (D.shown disk.old)).now.read - gate))
+        × (take n head.new ≡ take n (drop gate (told_moments (D.shown disk.old)).now.read))) }
+    ensures chunk { OnOk result (IsTrue (is_told (D.shown disk.new)) → IsChunk chunk.new.bytes.items chunk.new.at chunk.new.filled (told_moments (D.shown disk.old)).now.read) }
+    ensures reads { OnlyReads D.shown disk.old disk.new }
+    ensures cause { HasCause (D.shown disk.old).faults (D.shown disk.new).faults result }
 {
     if chunk.has(gate) {
         return Ok(chunk.copy(gate, head));

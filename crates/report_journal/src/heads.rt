@@ -1,5 +1,6 @@
 //! What stands at a gate.
-ghost use Rattle.std.specs.Prelude.{◌≡◌, ◌+◌, ◌≤◌, ℕ, length, IsTrue, IfOk, OnOk};
+ghost use Rattle.std.specs.Prelude.{◌≡◌, ◌+◌, ◌-◌, ◌^◌, ◌≤◌, ◌↔◌, ℕ, length, take, drop, min, IsTrue, IfOk, OnOk};
+ghost use Rattle.house_io.specs.Disks.{is_told, told_moments};
 ghost use Rattle.house_io.specs.Faults.{HasCause};
 ghost use Rattle.lot_base.specs.declared.limits.TheConstants.{GREATEST_PAYLOAD, GREATEST_FILE};
 ghost use Rattle.report_journal.specs.Calls.{OnlyReads, CountsReading};
@@ -21,24 +22,75 @@ pub enum Next {
     Damaged,
 }
 
+/// Whether the file has bytes up to this offset. Of a file that another process writes to no size is the last one: where the one
+/// that is known does not suffice it is asked again.
+fn reaches<D: Disk>(disk: &mut D, known: &mut u64, end: u32) -> Result<bool, Failed>
+    requires { IsTrue (is_told (D.shown disk.old)) → known.old ≤ length (told_moments (D.shown disk.old)).now.read }
+    ensures known { OnOk result (IsTrue (is_told (D.shown disk.new)) → known.new ≤ length (told_moments (D.shown disk.old)).now.read) }
+    ensures reaches { IfOk result (λ does. IsTrue (is_told (D.shown disk.new)) → (IsTrue does ↔ end ≤ length (told_moments (D.shown disk.old)).now.read)) }
+    ensures reads { OnlyReads D.shown disk.old disk.new }
+    ensures cause { HasCause (D.shown disk.old).faults (D.shown disk.new).faults result }
+{
+    let end = end as u64;
+    if end <= *known {
+        return Ok(true);
+    }
+    match disk.size() {
+        Ok(size) => {
+            *known = size;
+            Ok(end <= size)
+        }
+        Err(Failed) => Err(Failed),
+    }
+}
+
+/// The bytes at a gate, as `read_head` has them. Where it is open and they are fewer than five, and the file has more by now, they
+/// are read again: its writer puts a record there before it opens the gate.
+fn read_whole_head<D: Disk>(
+    disk: &mut D,
+    chunk: &mut Chunk,
+    known: &mut u64,
+    gate: u32,
+    head: &mut [u8; 5],
+) -> Result<usize, Failed>
+    requires room { gate + 6 ≤ 2 ^ 32 }
+    requires file { IsTrue (is_told (D.shown disk.old)) → (known.old ≤ length (told_moments (D.shown disk.old)).now.read)
+        × IsChunk chunk.old.bytes.items chunk.old.at chunk.old.filled (told_moments (D.shown disk.old)).now.read }
+    ensures count { IfOk result (λ n. n ≤ 5) }
+    ensures bytes { IfOk result (λ n. IsTrue (is_told (D.shown disk.new))
+        → (n ≡ min 5 (length (told_moments (D.shown disk.old)).now.read - gate))
+        × (take n head.new ≡ take n (drop gate (told_moments (D.shown disk.old)).now.read))) }
+    ensures chunk { OnOk result (IsTrue (is_told (D.shown disk.new)) → (known.new ≤ length (told_moments (D.shown disk.old)).now.read)
+        × IsChunk chunk.new.bytes.items chunk.new.at chunk.new.filled (told_moments (D.shown disk.old)).now.read) }
+    ensures reads { OnlyReads D.shown disk.old disk.new }
+    ensures cause { HasCause (D.shown disk.old).faults (D.shown disk.new).faults result }
+{
+    let count = read_head(disk, chunk, gate, head)?;
+    if count == 0 || count == 5 || head[0] != OPEN || !reaches(disk, known, gate + 5)? {
+        return Ok(count);
+    }
+    read_head(disk, chunk, gate, head)
+}
+
 /// What stands at the gate.
 pub fn next_record<D: Disk>(
     disk: &mut D,
     chunk: &mut Chunk,
+    known: &mut u64,
     gate: u32,
-    size: u64,
 ) -> Result<Next, Failed>
     requires room { gate + 1 ≤ GREATEST_FILE }
-    requires file { IsTrue (D.tells disk.old) → (size ≡ length (D.moments disk.old).now.read)
-        × IsChunk chunk.old.bytes.items chunk.old.at chunk.old.filled (D.moments disk.old).now.read }
-    ensures found { IfOk result (λ next. IsTrue (D.tells disk.new) → IsNext next gate (D.moments disk.old).now.read) }
+    requires file { IsTrue (is_told (D.shown disk.old)) → (known.old ≤ length (told_moments (D.shown disk.old)).now.read)
+        × IsChunk chunk.old.bytes.items chunk.old.at chunk.old.filled (told_moments (D.shown disk.old)).now.read }
+    ensures found { IfOk result (λ next. IsTrue (is_told (D.shown disk.new)) → IsNext next gate (told_moments (D.shown disk.old)).now.read) }
     ensures limits { (n : ℕ) → result ≡ Ok (Next.Record n) → (n ≤ GREATEST_PAYLOAD) × (gate + 6 + n ≤ GREATEST_FILE) }
-    ensures chunk { OnOk result (IsTrue (D.tells disk.new) → IsChunk chunk.new.bytes.items chunk.new.at chunk.new.filled (D.moments disk.old).now.read) }
-    ensures reads { OnlyReads D.tells D.moments disk.old disk.new }
-    ensures cause { HasCause (D.faults disk.old) (D.faults disk.new) result }
+    ensures chunk { OnOk result (IsTrue (is_told (D.shown disk.new)) → (known.new ≤ length (told_moments (D.shown disk.old)).now.read)
+        × IsChunk chunk.new.bytes.items chunk.new.at chunk.new.filled (told_moments (D.shown disk.old)).now.read) }
+    ensures reads { OnlyReads D.shown disk.old disk.new }
+    ensures cause { HasCause (D.shown disk.old).faults (D.shown disk.new).faults result }
 {
     let mut bytes = [0; 5];
-    let count = read_head(disk, chunk, gate, &mut bytes)?;
+    let count = read_whole_head(disk, chunk, known, gate, &mut bytes)?;
     if count == 0 || bytes[0] != OPEN {
         return Ok(Next::Closed);
     }
@@ -50,7 +102,10 @@ pub fn next_record<D: Disk>(
         return Ok(Next::Damaged);
     }
     let end = gate + 6 + length;
-    if end > GREATEST_FILE || (end as u64) > size {
+    if end > GREATEST_FILE {
+        return Ok(Next::Damaged);
+    }
+    if !reaches(disk, known, end)? {
         return Ok(Next::Damaged);
     }
     Ok(Next::Record(length))
@@ -68,26 +123,23 @@ pub struct Found {
 }
 
 /// Reads records from the first gate on, up to a closed gate, or to an open one with no record.
-pub fn read_records<D: Disk>(
-    alloc: Global,
-    disk: &mut D,
-    size: u64,
-    first: u32,
-) -> Result<Found, JournalFault>
-    requires file { IsTrue (D.tells disk.old) → (size ≡ length (D.moments disk.old).now.read) × (first + 1 ≤ length (D.moments disk.old).now.read) }
+pub fn read_records<D: Disk>(alloc: Global, disk: &mut D, first: u32) -> Result<Found, JournalFault>
+    requires file { IsTrue (is_told (D.shown disk.old)) → first + 1 ≤ length (told_moments (D.shown disk.old)).now.read }
     requires limit { first + 1 ≤ GREATEST_FILE }
-    ensures found { IfOk result (λ found. IsTrue (D.tells disk.new)
-        → AreRead first found.places.items found.gate (D.moments disk.old).now.read
-        × IsEndOfList found.closed found.gate (D.moments disk.old).now.read) }
+    ensures found { IfOk result (λ found. IsTrue (is_told (D.shown disk.new))
+        → AreRead first found.places.items found.gate (told_moments (D.shown disk.old)).now.read
+        × IsEndOfList found.closed found.gate (told_moments (D.shown disk.old)).now.read) }
     ensures places { IfOk result (λ found. FollowTo first found.places.items found.gate) }
-    ensures reads { OnlyReads D.tells D.moments disk.old disk.new }
-    ensures faults { CountsReading (D.faults disk.old) (D.faults disk.new) result }
+    ensures reads { OnlyReads D.shown disk.old disk.new }
+    ensures faults { CountsReading (D.shown disk.old).faults (D.shown disk.new).faults result }
 {
     let mut chunk = Chunk::new(alloc)?;
     let mut places = Vec::new(alloc);
+    // How many bytes the file is known to have.
+    let mut known = 0;
     let mut gate = first;
     'records: loop {
-        match next_record(disk, &mut chunk, gate, size)? {
+        match next_record(disk, &mut chunk, &mut known, gate)? {
             Next::Closed => {
                 return Ok(Found {
                     places,

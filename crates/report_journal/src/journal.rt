@@ -1,5 +1,6 @@
 //! A journal of payloads, each on the disk before it is acknowledged.
 ghost use Rattle.std.specs.Prelude.{◌≡◌, ℕ, ◌+◌, ◌-◌, ◌≤◌, ◌<◌, ◌↔◌, ◌++◌, List, [], ◌∷◌, length, vec_len, vec_capacity, slice_get, max, IsTrue, IfOk, OnOk, OnErr, IfErr, IfSome, None, Some};
+ghost use Rattle.house_io.specs.Disks.{is_told, told_moments, IsLater};
 ghost use Rattle.house_io.specs.Moments.{IsSettled};
 ghost use Rattle.lot_base.specs.declared.limits.TheConstants.{GREATEST_PAYLOAD, GREATEST_FILE};
 ghost use Rattle.report_journal.specs.Calls.{OnlyReads, CountsFaults, CountsReading, Appends, Writes, IsReady, Mends, MendEnds, MendLeaves, KeepsAll, Forms, FailsToForm, Attaches};
@@ -15,7 +16,7 @@ use crate::hints::{Hint, NoHint};
 use crate::places::Place;
 use crate::scanning::Scanned;
 use crate::spellings::{LONGEST_RECORD, begins_with_record, fill_record};
-use crate::steps::{form_file, is_open_now, put_record};
+use crate::steps::{form_file, put_record, settle_gate};
 use house_io::{Disk, Failed};
 use lot_base::NoMemory;
 use lot_base::limits::GREATEST_FILE;
@@ -48,13 +49,14 @@ pub struct Journal<D: Disk> {
 
 impl<D: Disk> Model for Journal<D> {
     ghost use Rattle.std.specs.Prelude.{vec_capacity, IsTrue};
+    ghost use Rattle.house_io.specs.Disks.{is_told, told_moments};
     ghost use Rattle.report_journal.specs.Journals.{JournalOf, said, in_doubt, IsWithin, IsKept, LiesAhead};
 
     ghost Value = { JournalOf D };
 
     ghost view = { λ j. record {
       disk = j.disk;
-      contents = said j.header j.places.items (D.moments j.disk).now.read;
+      contents = said j.header j.places.items (told_moments (D.shown j.disk)).now.read;
       places = j.places.items;
       end = j.end;
       pending = in_doubt j.buffer.items j.pending;
@@ -63,9 +65,10 @@ impl<D: Disk> Model for Journal<D> {
     } };
 
     ghost invariant = { λ j. IsWithin j.header j.places.items j.end j.spare j.buffer.items (vec_capacity j.places) (vec_capacity j.buffer) j.pending
-        × (IsTrue (D.tells j.disk) → IsKept (said j.header j.places.items (D.moments j.disk).now.read)
-        j.places.items j.end (in_doubt j.buffer.items j.pending) (D.moments j.disk)
-        × LiesAhead j.ahead j.buffer.items j.end (D.moments j.disk).now.read) };
+        × (IsTrue (is_told (D.shown j.disk)) → IsKept (said j.header j.places.items (told_moments (D.shown j.disk)).now.read)
+        j.places.items j.end (in_doubt j.buffer.items j.pending) (told_moments (D.shown j.disk))
+        × LiesAhead j.ahead j.buffer.items j.end (told_moments (D.shown j.disk)).now.read)
+        × IsTrue (D.shown j.disk).claimed };
 }
 
 impl<D: Disk> Journal<D> {
@@ -74,8 +77,9 @@ impl<D: Disk> Journal<D> {
         ensures payloads { result ≡ length self.now.contents.payloads }
         ensures places { result ≡ length self.now.places }
         // What the type keeps.
-        ensures kept { IsTrue (D.tells self.now.disk)
-            → IsKept self.now.contents self.now.places self.now.end self.now.pending (D.moments self.now.disk) }
+        ensures kept { IsTrue (is_told (D.shown self.now.disk))
+            → IsKept self.now.contents self.now.places self.now.end self.now.pending (told_moments (D.shown self.now.disk)) }
+        ensures claimed { IsTrue (D.shown self.now.disk).claimed }
         ensures limit { self.now.end + 1 ≤ GREATEST_FILE }
         ensures header { IsHeader self.now.contents.header }
     {
@@ -123,9 +127,9 @@ impl<D: Disk> Journal<D> {
     pub fn append(&mut self, alloc: Global, payload: &[u8]) -> Result<u32, JournalFault>
         requires { length payload.now ≤ GREATEST_PAYLOAD }
         ensures answer { Appends payload.now self.old self.new result }
-        ensures writes { Writes D.tells D.moments payload.now [] self.old self.new result }
-        ensures tells { IsTrue (D.tells self.new.disk) → IsTrue (D.tells self.old.disk) }
-        ensures faults { CountsFaults (D.faults self.old.disk) (D.faults self.new.disk) result }
+        ensures writes { Writes D.shown payload.now [] self.old self.new result }
+        ensures later { IsLater (D.shown self.old.disk) (D.shown self.new.disk) }
+        ensures faults { CountsFaults (D.shown self.old.disk).faults (D.shown self.new.disk).faults result }
     {
         self.append_hinted(alloc, payload, &NoHint)
     }
@@ -142,9 +146,9 @@ impl<D: Disk> Journal<D> {
     ) -> Result<u32, JournalFault>
         requires { length payload.now ≤ GREATEST_PAYLOAD }
         ensures answer { Appends payload.now self.old self.new result }
-        ensures writes { (next : List ℕ) × IsAsked (H.says hint.now) next result × Writes D.tells D.moments payload.now next self.old self.new result }
-        ensures tells { IsTrue (D.tells self.new.disk) → IsTrue (D.tells self.old.disk) }
-        ensures faults { CountsFaults (D.faults self.old.disk) (D.faults self.new.disk) result }
+        ensures writes { (next : List ℕ) × IsAsked (H.says hint.now) next result × Writes D.shown payload.now next self.old self.new result }
+        ensures later { IsLater (D.shown self.old.disk) (D.shown self.new.disk) }
+        ensures faults { CountsFaults (D.shown self.old.disk).faults (D.shown self.new.disk).faults result }
     {
         if self.pending.is_some() {
             return Err(JournalFault::NotMended);
@@ -165,9 +169,9 @@ impl<D: Disk> Journal<D> {
         requires ready { IsReady payload.now self.old }
         requires spare { 1 ≤ self.old.spare }
         ensures answer { Appends payload.now self.old self.new result }
-        ensures writes { (next : List ℕ) × IsAsked (H.says hint.now) next result × Writes D.tells D.moments payload.now next self.old self.new result }
-        ensures tells { IsTrue (D.tells self.new.disk) → IsTrue (D.tells self.old.disk) }
-        ensures faults { CountsFaults (D.faults self.old.disk) (D.faults self.new.disk) result }
+        ensures writes { (next : List ℕ) × IsAsked (H.says hint.now) next result × Writes D.shown payload.now next self.old self.new result }
+        ensures later { IsLater (D.shown self.old.disk) (D.shown self.new.disk) }
+        ensures faults { CountsFaults (D.shown self.old.disk).faults (D.shown self.new.disk).faults result }
     {
         let size = payload.len() as u32;
         let lies_there = is_ahead(&self.buffer, self.ahead, payload);
@@ -204,21 +208,23 @@ impl<D: Disk> Journal<D> {
 }
 
 impl<D: Disk> Journal<D> {
-    /// Counts or drops the record in doubt: it counts where its gate is open after a sync. Takes no memory.
+    /// Counts or drops the record in doubt: it counts where its gate is open after a sync, and is opened once more. Takes no memory.
     pub fn mend(&mut self) -> Result<Mended, JournalFault>
         ensures answer { Mends self.old self.new result }
         ensures laid { self.new.laid ≡ self.old.laid }
-        ensures end { IsTrue (D.tells self.new.disk) → MendEnds self.old.pending self.old.contents self.new.contents self.old.end
-            (D.moments self.old.disk) (D.moments self.new.disk) result }
-        ensures moments { IsTrue (D.tells self.new.disk)
-            → MendLeaves self.old.pending self.old.contents (D.moments self.old.disk) (D.moments self.new.disk) }
-        ensures tells { IsTrue (D.tells self.new.disk) → IsTrue (D.tells self.old.disk) }
-        ensures faults { CountsFaults (D.faults self.old.disk) (D.faults self.new.disk) result }
+        ensures end { IsTrue (is_told (D.shown self.new.disk)) → MendEnds self.old.pending self.old.contents self.new.contents self.old.end
+            (told_moments (D.shown self.old.disk)) (told_moments (D.shown self.new.disk)) result }
+        ensures moments { IsTrue (is_told (D.shown self.new.disk))
+            → MendLeaves self.old.pending self.old.contents self.old.end (told_moments (D.shown self.old.disk)) (told_moments (D.shown self.new.disk)) }
+        ensures later { IsLater (D.shown self.old.disk) (D.shown self.new.disk) }
+        ensures faults { CountsFaults (D.shown self.old.disk).faults (D.shown self.new.disk).faults result }
     {
         let Some(length) = self.pending else {
             return Ok(Mended::Nothing);
         };
-        match is_open_now(&mut self.disk, self.end as u64) {
+        // What lies behind the gate may not be on the disk either.
+        self.ahead = None;
+        match settle_gate(&mut self.disk, self.end as u64) {
             Err(Failed) => Err(JournalFault::DiskFault),
             Ok(false) => {
                 self.pending = None;
@@ -232,7 +238,6 @@ impl<D: Disk> Journal<D> {
                 };
                 push_reserved(&mut self.places, place);
                 self.end = self.end + 5 + length;
-                self.ahead = None;
                 self.pending = None;
                 Ok(Mended::Counted)
             }
@@ -244,12 +249,12 @@ impl<D: Disk> Journal<D> {
     /// The payload of this number, from 1.
     pub fn payload(&mut self, alloc: Global, number: u32) -> Result<Vec<u8>, JournalFault>
         requires { (1 ≤ number) × (number ≤ length self.old.contents.payloads) }
-        ensures payload { IfOk result (λ payload. IsTrue (D.tells self.new.disk)
+        ensures payload { IfOk result (λ payload. IsTrue (is_told (D.shown self.new.disk))
             → slice_get self.old.contents.payloads (number - 1) ≡ Some payload.items) }
         ensures long { IfOk result (λ payload. IfSome (slice_get self.old.places (number - 1)) (λ place. length payload.items ≡ place.length)) }
-        ensures keeps { KeepsAll D.tells self.old self.new }
-        ensures reads { OnlyReads D.tells D.moments self.old.disk self.new.disk }
-        ensures faults { CountsReading (D.faults self.old.disk) (D.faults self.new.disk) result }
+        ensures keeps { KeepsAll D.shown self.old self.new }
+        ensures reads { OnlyReads D.shown self.old.disk self.new.disk }
+        ensures faults { CountsReading (D.shown self.old.disk).faults (D.shown self.new.disk).faults result }
     {
         let place = self.places[number as usize - 1];
         read_payload(alloc, &mut self.disk, place)
@@ -259,10 +264,11 @@ impl<D: Disk> Journal<D> {
 impl<D: Disk> Journal<D> {
     /// The journal that a scan found. Takes no memory.
     pub fn attach(disk: D, scan: Scanned) -> Journal<D>
+        requires claimed { IsTrue (D.shown disk).claimed }
         requires formed { IsFormed scan }
         requires in_order { IsInOrder scan }
-        requires scanned { IsTrue (D.tells disk) → IsSettled (D.moments disk).now × IsScan scan (D.moments disk).now.read }
-        ensures { Attaches D.moments disk scan result }
+        requires scanned { IsTrue (is_told (D.shown disk)) → IsSettled (told_moments (D.shown disk)).now × IsScan scan (told_moments (D.shown disk)).now.read }
+        ensures { Attaches D.shown disk scan result }
     {
         let Scanned::Formed {
             header,
@@ -289,10 +295,11 @@ impl<D: Disk> Journal<D> {
 
     /// Forms an unformed file. Its memory is taken before the first write.
     pub fn form(alloc: Global, disk: D, header: &Header) -> Result<Journal<D>, NotFormed<D>>
+        requires claimed { IsTrue (D.shown disk).claimed }
         requires header { IsHeader header.now }
-        requires unformed { IsTrue (D.tells disk) → IsSettled (D.moments disk).now × IsUnformed (D.moments disk).now.read }
-        ensures ok { IfOk result (λ j. Forms D.tells D.moments D.faults header.now disk j) }
-        ensures err { IfErr result (λ e. FailsToForm D.tells D.moments D.faults header.now disk e.disk e.fault) }
+        requires unformed { IsTrue (is_told (D.shown disk)) → IsSettled (told_moments (D.shown disk)).now × IsUnformed (told_moments (D.shown disk)).now.read }
+        ensures ok { IfOk result (λ j. Forms D.shown header.now disk j) }
+        ensures err { IfErr result (λ e. FailsToForm D.shown header.now disk e.disk e.fault) }
     {
         let Ok(bytes) = head_bytes(alloc, header) else {
             return Err(NotFormed {
@@ -371,11 +378,11 @@ pub fn read_payload<D: Disk>(
     place: Place,
 ) -> Result<Vec<u8>, JournalFault>
     ensures long { IfOk result (λ payload. length payload.items ≡ place.length) }
-    ensures payload { IfOk result (λ payload. IsTrue (D.tells disk.new)
-        → length (payload_at (D.moments disk.old).now.read place) ≡ place.length
-        → payload.items ≡ payload_at (D.moments disk.old).now.read place) }
-    ensures reads { OnlyReads D.tells D.moments disk.old disk.new }
-    ensures faults { CountsReading (D.faults disk.old) (D.faults disk.new) result }
+    ensures payload { IfOk result (λ payload. IsTrue (is_told (D.shown disk.new))
+        → length (payload_at (told_moments (D.shown disk.old)).now.read place) ≡ place.length
+        → payload.items ≡ payload_at (told_moments (D.shown disk.old)).now.read place) }
+    ensures reads { OnlyReads D.shown disk.old disk.new }
+    ensures faults { CountsReading (D.shown disk.old).faults (D.shown disk.new).faults result }
 {
     let mut payload = vec![in alloc; 0; place.length as usize]?;
     disk.read_at(place.at as u64, &mut payload)?;

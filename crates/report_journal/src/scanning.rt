@@ -1,10 +1,12 @@
 //! A journal's file, read whole.
-ghost use Rattle.std.specs.Prelude.{IsTrue, IfOk};
+ghost use Rattle.std.specs.Prelude.{◌≡◌, ◌≤◌, length, take, min, IsTrue, IfOk};
+ghost use Rattle.house_io.specs.Disks.{is_told, told_moments, IsLater};
 ghost use Rattle.house_io.specs.Faults.{HasCause};
 ghost use Rattle.report_journal.specs.Calls.{OnlyReads, CountsReading, IsSyncedBy};
 ghost use Rattle.report_journal.specs.Format.{IsHeader};
 ghost use Rattle.report_journal.specs.Fronts.{HasHeader, IsFront, IsFrontInOrder};
 ghost use Rattle.report_journal.specs.Scans.{IsScan, IsInOrder};
+ghost use Rattle.report_journal.specs.declared.scanning.TheConstants.{LONGEST_FRONT};
 
 use crate::faults::JournalFault;
 use crate::headers::{Header, read_header, unread_header};
@@ -46,15 +48,31 @@ enum Front {
 /// The bytes of the longest header, with the gates before and after it.
 const LONGEST_FRONT: usize = SHORTEST_FORMED + 2 + 4 * MOST_GOODS;
 
+/// Fills a front of the buffer from the file's beginning. Where the file ended there and has more by now, it is read again.
+fn read_first<D: Disk>(disk: &mut D, into: &mut [u8; LONGEST_FRONT]) -> Result<usize, Failed>
+    ensures count { IfOk result (λ n. n ≤ LONGEST_FRONT) }
+    ensures bytes { IfOk result (λ n. IsTrue (is_told (D.shown disk.new))
+        → (n ≡ min LONGEST_FRONT (length (told_moments (D.shown disk.old)).now.read))
+        × (take n into.new ≡ take n (told_moments (D.shown disk.old)).now.read)) }
+    ensures reads { OnlyReads D.shown disk.old disk.new }
+    ensures cause { HasCause (D.shown disk.old).faults (D.shown disk.new).faults result }
+{
+    let count = disk.read_at(0, into)?;
+    if count == LONGEST_FRONT || disk.size()? == count as u64 {
+        return Ok(count);
+    }
+    disk.read_at(0, into)
+}
+
 /// Reads the front of the file.
 fn read_front<D: Disk>(disk: &mut D) -> Result<Front, Failed>
-    ensures front { IfOk result (λ front. IsTrue (D.tells disk.new) → IsFront front (D.moments disk.old).now.read) }
+    ensures front { IfOk result (λ front. IsTrue (is_told (D.shown disk.new)) → IsFront front (told_moments (D.shown disk.old)).now.read) }
     ensures in_order { IfOk result IsFrontInOrder }
-    ensures reads { OnlyReads D.tells D.moments disk.old disk.new }
-    ensures cause { HasCause (D.faults disk.old) (D.faults disk.new) result }
+    ensures reads { OnlyReads D.shown disk.old disk.new }
+    ensures cause { HasCause (D.shown disk.old).faults (D.shown disk.new).faults result }
 {
     let mut bytes = [0; LONGEST_FRONT];
-    let count = disk.read_at(0, &mut bytes)?;
+    let count = read_first(disk, &mut bytes)?;
     if count < SHORTEST_FORMED || bytes[0] != OPEN {
         return Ok(Front::Unformed);
     }
@@ -72,14 +90,13 @@ fn scan_records<D: Disk>(
     header: Header,
 ) -> Result<Scanned, JournalFault>
     requires header { IsHeader header }
-    requires has_it { IsTrue (D.tells disk.old) → HasHeader header (D.moments disk.old).now.read }
-    ensures found { IfOk result (λ s. IsTrue (D.tells disk.new) → IsScan s (D.moments disk.old).now.read) }
+    requires has_it { IsTrue (is_told (D.shown disk.old)) → HasHeader header (told_moments (D.shown disk.old)).now.read }
+    ensures found { IfOk result (λ s. IsTrue (is_told (D.shown disk.new)) → IsScan s (told_moments (D.shown disk.old)).now.read) }
     ensures in_order { IfOk result IsInOrder }
-    ensures reads { OnlyReads D.tells D.moments disk.old disk.new }
-    ensures faults { CountsReading (D.faults disk.old) (D.faults disk.new) result }
+    ensures reads { OnlyReads D.shown disk.old disk.new }
+    ensures faults { CountsReading (D.shown disk.old).faults (D.shown disk.new).faults result }
 {
-    let size = disk.size()?;
-    let found = read_records(alloc, disk, size, header.first_gate())?;
+    let found = read_records(alloc, disk, header.first_gate())?;
     let number = found.places.len() as u32 + 1;
     let records = Places::from_vec(found.places);
     if found.closed {
@@ -100,11 +117,11 @@ fn scan_records<D: Disk>(
 /// Reads what a journal's file is. It syncs first, and changes no byte. Its memory is in proportion to the number of
 /// records.
 pub fn scan<D: Disk>(alloc: Global, disk: &mut D) -> Result<Scanned, JournalFault>
-    ensures found { IfOk result (λ s. IsTrue (D.tells disk.new) → IsScan s (D.moments disk.old).now.read) }
+    ensures found { IfOk result (λ s. IsTrue (is_told (D.shown disk.new)) → IsScan s (told_moments (D.shown disk.old)).now.read) }
     ensures in_order { IfOk result IsInOrder }
-    ensures synced { IsTrue (D.tells disk.new) → IsSyncedBy result (D.moments disk.old) (D.moments disk.new) }
-    ensures tells { IsTrue (D.tells disk.new) → IsTrue (D.tells disk.old) }
-    ensures faults { CountsReading (D.faults disk.old) (D.faults disk.new) result }
+    ensures synced { IsTrue (is_told (D.shown disk.new)) → IsSyncedBy result (told_moments (D.shown disk.old)) (told_moments (D.shown disk.new)) }
+    ensures later { IsLater (D.shown disk.old) (D.shown disk.new) }
+    ensures faults { CountsReading (D.shown disk.old).faults (D.shown disk.new).faults result }
 {
     disk.sync()?;
     match read_front(disk)? {

@@ -1,11 +1,12 @@
 //! The steps of a journal's calls on its disk: each writes a piece and syncs it.
 ghost use Rattle.std.specs.Prelude.{◌≡◌, ℕ, ◌+◌, ◌^◌, ◌<◌, ◌≤◌, ◌↔◌, ◌⊎◌, List, [], ◌∷◌, ◌++◌, length, drop, vec_capacity, slice_index, IsTrue, IfOk, OnOk};
+ghost use Rattle.house_io.specs.Disks.{is_told, told_moments, IsLater};
 ghost use Rattle.house_io.specs.Faults.{HasCause};
 ghost use Rattle.lot_base.specs.declared.limits.TheConstants.{GREATEST_PAYLOAD, GREATEST_FILE};
-ghost use Rattle.house_io.specs.Moments.{settled, IsSettled, overlaid, Torn, AtEach};
+ghost use Rattle.house_io.specs.Moments.{settled, IsSettled, overlaid, synced_at, Torn, AtEach};
 ghost use Rattle.report_journal.specs.Format.{Contents, StandsFor, IsUnformed, body};
 ghost use Rattle.report_journal.specs.Padding.{put_of};
-ghost use Rattle.report_journal.specs.Puts.{IsSettledTo, HasRecord, LieAt, Opens, IsAsked, TornTwice, IsStage, empty, IsUnformedOrEmpty, IsShut, IsHead, IsSynced};
+ghost use Rattle.report_journal.specs.Puts.{IsSettledTo, HasRecord, LieAt, Opens, IsAsked, TornTwice, IsStage, empty, IsUnformedOrEmpty, IsShut, IsHead, IsSynced, IsReopened};
 ghost use Rattle.report_journal.specs.declared.headers.Header.{Header};
 ghost use Rattle.report_journal.specs.declared.spellings.TheConstants.{OPEN, LONGEST_RECORD};
 
@@ -15,13 +16,14 @@ use house_io::{Disk, Failed};
 
 /// Writes and syncs.
 pub fn write_synced<D: Disk>(disk: &mut D, at: u64, bytes: &[u8]) -> Result<(), Failed>
-    requires { IsTrue (D.tells disk.old) → IsSettledTo at (D.moments disk.old).now }
-    ensures done { OnOk result (IsTrue (D.tells disk.new)
-        → (D.moments disk.new).now ≡ settled (overlaid (D.moments disk.old).now.read at bytes.now)) }
-    ensures moments { IsTrue (D.tells disk.new)
-        → AtEach (Torn at (length bytes.now) (D.moments disk.old).now.read) (D.moments disk.old) (D.moments disk.new) }
-    ensures tells { IsTrue (D.tells disk.new) → IsTrue (D.tells disk.old) }
-    ensures cause { HasCause (D.faults disk.old) (D.faults disk.new) result }
+    requires claimed { IsTrue (D.shown disk.old).claimed }
+    requires file { IsTrue (is_told (D.shown disk.old)) → IsSettledTo at (told_moments (D.shown disk.old)).now }
+    ensures done { OnOk result (IsTrue (is_told (D.shown disk.new))
+        → (told_moments (D.shown disk.new)).now ≡ settled (overlaid (told_moments (D.shown disk.old)).now.read at bytes.now)) }
+    ensures moments { IsTrue (is_told (D.shown disk.new))
+        → AtEach (Torn at (length bytes.now) (told_moments (D.shown disk.old)).now.read) (told_moments (D.shown disk.old)) (told_moments (D.shown disk.new)) }
+    ensures later { IsLater (D.shown disk.old) (D.shown disk.new) }
+    ensures cause { HasCause (D.shown disk.old).faults (D.shown disk.new).faults result }
 {
     // The sync comes after the write and before the answer: without it a crash could take back what a caller goes on to
     // acknowledge (must-fail/acknowledged_before_the_sync.edit).
@@ -32,16 +34,17 @@ pub fn write_synced<D: Disk>(disk: &mut D, at: u64, bytes: &[u8]) -> Result<(), 
 
 /// Writes the bytes after the closed gate, and then opens the gate.
 fn put_after_gate<D: Disk>(disk: &mut D, gate: u64, bytes: &[u8]) -> Result<(), Failed>
+    requires claimed { IsTrue (D.shown disk.old).claimed }
     requires room { gate < 2 ^ 63 }
-    requires file { IsTrue (D.tells disk.old) → IsSettledTo (gate + 1) (D.moments disk.old).now }
-    ensures done { OnOk result (IsTrue (D.tells disk.new)
-        → (D.moments disk.new).now ≡ settled (overlaid (D.moments disk.old).now.read gate (OPEN ∷ bytes.now))) }
-    ensures moments { IsTrue (D.tells disk.new)
-        → AtEach (IsStage gate bytes.now (D.moments disk.old).now.read) (D.moments disk.old) (D.moments disk.new) }
-    ensures range { IsTrue (D.tells disk.new)
-        → AtEach (Torn gate (1 + length bytes.now) (D.moments disk.old).now.read) (D.moments disk.old) (D.moments disk.new) }
-    ensures tells { IsTrue (D.tells disk.new) → IsTrue (D.tells disk.old) }
-    ensures cause { HasCause (D.faults disk.old) (D.faults disk.new) result }
+    requires file { IsTrue (is_told (D.shown disk.old)) → IsSettledTo (gate + 1) (told_moments (D.shown disk.old)).now }
+    ensures done { OnOk result (IsTrue (is_told (D.shown disk.new))
+        → (told_moments (D.shown disk.new)).now ≡ settled (overlaid (told_moments (D.shown disk.old)).now.read gate (OPEN ∷ bytes.now))) }
+    ensures moments { IsTrue (is_told (D.shown disk.new))
+        → AtEach (IsStage gate bytes.now (told_moments (D.shown disk.old)).now.read) (told_moments (D.shown disk.old)) (told_moments (D.shown disk.new)) }
+    ensures range { IsTrue (is_told (D.shown disk.new))
+        → AtEach (Torn gate (1 + length bytes.now) (told_moments (D.shown disk.old)).now.read) (told_moments (D.shown disk.old)) (told_moments (D.shown disk.new)) }
+    ensures later { IsLater (D.shown disk.old) (D.shown disk.new) }
+    ensures cause { HasCause (D.shown disk.old).faults (D.shown disk.new).faults result }
 {
     // The bytes are on the disk before the gate is open, as those of a record are: the other way round a crash could leave an open gate, and
     // after it no header.
@@ -56,15 +59,16 @@ fn write_record<D: Disk>(
     bytes: &[u8],
     lies_there: bool,
 ) -> Result<(), Failed>
+    requires claimed { IsTrue (D.shown disk.old).claimed }
     requires room { gate < 2 ^ 63 }
-    requires file { IsTrue (D.tells disk.old) → IsSettledTo (gate + 1) (D.moments disk.old).now }
-    requires there { IsTrue lies_there → IsTrue (D.tells disk.old) → LieAt (gate + 1) bytes.now (D.moments disk.old).now.read }
-    ensures done { OnOk result (IsTrue (D.tells disk.new)
-        → (D.moments disk.new).now ≡ settled (overlaid (D.moments disk.old).now.read (gate + 1) bytes.now)) }
-    ensures moments { IsTrue (D.tells disk.new)
-        → AtEach (Torn (gate + 1) (length bytes.now) (D.moments disk.old).now.read) (D.moments disk.old) (D.moments disk.new) }
-    ensures tells { IsTrue (D.tells disk.new) → IsTrue (D.tells disk.old) }
-    ensures cause { HasCause (D.faults disk.old) (D.faults disk.new) result }
+    requires file { IsTrue (is_told (D.shown disk.old)) → IsSettledTo (gate + 1) (told_moments (D.shown disk.old)).now }
+    requires there { IsTrue lies_there → IsTrue (is_told (D.shown disk.old)) → LieAt (gate + 1) bytes.now (told_moments (D.shown disk.old)).now.read }
+    ensures done { OnOk result (IsTrue (is_told (D.shown disk.new))
+        → (told_moments (D.shown disk.new)).now ≡ settled (overlaid (told_moments (D.shown disk.old)).now.read (gate + 1) bytes.now)) }
+    ensures moments { IsTrue (is_told (D.shown disk.new))
+        → AtEach (Torn (gate + 1) (length bytes.now) (told_moments (D.shown disk.old)).now.read) (told_moments (D.shown disk.old)) (told_moments (D.shown disk.new)) }
+    ensures later { IsLater (D.shown disk.old) (D.shown disk.new) }
+    ensures cause { HasCause (D.shown disk.old).faults (D.shown disk.new).faults result }
 {
     if lies_there {
         return Ok(());
@@ -74,13 +78,14 @@ fn write_record<D: Disk>(
 
 /// Opens the gate, and writes bytes at an offset behind it, if there are any, with one sync.
 fn open_and_lay<D: Disk>(disk: &mut D, gate: u64, from: u64, bytes: &[u8]) -> Result<(), Failed>
-    requires { IsTrue (D.tells disk.old) → IsSettledTo gate (D.moments disk.old).now × IsSettledTo from (D.moments disk.old).now }
-    ensures done { OnOk result (IsTrue (D.tells disk.new)
-        → (D.moments disk.new).now ≡ settled (overlaid (overlaid (D.moments disk.old).now.read gate (OPEN ∷ [])) from bytes.now)) }
-    ensures moments { IsTrue (D.tells disk.new)
-        → AtEach (TornTwice gate 1 from (length bytes.now) (D.moments disk.old).now.read) (D.moments disk.old) (D.moments disk.new) }
-    ensures tells { IsTrue (D.tells disk.new) → IsTrue (D.tells disk.old) }
-    ensures cause { HasCause (D.faults disk.old) (D.faults disk.new) result }
+    requires claimed { IsTrue (D.shown disk.old).claimed }
+    requires file { IsTrue (is_told (D.shown disk.old)) → IsSettledTo gate (told_moments (D.shown disk.old)).now × IsSettledTo from (told_moments (D.shown disk.old)).now }
+    ensures done { OnOk result (IsTrue (is_told (D.shown disk.new))
+        → (told_moments (D.shown disk.new)).now ≡ settled (overlaid (overlaid (told_moments (D.shown disk.old)).now.read gate (OPEN ∷ [])) from bytes.now)) }
+    ensures moments { IsTrue (is_told (D.shown disk.new))
+        → AtEach (TornTwice gate 1 from (length bytes.now) (told_moments (D.shown disk.old)).now.read) (told_moments (D.shown disk.old)) (told_moments (D.shown disk.new)) }
+    ensures later { IsLater (D.shown disk.old) (D.shown disk.new) }
+    ensures cause { HasCause (D.shown disk.old).faults (D.shown disk.new).faults result }
 {
     if bytes.is_empty() {
         return write_synced(disk, gate, &[OPEN]);
@@ -93,13 +98,14 @@ fn open_and_lay<D: Disk>(disk: &mut D, gate: u64, from: u64, bytes: &[u8]) -> Re
 
 /// Opens the gate of a record that lies there, and writes what comes behind it.
 fn open_record<D: Disk>(disk: &mut D, gate: u64, payload: &[u8], bytes: &[u8]) -> Result<(), Failed>
+    requires claimed { IsTrue (D.shown disk.old).claimed }
     requires room { (gate < 2 ^ 63) × (length payload.now ≤ GREATEST_PAYLOAD) }
     requires spelled { HasRecord payload.now bytes.now }
-    requires there { IsTrue (D.tells disk.old)
-        → IsSettledTo (gate + 1) (D.moments disk.old).now × HasRecord payload.now (drop (gate + 1) (D.moments disk.old).now.read) }
-    ensures opens { Opens D.tells D.moments gate payload.now bytes.now disk.old disk.new result }
-    ensures tells { IsTrue (D.tells disk.new) → IsTrue (D.tells disk.old) }
-    ensures cause { HasCause (D.faults disk.old) (D.faults disk.new) result }
+    requires there { IsTrue (is_told (D.shown disk.old))
+        → IsSettledTo (gate + 1) (told_moments (D.shown disk.old)).now × HasRecord payload.now (drop (gate + 1) (told_moments (D.shown disk.old)).now.read) }
+    ensures opens { Opens D.shown gate payload.now bytes.now disk.old disk.new result }
+    ensures later { IsLater (D.shown disk.old) (D.shown disk.new) }
+    ensures cause { HasCause (D.shown disk.old).faults (D.shown disk.new).faults result }
 {
     let size = payload.len() + 5;
     open_and_lay(disk, gate, gate + 1 + size as u64, bytes.split_at(size).1)
@@ -117,16 +123,17 @@ pub fn put_record<D: Disk, H: Hint>(
     lies_there: bool,
     hint: &H,
 ) -> Result<(), Failed>
+    requires claimed { IsTrue (D.shown disk.old).claimed }
     requires fits { (gate + 6 + length payload.now ≤ GREATEST_FILE) × (length payload.now ≤ GREATEST_PAYLOAD) }
     requires buffer { (bytes.old.items ≡ body payload.now ++ 0 ∷ []) × (LONGEST_RECORD ≤ vec_capacity bytes.old) }
-    requires there { IsTrue (D.tells disk.old)
-        → IsSettledTo (gate + 1) (D.moments disk.old).now × (IsTrue lies_there → HasRecord payload.now (drop (gate + 1) (D.moments disk.old).now.read)) }
+    requires there { IsTrue (is_told (D.shown disk.old))
+        → IsSettledTo (gate + 1) (told_moments (D.shown disk.old)).now × (IsTrue lies_there → HasRecord payload.now (drop (gate + 1) (told_moments (D.shown disk.old)).now.read)) }
     ensures puts { (next : List ℕ) × IsAsked (H.says hint.now) next result
         × OnOk result (bytes.new.items ≡ put_of gate laid payload.now next)
-        × Opens D.tells D.moments gate payload.now (put_of gate laid payload.now next) disk.old disk.new result }
+        × Opens D.shown gate payload.now (put_of gate laid payload.now next) disk.old disk.new result }
     ensures buffer { HasRecord payload.now bytes.new.items × (gate + 1 + length bytes.new.items ≤ GREATEST_FILE) × (vec_capacity bytes.old ≤ vec_capacity bytes.new) }
-    ensures tells { IsTrue (D.tells disk.new) → IsTrue (D.tells disk.old) }
-    ensures cause { HasCause (D.faults disk.old) (D.faults disk.new) result }
+    ensures later { IsLater (D.shown disk.old) (D.shown disk.new) }
+    ensures cause { HasCause (D.shown disk.old).faults (D.shown disk.new).faults result }
 {
     // The record is synced before its gate is opened, here or with the gate before it, so that a crash finds an open gate and the whole record,
     // or a closed one. The other way round it could find an open gate and no record (must-fail/gate_first.edit), and before another record an
@@ -139,16 +146,17 @@ pub fn put_record<D: Disk, H: Hint>(
 
 /// Closes the first gate of an unformed file that is too short.
 pub fn shut_gate<D: Disk>(disk: &mut D) -> Result<(), Failed>
-    requires { IsTrue (D.tells disk.old) → IsSettled (D.moments disk.old).now × IsUnformed (D.moments disk.old).now.read }
-    ensures done { OnOk result (IsTrue (D.tells disk.new)
-        → IsSettled (D.moments disk.new).now × IsShut (D.moments disk.new).now.read) }
-    ensures moments { IsTrue (D.tells disk.new) → AtEach IsUnformed (D.moments disk.old) (D.moments disk.new) }
-    ensures written { OnOk result (IsTrue (D.tells disk.new) → ((D.moments disk.new).now.read ≡ (D.moments disk.old).now.read)
-        ⊎ ((D.moments disk.new).now.read ≡ overlaid (D.moments disk.old).now.read 0 (0 ∷ []))) }
-    ensures range { IsTrue (D.tells disk.new)
-        → AtEach (Torn 0 1 (D.moments disk.old).now.read) (D.moments disk.old) (D.moments disk.new) }
-    ensures tells { IsTrue (D.tells disk.new) → IsTrue (D.tells disk.old) }
-    ensures cause { HasCause (D.faults disk.old) (D.faults disk.new) result }
+    requires claimed { IsTrue (D.shown disk.old).claimed }
+    requires file { IsTrue (is_told (D.shown disk.old)) → IsSettled (told_moments (D.shown disk.old)).now × IsUnformed (told_moments (D.shown disk.old)).now.read }
+    ensures done { OnOk result (IsTrue (is_told (D.shown disk.new))
+        → IsSettled (told_moments (D.shown disk.new)).now × IsShut (told_moments (D.shown disk.new)).now.read) }
+    ensures moments { IsTrue (is_told (D.shown disk.new)) → AtEach IsUnformed (told_moments (D.shown disk.old)) (told_moments (D.shown disk.new)) }
+    ensures written { OnOk result (IsTrue (is_told (D.shown disk.new)) → ((told_moments (D.shown disk.new)).now.read ≡ (told_moments (D.shown disk.old)).now.read)
+        ⊎ ((told_moments (D.shown disk.new)).now.read ≡ overlaid (told_moments (D.shown disk.old)).now.read 0 (0 ∷ []))) }
+    ensures range { IsTrue (is_told (D.shown disk.new))
+        → AtEach (Torn 0 1 (told_moments (D.shown disk.old)).now.read) (told_moments (D.shown disk.old)) (told_moments (D.shown disk.new)) }
+    ensures later { IsLater (D.shown disk.old) (D.shown disk.new) }
+    ensures cause { HasCause (D.shown disk.old).faults (D.shown disk.new).faults result }
 {
     if disk.size()? >= SHORTEST_FORMED as u64 {
         return Ok(());
@@ -158,34 +166,36 @@ pub fn shut_gate<D: Disk>(disk: &mut D) -> Result<(), Failed>
 
 /// Writes the header after the closed first gate, and then opens the gate.
 pub fn put_header<D: Disk>(disk: &mut D, bytes: &[u8]) -> Result<(), Failed>
-    requires { IsTrue (D.tells disk.old) → IsSettled (D.moments disk.old).now × IsShut (D.moments disk.old).now.read }
-    ensures formed { OnOk result (IsTrue (D.tells disk.new) → (header : Header)
-        → IsHead header bytes.now → StandsFor (empty header) (D.moments disk.new).now.read) }
-    ensures moments { IsTrue (D.tells disk.new) → (header : Header)
-        → IsHead header bytes.now → AtEach (IsUnformedOrEmpty header) (D.moments disk.old) (D.moments disk.new) }
-    ensures done { OnOk result (IsTrue (D.tells disk.new)
-        → (D.moments disk.new).now ≡ settled (overlaid (D.moments disk.old).now.read 0 (OPEN ∷ bytes.now))) }
-    ensures range { IsTrue (D.tells disk.new)
-        → AtEach (Torn 0 (1 + length bytes.now) (D.moments disk.old).now.read) (D.moments disk.old) (D.moments disk.new) }
-    ensures tells { IsTrue (D.tells disk.new) → IsTrue (D.tells disk.old) }
-    ensures cause { HasCause (D.faults disk.old) (D.faults disk.new) result }
+    requires claimed { IsTrue (D.shown disk.old).claimed }
+    requires file { IsTrue (is_told (D.shown disk.old)) → IsSettled (told_moments (D.shown disk.old)).now × IsShut (told_moments (D.shown disk.old)).now.read }
+    ensures formed { OnOk result (IsTrue (is_told (D.shown disk.new)) → (header : Header)
+        → IsHead header bytes.now → StandsFor (empty header) (told_moments (D.shown disk.new)).now.read) }
+    ensures moments { IsTrue (is_told (D.shown disk.new)) → (header : Header)
+        → IsHead header bytes.now → AtEach (IsUnformedOrEmpty header) (told_moments (D.shown disk.old)) (told_moments (D.shown disk.new)) }
+    ensures done { OnOk result (IsTrue (is_told (D.shown disk.new))
+        → (told_moments (D.shown disk.new)).now ≡ settled (overlaid (told_moments (D.shown disk.old)).now.read 0 (OPEN ∷ bytes.now))) }
+    ensures range { IsTrue (is_told (D.shown disk.new))
+        → AtEach (Torn 0 (1 + length bytes.now) (told_moments (D.shown disk.old)).now.read) (told_moments (D.shown disk.old)) (told_moments (D.shown disk.new)) }
+    ensures later { IsLater (D.shown disk.old) (D.shown disk.new) }
+    ensures cause { HasCause (D.shown disk.old).faults (D.shown disk.new).faults result }
 {
     put_after_gate(disk, 0, bytes)
 }
 
 /// Forms an unformed file.
 pub fn form_file<D: Disk>(disk: &mut D, bytes: &[u8]) -> Result<(), Failed>
-    requires { IsTrue (D.tells disk.old) → IsSettled (D.moments disk.old).now × IsUnformed (D.moments disk.old).now.read }
-    ensures formed { OnOk result (IsTrue (D.tells disk.new) → (header : Header)
-        → IsHead header bytes.now → StandsFor (empty header) (D.moments disk.new).now.read) }
-    ensures moments { IsTrue (D.tells disk.new) → (header : Header)
-        → IsHead header bytes.now → AtEach (IsUnformedOrEmpty header) (D.moments disk.old) (D.moments disk.new) }
-    ensures done { OnOk result (IsTrue (D.tells disk.new)
-        → (D.moments disk.new).now ≡ settled (overlaid (D.moments disk.old).now.read 0 (OPEN ∷ bytes.now))) }
-    ensures range { IsTrue (D.tells disk.new)
-        → AtEach (Torn 0 (1 + length bytes.now) (D.moments disk.old).now.read) (D.moments disk.old) (D.moments disk.new) }
-    ensures tells { IsTrue (D.tells disk.new) → IsTrue (D.tells disk.old) }
-    ensures cause { HasCause (D.faults disk.old) (D.faults disk.new) result }
+    requires claimed { IsTrue (D.shown disk.old).claimed }
+    requires file { IsTrue (is_told (D.shown disk.old)) → IsSettled (told_moments (D.shown disk.old)).now × IsUnformed (told_moments (D.shown disk.old)).now.read }
+    ensures formed { OnOk result (IsTrue (is_told (D.shown disk.new)) → (header : Header)
+        → IsHead header bytes.now → StandsFor (empty header) (told_moments (D.shown disk.new)).now.read) }
+    ensures moments { IsTrue (is_told (D.shown disk.new)) → (header : Header)
+        → IsHead header bytes.now → AtEach (IsUnformedOrEmpty header) (told_moments (D.shown disk.old)) (told_moments (D.shown disk.new)) }
+    ensures done { OnOk result (IsTrue (is_told (D.shown disk.new))
+        → (told_moments (D.shown disk.new)).now ≡ settled (overlaid (told_moments (D.shown disk.old)).now.read 0 (OPEN ∷ bytes.now))) }
+    ensures range { IsTrue (is_told (D.shown disk.new))
+        → AtEach (Torn 0 (1 + length bytes.now) (told_moments (D.shown disk.old)).now.read) (told_moments (D.shown disk.old)) (told_moments (D.shown disk.new)) }
+    ensures later { IsLater (D.shown disk.old) (D.shown disk.new) }
+    ensures cause { HasCause (D.shown disk.old).faults (D.shown disk.new).faults result }
 {
     // A short file may begin with an open gate by chance: were that not closed first, the bytes of the header would make it a
     // file with an open gate and a torn header. `put_header` requires a closed one.
@@ -194,16 +204,38 @@ pub fn form_file<D: Disk>(disk: &mut D, bytes: &[u8]) -> Result<(), Failed>
 }
 
 /// Syncs, and then reads whether the gate is open.
-pub fn is_open_now<D: Disk>(disk: &mut D, gate: u64) -> Result<bool, Failed>
-    ensures moments { IsTrue (D.tells disk.new) → IsSynced (D.moments disk.old) (D.moments disk.new) }
-    ensures settled { OnOk result (IsTrue (D.tells disk.new) → IsSettled (D.moments disk.new).now) }
-    ensures open { IfOk result (λ is_open. IsTrue (D.tells disk.new)
-        → (IsTrue is_open ↔ (slice_index (D.moments disk.old).now.read gate ≡ OPEN))) }
-    ensures tells { IsTrue (D.tells disk.new) → IsTrue (D.tells disk.old) }
-    ensures cause { HasCause (D.faults disk.old) (D.faults disk.new) result }
+fn is_open_now<D: Disk>(disk: &mut D, gate: u64) -> Result<bool, Failed>
+    ensures moments { IsTrue (is_told (D.shown disk.new)) → IsSynced (told_moments (D.shown disk.old)) (told_moments (D.shown disk.new)) }
+    ensures synced { OnOk result (IsTrue (is_told (D.shown disk.new)) → told_moments (D.shown disk.new) ≡ synced_at (told_moments (D.shown disk.old))) }
+    ensures open { IfOk result (λ is_open. IsTrue (is_told (D.shown disk.new))
+        → (IsTrue is_open ↔ (slice_index (told_moments (D.shown disk.old)).now.read gate ≡ OPEN))) }
+    ensures within { IfOk result (λ is_open. IsTrue (is_told (D.shown disk.new))
+        → IsTrue is_open → gate + 1 ≤ length (told_moments (D.shown disk.old)).now.read) }
+    ensures later { IsLater (D.shown disk.old) (D.shown disk.new) }
+    ensures cause { HasCause (D.shown disk.old).faults (D.shown disk.new).faults result }
 {
     disk.sync()?;
     let mut byte = [0];
     let count = disk.read_at(gate, &mut byte)?;
     Ok(count == 1 && byte[0] == OPEN)
+}
+
+/// Syncs, and then reads whether the gate is open. One that is open is opened once more: where a sync has failed a kernel may take for written
+/// what the disk has not, read it, and sync it no more.
+pub fn settle_gate<D: Disk>(disk: &mut D, gate: u64) -> Result<bool, Failed>
+    requires { IsTrue (D.shown disk.old).claimed }
+    ensures moments { IsTrue (is_told (D.shown disk.new)) → IsReopened gate (told_moments (D.shown disk.old)) (told_moments (D.shown disk.new)) }
+    ensures settled { OnOk result (IsTrue (is_told (D.shown disk.new))
+        → IsSettled (told_moments (D.shown disk.new)).now × ((told_moments (D.shown disk.new)).now.read ≡ (told_moments (D.shown disk.old)).now.read)) }
+    ensures open { IfOk result (λ is_open. IsTrue (is_told (D.shown disk.new))
+        → (IsTrue is_open ↔ (slice_index (told_moments (D.shown disk.old)).now.read gate ≡ OPEN))) }
+    ensures later { IsLater (D.shown disk.old) (D.shown disk.new) }
+    ensures cause { HasCause (D.shown disk.old).faults (D.shown disk.new).faults result }
+{
+    let is_open = is_open_now(disk, gate)?;
+    if is_open {
+        // A closed gate is not written: bytes behind it may be torn, and a crash could leave it open before them.
+        write_synced(disk, gate, &[OPEN])?;
+    }
+    Ok(is_open)
 }

@@ -4,6 +4,7 @@
 mod fixtures;
 
 // What is written and found again; files that are cut or altered; calls that fail.
+mod beside;
 mod faults;
 mod hostile;
 mod written;

@@ -1,7 +1,8 @@
 //! Which calls of a form in memory are to fail.
-ghost use Rattle.std.specs.Prelude.{◌≡◌, ◌↔◌, ℕ, List, Contains, IsTrue};
+ghost use Rattle.std.specs.Prelude.{◌≡◌, ◌↔◌, ℕ, List, Contains, IsTrue, IfOk};
 ghost use Rattle.house_io.specs.ListForms.{CallPlan, counted, begun};
 
+use std::alloc::{AllocError, Global};
 use std::marker::Model;
 
 /// Which calls are to fail, by their numbers from 0 on.
@@ -25,6 +26,17 @@ impl FailingCalls {
         ensures { result ≡ begun failing.items }
     {
         FailingCalls { failing, calls: 0 }
+    }
+
+    /// The same plan once more, after the same calls.
+    pub(crate) fn again(&self, alloc: Global) -> Result<FailingCalls, AllocError>
+        ensures { IfOk result (λ plan. plan ≡ self.now) }
+    {
+        let failing = self.failing.to_vec(alloc)?;
+        Ok(FailingCalls {
+            failing,
+            calls: self.calls,
+        })
     }
 
     /// Counts one call, and tells whether it is to fail.

@@ -1,14 +1,14 @@
 //! Files in memory of which chosen calls fail.
-ghost use Rattle.std.specs.Prelude.{◌≡◌, ℕ, List, Some, None, IfOk, OnErr, IsTrue, Contains, MatchOption, option_map};
+ghost use Rattle.std.specs.Prelude.{◌≡◌, false, ℕ, List, Some, None, IfOk, OnErr, IsTrue, Contains, MatchOption, option_map};
 ghost use Rattle.house_io.specs.Recorded.{moments_of};
-ghost use Rattle.house_io.specs.Shelves.{Adds, IsOpening, bytes_of, file_of, moments_at};
+ghost use Rattle.house_io.specs.Shelves.{Adds, IsOpening, bytes_of, moments_at};
 ghost use Rattle.house_io.specs.Counts.{count_of, names_of};
-ghost use Rattle.house_io.specs.ListShelves.{Answers, fresh_shelf, listed_state, source_on};
+ghost use Rattle.house_io.specs.ListShelves.{Answers, closing, fresh_shelf, listed_state, source_on};
 ghost use Rattle.house_io.specs.ListFiles.{AnswersDisk, disk_as_listed, files_as_listed};
 ghost use Rattle.house_io.specs.ShelvedFiles.{KeepsDisk, shelved_file, shown_file, shown_files};
 
 use crate::memory::failing::FailingCalls;
-use crate::memory::shelved::{Entry, disk_of, file_named, keep};
+use crate::memory::shelved::{Entry, Files, disk_of, file_named, keep};
 use crate::tallies::Tallies;
 use crate::{ListDisk, ListSource, Refusal, Shelf};
 use lot_base::NoMemory;
@@ -30,8 +30,8 @@ pub struct ListFile {
 /// disk that ceased to tell is closed.
 #[derive(Drop)]
 pub struct ListShelf {
-    /// The files, of which the first of a name counts.
-    files: Vec<Entry<ListDisk>>,
+    /// The files, and the entries that are reserved for files to be.
+    files: Files<ListDisk>,
     /// Which openings fail.
     plan: FailingCalls,
     /// The names that were opened, and the faults of each.
@@ -48,7 +48,8 @@ impl Model for ListShelf {
     ghost Value = { ListedShelf };
 
     ghost view = { λ shelf. record {
-      files = shelf.files.items;
+      files = shelf.files.there.items;
+      reserved = shelf.files.reserved.items;
       plan = shelf.plan;
       counts = shelf.tallies;
       room = shelf.room;
@@ -67,7 +68,7 @@ impl ListShelf {
     ) -> Result<ListShelf, NoMemory>
         ensures { IfOk result (λ shelf. shelf ≡ fresh_shelf (files_as_listed files.items) room failing.items) }
     {
-        let files = entries_of(alloc, files)?;
+        let files = Files::new(alloc, entries_of(alloc, files)?);
         Ok(ListShelf {
             files,
             plan: FailingCalls::new(failing),
@@ -81,7 +82,7 @@ impl ListShelf {
     pub fn file(&self, name: &str) -> Option<&[u8]>
         ensures { MatchOption result (shelved_file self.now.files name.now ≡ None) (λ bytes. option_map (λ file. (shown_file file).moments.now.read) (shelved_file self.now.files name.now) ≡ Some bytes.now) }
     {
-        Some(file_named(&self.files, name)?.bytes())
+        Some(file_named(&self.files.there, name)?.bytes())
     }
 }
 
@@ -137,7 +138,7 @@ impl Shelf for ListShelf {
         ensures opening { IsOpening result name.now (listed_state self.old) (listed_state self.new) }
     {
         // The memory before the plan: an opening that finds none is no call.
-        let source = match source_named(alloc, &self.files, name) {
+        let source = match source_named(alloc, &self.files.there, name) {
             Ok(source) => source,
             Err(_) => return Err(Refusal::NoMemory),
         };
@@ -168,12 +169,11 @@ impl Shelf for ListShelf {
 
     fn disk(&mut self, alloc: Global, name: &str) -> Result<ListDisk, Refusal>
         ensures answer { AnswersDisk self.old name.now result self.new }
-        ensures fresh { IfOk result (λ disk. disk.faults ≡ 0) }
+        ensures fresh { IfOk result (λ disk. (disk.claimed ≡ false) × (disk.faults ≡ 0)) }
         ensures opening { IsOpening result name.now (listed_state self.old) (listed_state self.new) }
         // And so, of what the shelf tells:
         ensures stands { IfOk result (λ disk. IsTrue disk.file.told × (moments_of disk.file ≡ moments_at (shown_files self.old.files) name.now)) }
-        ensures same_shown { OnErr result ((other : List ℕ) → file_of (shown_files self.new.files) other ≡ file_of (shown_files self.old.files) other) }
-        ensures others_shown { (other : List ℕ) → (other ≡ name.now → ⊥) → file_of (shown_files self.new.files) other ≡ file_of (shown_files self.old.files) other }
+        ensures same { (self.new.told ≡ self.old.told) × (self.new.files ≡ self.old.files) }
     {
         let names = self.tallies.len();
         if let Err(_) = self.tallies.begin(alloc, name) {
@@ -200,16 +200,18 @@ impl Shelf for ListShelf {
     fn close_disk(&mut self, name: &str, disk: ListDisk)
         requires { Contains (names_of self.old.counts) name.now }
         ensures added { Adds name.now disk.faults (count_of self.old.counts) (count_of self.new.counts) }
-        ensures keeps { KeepsDisk name.now disk.file.told (disk_as_listed disk) self.old.told self.new.told self.old.files self.new.files }
+        ensures keeps { KeepsDisk name.now disk.file.told disk.claimed (disk_as_listed disk) (closing self.old) (closing self.new) }
         ensures rest { (self.new.room ≡ self.old.room) × (self.new.plan ≡ self.old.plan) }
         ensures names { names_of self.new.counts ≡ names_of self.old.counts }
-        // And so, of what the shelf tells:
-        ensures left { IsTrue self.new.told → IsTrue disk.file.told × (option_map (λ file. file.moments) (file_of (shown_files self.new.files) name.now) ≡ Some (moments_of disk.file)) }
-        ensures others_shown { (other : List ℕ) → (other ≡ name.now → ⊥) → file_of (shown_files self.new.files) other ≡ file_of (shown_files self.old.files) other }
     {
         self.tallies.raise(name, disk.faults);
-        // The shelf has counted them, so the disk counts from 0 when it is opened again.
-        let disk = ListDisk { faults: 0, ..disk };
-        self.told = disk.file.told && keep(&mut self.files, name, disk) && self.told;
+        let is_claimed = disk.claimed;
+        // The shelf has counted them, so the disk counts from 0 when it is opened again; and then it is to be claimed anew.
+        let disk = ListDisk {
+            claimed: false,
+            faults: 0,
+            ..disk
+        };
+        self.told = disk.file.told && keep(&mut self.files, name, disk, is_claimed) && self.told;
     }
 }

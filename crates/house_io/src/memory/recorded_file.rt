@@ -106,6 +106,31 @@ impl RecordedFile {
         })
     }
 
+    /// The same file once more, with the room that is left.
+    pub(crate) fn again(&self, alloc: Global) -> Result<RecordedFile, NoMemory>
+        ensures told { IfOk result (λ f. f.told ≡ self.now.told) }
+        ensures moments { IfOk result (λ f. moments_of f ≡ moments_of self.now) }
+        ensures room { IfOk result (λ f. (f.room ≡ self.now.room) × (f.calls_left ≡ self.now.calls_left)) }
+    {
+        let start = copy_of(alloc, &self.start)?;
+        let bytes = wide_copy(alloc, &self.bytes, self.bytes.capacity())?;
+        let written = wide_copy(alloc, &self.written, self.written.capacity())?;
+        let calls = wide_copy(alloc, &self.calls, self.calls.capacity())?;
+        let synced = wide_copy(alloc, &self.synced, self.synced.capacity())?;
+        let ranges = wide_copy(alloc, &self.ranges, self.ranges.capacity())?;
+        Ok(RecordedFile {
+            start,
+            bytes,
+            written,
+            calls,
+            synced,
+            ranges,
+            room: self.room,
+            calls_left: self.calls_left,
+            told: self.told,
+        })
+    }
+
     /// Fills a front of the buffer from this offset on.
     pub fn read_at(&self, at: u64, into: &mut [u8]) -> usize
         ensures count { result ≡ min (length into.old) (length self.now.bytes.items - at) }
@@ -195,6 +220,17 @@ fn copy_of(alloc: Global, bytes: &[u8]) -> Result<Vec<u8>, NoMemory>
     ensures { IfOk result (λ copy. copy.items ≡ bytes.now) }
 {
     Ok(bytes.to_vec(alloc)?)
+}
+
+/// A copy with at least such a capacity.
+fn wide_copy<T: Copy>(alloc: Global, items: &[T], capacity: usize) -> Result<Vec<T>, NoMemory>
+    ensures items { IfOk result (λ copy. copy.items ≡ items.now) }
+    ensures long { IfOk result (λ copy. vec_len copy ≡ length items.now) }
+    ensures capacity { IfOk result (λ copy. capacity ≤ vec_capacity copy) }
+{
+    let mut copy = Vec::with_capacity(alloc, capacity)?;
+    copy.extend_from_slice(items)?;
+    Ok(copy)
 }
 
 /// The file with this byte throughout these ranges.

@@ -1,12 +1,12 @@
 //! Files in memory that never fail.
-ghost use Rattle.std.specs.Prelude.{◌≡◌, [], ℕ, List, Some, None, unwrap_or, option_map, IfOk, IfErr, OnErr, IsTrue, MatchOption};
-ghost use Rattle.house_io.specs.Shelves.{IsOpening, bytes_of, file_of, moments_at};
+ghost use Rattle.std.specs.Prelude.{◌≡◌, false, [], ℕ, List, Some, None, unwrap_or, option_map, IfOk, IfErr, OnErr, IsTrue, MatchOption};
+ghost use Rattle.house_io.specs.Shelves.{IsOpening, bytes_of, moments_at};
 ghost use Rattle.house_io.specs.ShelvedFiles.{KeepsDisk, shown_files};
-ghost use Rattle.house_io.specs.SureFiles.{AnswersDisk, fresh_shelf, as_shelved, files_as_shelved, sure_state};
+ghost use Rattle.house_io.specs.SureFiles.{AnswersDisk, closing, fresh_shelf, as_shelved, files_as_shelved, sure_state};
 ghost use Rattle.house_io.specs.Recorded.{moments_of};
 ghost use Rattle.house_io.specs.declared.shelves.Refusal.TheVariants as why;
 
-use crate::memory::shelved::{Entry, disk_of, file_named, keep};
+use crate::memory::shelved::{Entry, Files, disk_of, file_named, keep};
 use crate::tallies::Tallies;
 use crate::{Refusal, Shelf, SureDisk, SureSource};
 use lot_base::NoMemory;
@@ -26,8 +26,8 @@ pub struct SureFile {
 /// ceased to tell is closed.
 #[derive(Drop)]
 pub struct SureShelf {
-    /// The files, of which the first of a name counts.
-    files: Vec<Entry<SureDisk>>,
+    /// The files, and the entries that are reserved for files to be.
+    files: Files<SureDisk>,
     /// The names that were opened.
     tallies: Tallies,
     /// The room of each new disk, in bytes and in calls.
@@ -44,7 +44,8 @@ impl Model for SureShelf {
     ghost use Rattle.house_io.specs.Counts.{names_of};
 
     ghost view = { λ shelf. record {
-      files = shelf.files.items;
+      files = shelf.files.there.items;
+      reserved = shelf.files.reserved.items;
       opened = names_of shelf.tallies;
       room = shelf.room;
       told = shelf.told;
@@ -56,7 +57,7 @@ impl SureShelf {
     pub fn new(alloc: Global, files: Vec<SureFile>, room: u32) -> Result<SureShelf, NoMemory>
         ensures { IfOk result (λ shelf. shelf ≡ fresh_shelf (files_as_shelved files.items) room) }
     {
-        let files = entries_of(alloc, files)?;
+        let files = Files::new(alloc, entries_of(alloc, files)?);
         Ok(SureShelf {
             files,
             tallies: Tallies::new(alloc),
@@ -69,7 +70,7 @@ impl SureShelf {
     pub fn file(&self, name: &str) -> Option<&[u8]>
         ensures { MatchOption result (bytes_of (shown_files self.now.files) name.now ≡ None) (λ bytes. bytes_of (shown_files self.now.files) name.now ≡ Some bytes.now) }
     {
-        Some(file_named(&self.files, name)?.bytes())
+        Some(file_named(&self.files.there, name)?.bytes())
     }
 
     /// A copy of the bytes of a file, or no bytes where it is absent.
@@ -131,10 +132,10 @@ impl Shelf for SureShelf {
     fn disk(&mut self, alloc: Global, name: &str) -> Result<SureDisk, Refusal>
         ensures answer { AnswersDisk self.old name.now result self.new }
         ensures opening { IsOpening result name.now (sure_state self.old) (sure_state self.new) }
+        ensures fresh { IfOk result (λ disk. disk.claimed ≡ false) }
         // And so, of what the shelf tells:
         ensures stands { IfOk result (λ disk. IsTrue disk.file.told × (moments_of disk.file ≡ moments_at (shown_files self.old.files) name.now)) }
-        ensures same_shown { OnErr result ((other : List ℕ) → file_of (shown_files self.new.files) other ≡ file_of (shown_files self.old.files) other) }
-        ensures others_shown { (other : List ℕ) → (other ≡ name.now → ⊥) → file_of (shown_files self.new.files) other ≡ file_of (shown_files self.old.files) other }
+        ensures same { (self.new.told ≡ self.old.told) × (self.new.files ≡ self.old.files) }
     {
         let names = self.tallies.len();
         if let Err(_) = self.tallies.begin(alloc, name) {
@@ -150,12 +151,15 @@ impl Shelf for SureShelf {
     }
 
     fn close_disk(&mut self, name: &str, disk: SureDisk)
-        ensures keeps { KeepsDisk name.now disk.file.told (as_shelved disk) self.old.told self.new.told self.old.files self.new.files }
+        ensures keeps { KeepsDisk name.now disk.file.told disk.claimed (as_shelved disk) (closing self.old) (closing self.new) }
         ensures rest { (self.new.room ≡ self.old.room) × (self.new.opened ≡ self.old.opened) }
-        // And so, of what the shelf tells:
-        ensures left { IsTrue self.new.told → IsTrue disk.file.told × (option_map (λ file. file.moments) (file_of (shown_files self.new.files) name.now) ≡ Some (moments_of disk.file)) }
-        ensures others_shown { (other : List ℕ) → (other ≡ name.now → ⊥) → file_of (shown_files self.new.files) other ≡ file_of (shown_files self.old.files) other }
     {
-        self.told = disk.file.told && keep(&mut self.files, name, disk) && self.told;
+        let is_claimed = disk.claimed;
+        // It is to be claimed anew when it is opened again.
+        let disk = SureDisk {
+            claimed: false,
+            ..disk
+        };
+        self.told = disk.file.told && keep(&mut self.files, name, disk, is_claimed) && self.told;
     }
 }

@@ -1,9 +1,9 @@
 //! A disk over a real file. It counts its faults and tells no content.
-ghost use Rattle.std.specs.Prelude.{false, ◌≡◌, ◌<◌, ◌≤◌, [], ℕ, length, take, Ok, IfOk, OnOk};
+ghost use Rattle.std.specs.Prelude.{true, ◌≡◌, ◌<◌, ◌≤◌, ℕ, length, take, Ok, IsOk, IfOk, OnOk};
 ghost use Rattle.std.specs.Io.KnownBytes.{Consumes, IsAtEnd};
 ghost use Rattle.std.proofs.Common.{rules};
 ghost use Rattle.house_io.specs.Faults.{HasCause, faults_after};
-ghost use Rattle.house_io.specs.Moments.{opened};
+ghost use Rattle.house_io.specs.Disks.{untold};
 ghost use Rattle.house_io.specs.OpenFiles.{IsLength, ReadsAt, WritesAt};
 
 use crate::{Disk, Failed};
@@ -59,14 +59,14 @@ fn counted<T: Drop>(outcome: io::Result<T>, faults: &mut u64) -> Result<T, Faile
 }
 
 /// The file's length.
-fn end_of<F: Seek>(file: &mut F) -> io::Result<u64>
+pub(super) fn end_of<F: Seek>(file: &mut F) -> io::Result<u64>
     ensures { IfOk result (λ n. IsLength (F.stream_position file.old) (F.stream_bytes file.old) n) }
 {
     file.seek(SeekFrom::End(0))
 }
 
 /// Fills a front of the buffer from this offset on, all of it but at the file's end.
-fn read_from<F: Read + Seek>(file: &mut F, at: u64, into: &mut [u8]) -> io::Result<usize>
+pub(super) fn read_from<F: Read + Seek>(file: &mut F, at: u64, into: &mut [u8]) -> io::Result<usize>
     ensures within { IfOk result (λ n. n ≤ length into.old) }
     ensures reads { IfOk result (λ n. ReadsAt F.stream_position F.remaining at n into.new file.old file.new) }
 {
@@ -93,7 +93,7 @@ fn read_front<F: Read>(file: &mut F, into: &mut [u8]) -> io::Result<usize>
 }
 
 /// Writes the whole piece at this offset.
-fn write_to<F: Write + Seek>(file: &mut F, at: u64, from: &[u8]) -> io::Result<()>
+pub(super) fn write_to<F: Write + Seek>(file: &mut F, at: u64, from: &[u8]) -> io::Result<()>
     ensures { OnOk result (WritesAt F.stream_position F.contents at from.now file.old file.new) }
 {
     file.seek(SeekFrom::Start(at))?;
@@ -102,7 +102,7 @@ fn write_to<F: Write + Seek>(file: &mut F, at: u64, from: &[u8]) -> io::Result<(
 }
 
 /// Lengthens a file that is shorter, as a write of no bytes after its end does.
-fn lengthen<F: Seek + OpenFile>(file: &mut F, end: u64) -> io::Result<()> {
+pub(super) fn lengthen<F: Seek + OpenFile>(file: &mut F, end: u64) -> io::Result<()> {
     if end_of(file)? < end {
         file.set_len(end)?;
     }
@@ -110,13 +110,9 @@ fn lengthen<F: Seek + OpenFile>(file: &mut F, end: u64) -> io::Result<()> {
 }
 
 impl<F: Read + Write + Seek + OpenFile> Disk for FileDisk<F> {
-    ghost tells = { λ _. false };
+    // It tells nothing, and is claimed from the start: whoever opened the file has seen to whose it is.
+    ghost shown = { λ disk. untold true disk.faults };
 
-    ghost moments = { λ _. opened [] };
-
-    ghost faults = { λ disk. disk.faults };
-
-    // It tells nothing.
     ghost reads_an_image = { λ disk told. Prim.search rules };
 
     fn size(&mut self) -> Result<u64, Failed>
@@ -132,6 +128,14 @@ impl<F: Read + Write + Seek + OpenFile> Disk for FileDisk<F> {
         ensures faults { self.new.faults ≡ faults_after result self.old.faults }
     {
         counted(read_from(&mut self.file, at, into), &mut self.faults)
+    }
+
+    /// No call on the file.
+    fn claim(&mut self) -> Result<(), Failed>
+        ensures sure { IsOk result }
+        ensures unchanged { self.new ≡ self.old }
+    {
+        Ok(())
     }
 
     fn write_at(&mut self, at: u64, from: &[u8]) -> Result<(), Failed>

@@ -1,12 +1,15 @@
 //! The files of the folder in which the program runs.
-ghost use Rattle.std.specs.Prelude.{◌≡◌, ◌<◌, ◌^◌, None, List, [], Err, IfOk, OnErr};
+ghost use Rattle.std.specs.Prelude.{◌≡◌, ◌<◌, ◌^◌, None, List, [], Err, IfOk};
+ghost use Rattle.house_io.specs.Disks.{IsFresh, untold};
 ghost use Rattle.house_io.specs.Counts.{NamedCount, count_of, counted_state, names_of};
-ghost use Rattle.house_io.specs.Shelves.{IfTells, ChangesNoFile, CountsOpening, IsOpening};
+ghost use Rattle.house_io.specs.Shelves.{IfTells, ChangesNone, CountsOpening, IsOpening};
 ghost use Rattle.house_io.specs.declared.shelves.Refusal.TheVariants as why;
 
-use crate::real::file_disk::FileDisk;
-use crate::real::opening::open_file;
-use crate::real::streams::FileSource;
+use crate::real::folder_disk::FolderDisk;
+use crate::real::folder_source::FolderSource;
+use crate::real::locks::LockFile;
+use crate::real::opening::find_file;
+use crate::real::reporting::{Call, say};
 use crate::tallies::Tallies;
 use crate::{Refusal, Shelf};
 use std::alloc::Global;
@@ -14,8 +17,9 @@ use std::fs;
 use std::marker::Model;
 use std::rt::Files;
 
-/// Files that are named relative to the working directory, seen as the counts of their faults by name. An absent
-/// name fails.
+/// Files that are named relative to the working directory, seen as the counts of their faults by name. An absent name fails as a
+/// source, and is a disk without bytes, unless its folder is absent too. Each fault is said on standard error, once for each cause
+/// in a row.
 #[derive(Drop)]
 pub struct FolderShelf<'a, R: Files> {
     /// The runtime by which files are opened.
@@ -42,13 +46,13 @@ impl<'a, R: Files> FolderShelf<'a, R> {
     }
 }
 
-impl<'a, R: Files> Shelf for FolderShelf<'a, R>
+impl<'a, R: Files + Eprint + Sync> Shelf for FolderShelf<'a, R>
 where
-    R::File: Send,
+    R::File: LockFile + Send,
 {
-    type Source = FileSource<R::File>;
+    type Source = FolderSource<'a, R>;
 
-    type Disk = FileDisk<R::File>;
+    type Disk = FolderDisk<'a, R>;
 
     ghost files = { λ _. None };
 
@@ -56,7 +60,7 @@ where
 
     ghost opened = { λ shelf. names_of shelf };
 
-    fn source(&mut self, alloc: Global, name: &str) -> Result<FileSource<R::File>, Refusal>
+    fn source(&mut self, alloc: Global, name: &str) -> Result<FolderSource<'a, R>, Refusal>
         // It tells nothing.
         ensures bytes { IfOk result (λ _. IfTells None (λ _. ⊥)) }
         ensures fresh { IfOk result (λ source. source.faults ≡ 0) }
@@ -64,44 +68,52 @@ where
         ensures memory { result ≡ Err why.NoMemory → self.new ≡ self.old }
         ensures opening { IsOpening result name.now (counted_state None self.old) (counted_state None self.new) }
     {
+        let Ok(own) = String::from_str(alloc, name) else {
+            return Err(Refusal::NoMemory);
+        };
         if let Err(_) = self.tallies.begin(alloc, name) {
             return Err(Refusal::NoMemory);
         }
         match fs::open(self.rt, name) {
-            Ok(file) => Ok(FileSource::new(file)),
-            Err(_) => {
+            Ok(file) => Ok(FolderSource::new(self.rt, own, file)),
+            Err(error) => {
+                say(self.rt, name, Call::Open, &error);
                 self.tallies.raise(name, 1);
                 Err(Refusal::Failed)
             }
         }
     }
 
-    fn close_source(&mut self, name: &str, source: FileSource<R::File>) {
+    fn close_source(&mut self, name: &str, source: FolderSource<'a, R>) {
         self.tallies.raise(name, source.faults());
     }
 
-    fn disk(&mut self, alloc: Global, name: &str) -> Result<FileDisk<R::File>, Refusal>
+    fn disk(&mut self, alloc: Global, name: &str) -> Result<FolderDisk<'a, R>, Refusal>
         // It tells nothing.
         ensures stands { IfOk result (λ _. IfTells None (λ _. ⊥)) }
-        ensures unchanged { OnErr result (ChangesNoFile None None) }
-        ensures fresh { IfOk result (λ disk. disk.faults ≡ 0) }
+        ensures files { ChangesNone None None }
+        ensures fresh { IfOk result (λ disk. IsFresh (untold disk.claimed disk.faults)) }
         ensures counting { CountsOpening name.now result (count_of self.old) (count_of self.new) }
         ensures memory { result ≡ Err why.NoMemory → self.new ≡ self.old }
         ensures opening { IsOpening result name.now (counted_state None self.old) (counted_state None self.new) }
     {
+        let Ok(own) = String::from_str(alloc, name) else {
+            return Err(Refusal::NoMemory);
+        };
         if let Err(_) = self.tallies.begin(alloc, name) {
             return Err(Refusal::NoMemory);
         }
-        match open_file(self.rt, name) {
-            Ok(file) => Ok(FileDisk::new(file)),
-            Err(_) => {
+        match find_file(self.rt, name) {
+            Ok(file) => Ok(FolderDisk::new(self.rt, own, file)),
+            Err(error) => {
+                say(self.rt, name, Call::Open, &error);
                 self.tallies.raise(name, 1);
                 Err(Refusal::Failed)
             }
         }
     }
 
-    fn close_disk(&mut self, name: &str, disk: FileDisk<R::File>) {
+    fn close_disk(&mut self, name: &str, disk: FolderDisk<'a, R>) {
         self.tallies.raise(name, disk.faults());
     }
 }

@@ -1,19 +1,37 @@
-//! Opening a file for reading and writing, so that its name lasts.
+//! Finding a file that is to be read, and claiming one that is to be written, so that its name lasts.
 ghost use Rattle.std.specs.Prelude.{◌≡◌};
 ghost use Rattle.house_io.specs.Folders.{folder_in};
 
+use crate::real::locks::LockFile;
 use std::fs::{File, OpenFile, OpenOptions};
-use std::io;
+use std::io::{self, ErrorKind};
 use std::path::Path;
 use std::rt::Files;
 
-/// Opens the file of a name, which is made where it is absent. The file and its folder are synced before the file is handed
-/// out, also one that was found: an earlier opening may have made it and failed, or the process may have died, before
+/// Opens the file of a name for reading. None where it is absent in a folder that is there.
+pub(crate) fn find_file<R: Files>(files: &R, name: &str) -> io::Result<Option<R::File>> {
+    match File::open(files, name) {
+        Ok(file) => Ok(Some(file)),
+        Err(error) if error.kind() == ErrorKind::NotFound => {
+            // An absent folder is found no better, and is a fault.
+            let _folder = File::open(files, folder_of(name))?;
+            Ok(None)
+        }
+        Err(error) => Err(error),
+    }
+}
+
+/// Opens the file of a name for writing, which is made where it is absent, and locks it. The file and its folder are synced before the
+/// file is handed out, also one that was found: an earlier claim may have made it and failed, or the process may have died, before
 /// its folder was synced.
-pub(crate) fn open_file<R: Files>(files: &R, name: &str) -> io::Result<R::File> {
+pub(crate) fn claim_file<R: Files>(files: &R, name: &str) -> io::Result<R::File>
+where
+    R::File: LockFile,
+{
     let mut how = OpenOptions::new();
     how.read(true).write(true).create(true);
     let file = how.open(files, name)?;
+    file.lock_now()?;
     // The file, and then the folder that names it.
     file.sync_all()?;
     File::open(files, folder_of(name))?.sync_all()?;

@@ -1,5 +1,5 @@
 //! Journals that are written by the tests.
-use house_io::SureDisk;
+use house_io::{Disk, SureDisk};
 use lot_base::Prices;
 use report_journal::{Header, Journal};
 use std::alloc::Global;
@@ -14,9 +14,12 @@ fn empty_journal(
     digest: [u8; 32],
     opening: Option<Prices>,
 ) -> Option<Journal<SureDisk>> {
-    let Ok(disk) = SureDisk::new(alloc, Vec::new(alloc), JOURNAL_ROOM) else {
+    let Ok(mut disk) = SureDisk::new(alloc, Vec::new(alloc), JOURNAL_ROOM) else {
         return None;
     };
+    if disk.claim().is_err() {
+        return None;
+    }
     match Journal::form(alloc, disk, &Header::new(clock, digest, opening)) {
         Ok(journal) => Some(journal),
         Err(_) => None,

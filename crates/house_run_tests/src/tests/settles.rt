@@ -1,8 +1,9 @@
 //! The commands `standing` and `settle`.
 use super::auctions::{TO_HUNDRED, TWO_GOODS, TWO_UNITS, auction_of, digest_of};
-use super::fixtures::Outside;
+use super::fixtures::{Outside, named, sure_shelf};
 use super::journals::{Report, journal_of, journal_with};
-use super::runs::{FailingRow, fails_so, runs_over};
+use super::runs::{FailingRow, ends_over, fails_so, has_kept, runs_over};
+use house_io::SureShelf;
 use std::alloc::Global;
 use std::sync::Wait;
 use std::thread::Threads;
@@ -280,6 +281,47 @@ fn tells_the_first_clock_that_is_open(rt: HostRuntime) {
     for (rows, line) in OPEN {
         let told = units_end_so(&rt, rt.alloc(), SETTLE, 2, rows, 9, line);
         assert_eq!(rt; told, Some(true), "{line}");
+    }
+}
+
+const UNBEGUN: &str = "clock 0 round 1 running prices 0 missing 1
+clock 1 round 1 running prices 0 missing 2
+clock 2 round 1 running prices 0 missing 1
+";
+
+/// Whether a shelf has no file of any of these names.
+fn has_none(shelf: &SureShelf, names: &[&str]) -> bool {
+    for name in names {
+        if shelf.file(name).is_some() {
+            return false;
+        }
+    }
+    true
+}
+
+/// Whether these words over two bidders' auction without journals end so, leave its file as it was, and make no other.
+fn makes_no_file(
+    rt: &(impl Threads + Wait + Sync),
+    alloc: Global,
+    words: &[&str],
+    status: u8,
+    text: &str,
+) -> Option<bool> {
+    let contents = house_of(alloc, 2, &[])?;
+    let files = named(alloc, NAMES, &contents)?;
+    let mut shelf = sure_shelf(alloc, &files)?;
+    let told = ends_over(rt, alloc, words, &mut shelf, status, text)?;
+    Some(told && has_kept(&shelf, &files) && has_none(&shelf, &NAMES[1..]))
+}
+
+#[test]
+fn a_look_at_absent_journals_makes_no_file(rt: HostRuntime) {
+    for (words, status, text) in [
+        (STANDING, 0, UNBEGUN),
+        (SETTLE, 9, "open clock 0 round 1 missing 1\n"),
+    ] {
+        let told = makes_no_file(&rt, rt.alloc(), words, status, text);
+        assert_eq!(rt; told, Some(true), "{text}");
     }
 }
 

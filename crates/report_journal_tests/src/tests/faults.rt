@@ -1,7 +1,7 @@
 //! Calls of a disk that fail: what is answered, and what is left at each stop.
 use super::fixtures::{
-    FILE, LONG, LONGER, PAYLOAD, ROOM, Says, Seen, Step, append, count, first_other, header, mend,
-    one_good, plain, scanned_on, seen_in,
+    FILE, LONG, LONGER, PAYLOAD, ROOM, Says, Seen, Step, append, claimed, count, first_other,
+    header, mend, one_good, plain, scanned_on, seen_in,
 };
 use house_io::{Disk, Fill, ListDisk};
 use lot_base::Prices;
@@ -13,14 +13,15 @@ fn one(alloc: Global, number: u64) -> Option<Vec<u64>> {
     [number].to_vec(alloc).ok()
 }
 
-/// The answer of a forming on an empty disk whose calls of these numbers fail, if there is memory for the disk.
+/// The answer of a forming on an empty disk whose calls of these numbers fail, if there is memory for the disk. Its first call is the
+/// claim, and is not to fail.
 fn form_listed(
     alloc: Global,
     failing: Vec<u64>,
     opening: Option<Prices>,
 ) -> Option<Result<Journal<ListDisk>, NotFormed<ListDisk>>> {
     match ListDisk::new(alloc, Vec::new(alloc), ROOM, failing) {
-        Ok(disk) => Some(Journal::form(alloc, disk, &header(opening))),
+        Ok(disk) => Some(Journal::form(alloc, claimed(disk)?, &header(opening))),
         Err(_) => None,
     }
 }
@@ -58,15 +59,15 @@ fn form_failing(
 /// The answer of a forming whose call of this number fails.
 fn expected_forming(failing: u64) -> (Option<JournalFault>, Seen) {
     match failing {
-        0..6 => (Some(JournalFault::DiskFault), Seen::Unformed),
-        6 => (Some(JournalFault::DiskFault), Seen::Formed(0)),
+        1..7 => (Some(JournalFault::DiskFault), Seen::Unformed),
+        7 => (Some(JournalFault::DiskFault), Seen::Formed(0)),
         _ => (None, Seen::Formed(0)),
     }
 }
 
 #[test]
 fn a_forming_tells_each_fault(rt: HostRuntime) {
-    for failing in 0..8 {
+    for failing in 1..9 {
         let expected = Some(expected_forming(failing));
         let found = form_failing(rt.alloc(), failing, plain());
         assert_eq!(rt; found, expected, "at {failing}");
@@ -98,7 +99,7 @@ const COUNTED_ONCE: &[Step] = &[
 
 #[test]
 fn a_record_whose_last_sync_fails_is_counted_once(rt: HostRuntime) {
-    assert_eq!(rt; stepped(rt.alloc(), 10, COUNTED_ONCE), Some((6, true)));
+    assert_eq!(rt; stepped(rt.alloc(), 11, COUNTED_ONCE), Some((6, true)));
 }
 
 const PUT_AGAIN: &[Step] = &[
@@ -109,7 +110,7 @@ const PUT_AGAIN: &[Step] = &[
 
 #[test]
 fn a_record_whose_body_fails_is_dropped_and_put_again(rt: HostRuntime) {
-    assert_eq!(rt; stepped(rt.alloc(), 7, PUT_AGAIN), Some((3, true)));
+    assert_eq!(rt; stepped(rt.alloc(), 8, PUT_AGAIN), Some((3, true)));
 }
 
 /// The second record has zeros behind it.
@@ -137,7 +138,7 @@ const LIES_THERE_STILL: &[Step] = &[
 
 #[test]
 fn a_record_that_lies_there_and_whose_sync_fails_is_counted_once(rt: HostRuntime) {
-    assert_eq!(rt; stepped(rt.alloc(), 17, LIES_THERE_STILL), Some((8, false)));
+    assert_eq!(rt; stepped(rt.alloc(), 18, LIES_THERE_STILL), Some((8, false)));
 }
 
 /// Its gate was open when the write of the zeros failed, or the sync of both.
@@ -154,11 +155,11 @@ const PADDED_ONCE: &[Step] = &[
 #[test]
 fn a_record_with_zeros_behind_it_is_dropped_or_counted(rt: HostRuntime) {
     for (failing, steps) in [
-        (11, PADDED_AGAIN),
         (12, PADDED_AGAIN),
         (13, PADDED_AGAIN),
-        (14, PADDED_ONCE),
+        (14, PADDED_AGAIN),
         (15, PADDED_ONCE),
+        (16, PADDED_ONCE),
     ] {
         assert_eq!(rt;
             stepped(rt.alloc(), failing, steps),
@@ -266,14 +267,14 @@ fn lost_by_a_fault(alloc: Global, failing: u64) -> Option<Option<Fill>> {
 
 #[test]
 fn each_stop_leaves_what_was_acknowledged(rt: HostRuntime) {
-    for stop in 0..20 {
+    for stop in 1..21 {
         assert_eq!(rt; lost_by_a_stop(rt.alloc(), stop), Some(None), "at {stop}");
     }
 }
 
 #[test]
 fn each_failing_call_is_mended(rt: HostRuntime) {
-    for failing in 0..24 {
+    for failing in 1..25 {
         assert_eq!(rt;
             lost_by_a_fault(rt.alloc(), failing),
             Some(None),
@@ -295,10 +296,10 @@ fn scan_fails(alloc: Global, failing: u64) -> Option<bool> {
 
 #[test]
 fn a_scan_hands_on_a_fault(rt: HostRuntime) {
-    for failing in 0..3 {
+    for failing in 0..4 {
         assert_eq!(rt;
             scan_fails(rt.alloc(), failing),
-            Some(failing < 2),
+            Some(failing < 3),
             "at {failing}"
         );
     }
@@ -329,13 +330,13 @@ const LIE_THERE: &[Step] = &[
 #[test]
 fn a_record_that_lies_there_takes_one_sync(rt: HostRuntime) {
     for (failing, step) in [
-        (11, 1),
-        (15, 1),
-        (16, 2),
-        (18, 2),
-        (19, 3),
+        (12, 1),
+        (16, 1),
+        (17, 2),
+        (19, 2),
         (20, 3),
-        (21, 4),
+        (21, 3),
+        (22, 4),
     ] {
         assert_eq!(rt;
             first_other_failing(rt.alloc(), failing, LIE_THERE),
@@ -356,12 +357,12 @@ fn asks(alloc: Global, failing: u64) -> Option<u32> {
 
 #[test]
 fn a_hint_is_asked_behind_the_sync_of_the_record(rt: HostRuntime) {
-    for (failing, times) in [(11, 0), (12, 0), (13, 1), (15, 1), (16, 1)] {
+    for (failing, times) in [(12, 0), (13, 0), (14, 1), (16, 1), (17, 1)] {
         assert_eq!(rt; asks(rt.alloc(), failing), Some(times), "at {failing}");
     }
 }
 
 #[test]
 fn a_payload_hands_on_a_fault(rt: HostRuntime) {
-    assert_eq!(rt; first_other_failing(rt.alloc(), 11, READ_AGAIN), Some(4));
+    assert_eq!(rt; first_other_failing(rt.alloc(), 12, READ_AGAIN), Some(4));
 }

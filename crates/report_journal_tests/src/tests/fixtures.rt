@@ -1,7 +1,9 @@
 //! Files that were written by hand and what a scan finds in them, and the steps of a journal.
+ghost use Rattle.std.specs.Prelude.{◌≡◌, IsTrue, IfSome};
+ghost use Rattle.house_io.specs.Disks.{is_told, told_moments};
 ghost use Rattle.report_journal.specs.Format.{IsHeader};
 
-use house_io::{Disk, SureDisk};
+use house_io::{Disk, Failed, SureDisk};
 use lot_base::Prices;
 use lot_base::limits::GREATEST_PAYLOAD;
 use report_journal::{Header, Hint, Journal, JournalFault, LONGEST_HINT, Mended, Scanned, scan};
@@ -79,6 +81,19 @@ pub(super) fn disk_of(alloc: Global, file: &[u8]) -> Option<SureDisk> {
     SureDisk::new(alloc, copy_of(alloc, file)?, ROOM).ok()
 }
 
+/// The disk once it is claimed. Nothing where that fails.
+pub(super) fn claimed<D: Disk + Drop>(disk: D) -> Option<D>
+    ensures claimed { IfSome result (λ d. IsTrue (D.shown d).claimed) }
+    ensures told { IfSome result (λ d. IsTrue (is_told (D.shown d)) → IsTrue (is_told (D.shown disk))) }
+    ensures moments { IfSome result (λ d. IsTrue (is_told (D.shown d)) → told_moments (D.shown d) ≡ told_moments (D.shown disk)) }
+{
+    let mut disk = disk;
+    match disk.claim() {
+        Ok(()) => Some(disk),
+        Err(Failed) => None,
+    }
+}
+
 /// What a scan answers of a disk. Nothing where it fails.
 pub(super) fn scanned_on<D: Disk>(alloc: Global, disk: &mut D) -> Option<Scanned> {
     scan(alloc, disk).ok()
@@ -88,6 +103,12 @@ pub(super) fn scanned_on<D: Disk>(alloc: Global, disk: &mut D) -> Option<Scanned
 pub(super) fn scanned(alloc: Global, file: &[u8]) -> Option<Scanned> {
     let mut disk = disk_of(alloc, file)?;
     scanned_on(alloc, &mut disk)
+}
+
+/// The same of a disk, without the places.
+pub(super) fn seen_on<D: Disk>(alloc: Global, disk: &mut D) -> Option<Seen> {
+    let found = scanned_on(alloc, disk)?;
+    Some(seen_by(&found))
 }
 
 /// The same, without the places.

@@ -1,14 +1,14 @@
 //! What a journal writes, and what is found there again, in memory and on a real file.
 use super::fixtures::{
-    FILE, LONG, LONGER, PAYLOAD, PRICED, ROOM, Step, append, copy_of, count, disk_of, first_other,
-    header, header_in, holds, mend, one_good, plain, scanned,
+    FILE, LONG, LONGER, PAYLOAD, PRICED, ROOM, Step, append, claimed, copy_of, count, disk_of,
+    first_other, header, header_in, holds, mend, one_good, plain, scanned,
 };
-use house_io::{Disk, FileDisk, FolderShelf, Shelf, SureDisk};
+use house_io::{Disk, FolderDisk, FolderShelf, Shelf, SureDisk};
 use lot_base::Prices;
 use lot_base::limits::GREATEST_PAYLOAD;
 use report_journal::{Journal, Mended, Place, Scanned, read_payload, scan};
 use std::alloc::Global;
-use std::fs::{self, File};
+use std::fs;
 use std::test::Fail;
 
 /// The file of an empty journal of version 2, whose six goods open at 1, 256, 65,536, 16,777,216, 4,294,967,295 and 0.
@@ -25,7 +25,7 @@ fn six_goods() -> Option<Prices> {
 /// An empty journal, whose goods open at these prices.
 fn empty(alloc: Global, opening: Option<Prices>) -> Option<Journal<SureDisk>> {
     match SureDisk::new(alloc, Vec::new(alloc), ROOM) {
-        Ok(disk) => Journal::form(alloc, disk, &header(opening)).ok(),
+        Ok(disk) => Journal::form(alloc, claimed(disk)?, &header(opening)).ok(),
         Err(_) => None,
     }
 }
@@ -272,7 +272,7 @@ fn a_scan_finds_the_places(rt: HostRuntime) {
 
 /// The journal of a disk whose file is formed.
 fn attached<D: Disk + Drop>(alloc: Global, disk: D) -> Option<Journal<D>> {
-    let mut disk = disk;
+    let mut disk = claimed(disk)?;
     match scan(alloc, &mut disk) {
         Ok(
             Scanned::Formed {
@@ -373,8 +373,11 @@ fn append_three<D: Disk>(alloc: Global, journal: &mut Journal<D>) -> bool {
 }
 
 /// A journal of three of the longest payloads, which is formed on a real file, and its disk.
-fn with_three(alloc: Global, disk: FileDisk<File>) -> Option<FileDisk<File>> {
-    let mut journal = Journal::form(alloc, disk, &header(one_good())).ok()?;
+fn with_three<'a>(
+    alloc: Global,
+    disk: FolderDisk<'a, HostRuntime>,
+) -> Option<FolderDisk<'a, HostRuntime>> {
+    let mut journal = Journal::form(alloc, claimed(disk)?, &header(one_good())).ok()?;
     if append_three(alloc, &mut journal) {
         Some(journal.into_disk())
     } else {
@@ -398,14 +401,14 @@ fn has_three<D: Disk>(alloc: Global, journal: &mut Journal<D>) -> bool {
 }
 
 /// Whether a journal of these three is formed on a real file, and is found on it again.
-fn forms_and_finds_three(alloc: Global, disk: FileDisk<File>) -> Option<bool> {
+fn forms_and_finds_three(alloc: Global, disk: FolderDisk<HostRuntime>) -> Option<bool> {
     let disk = with_three(alloc, disk)?;
     let mut journal = attached(alloc, disk)?;
     Some(has_three(alloc, &mut journal))
 }
 
 /// The disk on a file in the folder that the program runs in.
-fn real_disk(rt: &HostRuntime, name: &str) -> Option<FileDisk<File>> {
+fn real_disk<'a>(rt: &'a HostRuntime, name: &str) -> Option<FolderDisk<'a, HostRuntime>> {
     let mut shelf = FolderShelf::new(rt.alloc(), rt);
     shelf.disk(rt.alloc(), name).ok()
 }

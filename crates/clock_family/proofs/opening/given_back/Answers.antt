@@ -6,7 +6,7 @@ use Rattle.clock_family.proofs.opening.given_back.Goals as goal
 
 pub loop-stand-init : goal.loop-stand-init
 loop-stand-init g c = record {
-  taken = none-taken g.D.Disk.tells g.D.Disk.moments c.args.laid.items c.args.rest.items c.args.laid.items c.args.rest.items refl refl;
+  taken = none-taken g.D.Disk.shown c.args.laid.items c.args.rest.items c.args.laid.items c.args.rest.items refl refl;
   unused = c.requires.unused;
   room = c.requires.room;
 }
@@ -23,7 +23,7 @@ loop-stand-preserved g c =
     let shorter = length-append c.pop.new.self.items (c.in-Some.stand ∷ []) in
     let longer = length-append c.loop-stand.disks.items (c.into_disk.result ∷ []) in
     record {
-      taken = taken-more g.D.Disk.tells g.D.Disk.moments c.args.laid.items c.args.rest.items c.loop-stand.laid.items c.pop.new.self.items c.in-Some.stand c.loop-stand.disks.items c.push_reserved.new.self.items c.into_disk.result
+      taken = taken-more g.D.Disk.shown c.args.laid.items c.args.rest.items c.loop-stand.laid.items c.pop.new.self.items c.in-Some.stand c.loop-stand.disks.items c.push_reserved.new.self.items c.into_disk.result
           i.taken is c.into_disk.ensures.given_back c.push_reserved.ensures.items;
       unused = (all-popped (IsUnused {D = g.row.D.Denot}) c.loop-stand.laid.items c.pop.new.self.items c.in-Some.stand is i.unused).0;
       room = omega (arith, i.room, ap length is, ap length c.push_reserved.ensures.items, shorter, longer, c.push_reserved.ensures.capacity);
@@ -32,4 +32,4 @@ loop-stand-preserved g c =
 pub returns : goal.returns
 returns g c =
     let none : length c.loop-stand.laid.items ≡ 0 = search rules in
-    all-taken g.D.Disk.tells g.D.Disk.moments c.args.laid.items c.args.rest.items c.loop-stand.laid.items c.loop-stand.disks.items c.reverse.new.self.items c.loop-stand.invariant.taken none c.reverse.ensures.items
+    all-taken g.D.Disk.shown c.args.laid.items c.args.rest.items c.loop-stand.laid.items c.loop-stand.disks.items c.reverse.new.self.items c.loop-stand.invariant.taken none c.reverse.ensures.items

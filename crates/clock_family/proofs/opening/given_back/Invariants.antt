@@ -6,7 +6,7 @@ use Rattle.clock_family.proofs.opening.given_back.Given as goal
 
 abbrev pub invariant-loop-stand : goal.invariant-loop-stand
 invariant-loop-stand g l = record {
-  taken : AreTaken g.D.Disk.tells g.D.Disk.moments l.initial.laid.items l.initial.disks.items l.laid.items l.disks.items;
+  taken : AreTaken g.D.Disk.shown l.initial.laid.items l.initial.disks.items l.laid.items l.disks.items;
   unused : AllByRecursion IsUnused l.laid.items;
   room : length l.disks.items + length l.laid.items ≤ vec_capacity l.disks;
 }

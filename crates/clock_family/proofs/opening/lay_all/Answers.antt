@@ -10,7 +10,7 @@ returns-in-Err-clause-err g c =
     let is : c.loop-clock.rest.items ≡ c.pop.new.self.items ++ c.unwrap-disk.result ∷ [] = search rules in
     let next = taken-next c.args.disks.items c.loop-clock.rest.items c.pop.new.self.items c.loop-clock.clock c.unwrap-disk.result is i.rest in
     let back = c.given_back-disks.ensures in
-    not-open g.D.Disk.tells g.D.Disk.moments g.D.Disk.faults c.args.terms.now c.args.digest.now c.args.passes c.args.disks.items c.pop.new.self.items back.0 c.given_back-disks.result.items c.loop-clock.laid.items c.loop-clock.clock c.unwrap-disk.result c.in-Err.field-0.disk c.in-Err.field-0.fault
+    not-open g.D.Disk.shown c.args.terms.now c.args.digest.now c.args.passes c.args.disks.items c.pop.new.self.items back.0 c.given_back-disks.result.items c.loop-clock.laid.items c.loop-clock.clock c.unwrap-disk.result c.in-Err.field-0.disk c.in-Err.field-0.fault
     i.are i.count next c.in-Err.ensures.err back.1 (back.2 ∙ ap (λ l. back.0 ++ reverse l) c.push_reserved-in-Err.ensures.items)
 
 pub loop-clock-preserved : goal.loop-clock-preserved
@@ -20,8 +20,8 @@ loop-clock-preserved g c =
     let next = taken-next c.args.disks.items c.loop-clock.rest.items c.pop.new.self.items c.loop-clock.clock c.unwrap-disk.result is i.rest in
     let more = length-append c.loop-clock.laid.items (c.in-Ok-lay.stand ∷ []) in
     record {
-      are = subst (λ l. AreLaid g.D.Disk.tells g.D.Disk.moments g.D.Disk.faults c.args.terms.now c.args.digest.now c.args.passes c.args.disks.items l) (sym c.push_reserved.ensures.items)
-          (laid-more g.D.Disk.tells g.D.Disk.moments g.D.Disk.faults c.args.terms.now c.args.digest.now c.args.passes c.args.disks.items c.pop.new.self.items c.loop-clock.laid.items c.loop-clock.clock c.unwrap-disk.result c.in-Ok-lay.stand i.are i.count next c.in-Ok-lay.ensures.ok);
+      are = subst (λ l. AreLaid g.D.Disk.shown c.args.terms.now c.args.digest.now c.args.passes c.args.disks.items l) (sym c.push_reserved.ensures.items)
+          (laid-more g.D.Disk.shown c.args.terms.now c.args.digest.now c.args.passes c.args.disks.items c.pop.new.self.items c.loop-clock.laid.items c.loop-clock.clock c.unwrap-disk.result c.in-Ok-lay.stand i.are i.count next c.in-Ok-lay.ensures.ok);
       count = omega (arith, ap length c.push_reserved.ensures.items, more, i.count);
       rest = next.rest;
       room = omega (arith, i.room, c.pop.ensures.capacity);
@@ -32,4 +32,4 @@ pub given_back-disks-requires-clause-unused : goal.given_back-disks-requires-cla
 given_back-disks-requires-clause-unused g c =
     let i = c.loop-clock.invariant in
     let some : 0 < length c.args.disks.items = search rules in
-    laid-unused g.D.Disk.tells g.D.Disk.moments g.D.Disk.faults c.args.terms.now c.args.digest.now c.args.passes c.args.disks.items c.loop-clock.laid.items i.are some
+    laid-unused g.D.Disk.shown c.args.terms.now c.args.digest.now c.args.passes c.args.disks.items c.loop-clock.laid.items i.are some

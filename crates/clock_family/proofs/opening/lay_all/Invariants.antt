@@ -4,7 +4,7 @@ use Rattle.clock_family.proofs.opening.lay_all.Given as goal
 
 abbrev pub invariant-loop-clock : goal.invariant-loop-clock
 invariant-loop-clock g l = record {
-  are : AreLaid g.D.Disk.tells g.D.Disk.moments g.D.Disk.faults l.terms l.digest l.passes l.fn.disks.items l.laid.items;
+  are : AreLaid g.D.Disk.shown l.terms l.digest l.passes l.fn.disks.items l.laid.items;
   count : length l.laid.items ≡ l.clock;
   rest : reverse l.rest.items ≡ drop l.clock l.fn.disks.items;
   room : length l.fn.disks.items ≤ vec_capacity l.rest;

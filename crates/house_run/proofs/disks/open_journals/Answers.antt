@@ -25,9 +25,9 @@ returns-in-Err-clause-refused g c = λ journals are.
     let shelf = shelf_seen g.H.Shelf.files g.H.Shelf.faults g.H.Shelf.opened c.args.shelf.now c.close_journals.new.shelf in
     let is = c.deref.ensures ∙ ap (λ s. string_bytes s) c.index-names-clock.is ∙ name-at journals names clock c.index-names-clock.result are below ∙ ap (journal_name journals) (sym i.count) in
     let here : AreNotOpen journals (length names) (length c.loop-clock.disks.items) (fault_of c.in-Err.refusal) shelf =
-    not-open g.H.Disk.Disk.tells g.H.Disk.Disk.moments g.H.Disk.Disk.faults journals c.in-Err.refusal c.loop-clock.disks.items c.deref.result.now (length names) shelf
+    not-open g.H.Disk.Disk.shown journals c.in-Err.refusal c.loop-clock.disks.items c.deref.result.now (length names) shelf
     (g.H.Shelf.files c.loop-clock.shelf) (g.H.Shelf.files c.disk.new.self) (g.H.Shelf.faults c.loop-clock.shelf) (g.H.Shelf.faults c.disk.new.self) (g.H.Shelf.opened c.loop-clock.shelf) (g.H.Shelf.opened c.disk.new.self)
-    (let k = i.count in omega arith) (let k = i.count in let f = c.requires.few in omega arith) is (i.are journals are) c.in-Err.ensures.unchanged c.in-Err.ensures.opening.counts c.in-Err.ensures.opening.refused c.in-Err.ensures.opening.names
+    (let k = i.count in omega arith) (let k = i.count in let f = c.requires.few in omega arith) is (i.are journals are) c.disk.ensures.files c.disk.ensures.opening.counts c.in-Err.ensures.opening.refused c.in-Err.ensures.opening.names
     (c.close_journals.ensures journals (names-front journals names clock (omega arith) are)) in
     subst (λ (k : ℕ). AreNotOpen journals (length names) k c.fault_of.result shelf) i.count
     (subst (λ (fault : OpenFault). AreNotOpen journals (length names) (length c.loop-clock.disks.items) fault shelf) (sym c.fault_of.ensures) here)
@@ -54,10 +54,10 @@ loop-clock-preserved g c =
         ];
         are = λ journals are.
             let is = c.deref.ensures ∙ ap (λ s. string_bytes s) c.index-names-clock.is ∙ name-at journals names clock n are below ∙ ap (journal_name journals) (sym i.count) in
-            subst (λ disks. AreOpen g.H.Disk.Disk.tells g.H.Disk.Disk.moments g.H.Disk.Disk.faults journals disks shelf) (sym c.push_reserved.ensures.items)
-            (open-more g.H.Disk.Disk.tells g.H.Disk.Disk.moments g.H.Disk.Disk.faults journals c.loop-clock.disks.items disk c.deref.result.now shelf
-            (g.H.Shelf.files c.loop-clock.shelf) (g.H.Shelf.faults c.loop-clock.shelf) (g.H.Shelf.opened c.loop-clock.shelf) (let k = i.count in let f = c.requires.few in omega arith) is (i.are journals are)
-            c.in-Ok-disk.ensures.fresh c.in-Ok-disk.ensures.stands c.in-Ok-disk.ensures.others c.in-Ok-disk.ensures.opening.steady c.in-Ok-disk.ensures.opening.names);
+            subst (λ disks. AreOpen g.H.Disk.Disk.shown journals disks shelf) (sym c.push_reserved.ensures.items)
+            (open-more g.H.Disk.Disk.shown journals c.loop-clock.disks.items disk c.deref.result.now shelf
+            (g.H.Shelf.files c.loop-clock.shelf) (g.H.Shelf.faults c.loop-clock.shelf) (g.H.Shelf.opened c.loop-clock.shelf) is (i.are journals are)
+            c.in-Ok-disk.ensures.fresh c.in-Ok-disk.ensures.stands c.disk.ensures.files c.in-Ok-disk.ensures.opening.steady c.in-Ok-disk.ensures.opening.names);
       };
       room = let r = c.loop-clock.invariant.room in let k = c.push_reserved.ensures.capacity in omega arith;
     }

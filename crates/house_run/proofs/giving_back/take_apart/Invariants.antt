@@ -5,7 +5,7 @@ use Rattle.house_run.proofs.giving_back.take_apart.Given as goal
 -- the books before these were taken apart
 abbrev pub invariant-loop-book : goal.invariant-loop-book
 invariant-loop-book g l = record {
-  apart : BooksApart g.D.Disk.tells g.D.Disk.moments g.D.Disk.faults l.fn.books.items l.rest.items l.clocks.items l.disks.items;
+  apart : BooksApart g.D.Disk.shown l.fn.books.items l.rest.items l.clocks.items l.disks.items;
   clocks : length l.clocks.items + length l.rest.items ≤ vec_capacity l.clocks;
   disks : length l.disks.items + length l.rest.items ≤ vec_capacity l.disks;
 }

@@ -39,8 +39,8 @@ returns-in-Ok-answer g c =
     let are = subst (λ (names : List (String Global)). AreNames target names) (sym c.deref.ensures.value) c.in-Ok.ensures.names in
     let back = subst (λ (names : List (String Global)). AreNames target names) (sym c.deref-2.ensures.value) c.in-Ok.ensures.names in
     let long = c.in-Ok-open_journals.ensures.count ∙ ap length c.deref.ensures.value ∙ c.in-Ok.ensures.count in
-    let M : Result (Unit {0}) MoveFault → Type 0 = λ answer. Moves g.H.Disk.Disk.tells g.H.Disk.Disk.moments g.H.Disk.Disk.faults value.terms value.digest cs old disks answer in
-    journals-moved g.H.Disk.Disk.tells g.H.Disk.Disk.moments g.H.Disk.Disk.faults value cs target old disks shelf (g.H.Shelf.files c.open_journals.new.shelf) (g.H.Shelf.faults c.open_journals.new.shelf) (g.H.Shelf.opened c.open_journals.new.shelf) long
+    let M : Result (Unit {0}) MoveFault → Type 0 = λ answer. Moves g.H.Disk.Disk.shown value.terms value.digest cs old disks answer in
+    journals-moved g.H.Disk.Disk.shown value cs target old disks shelf (g.H.Shelf.files c.open_journals.new.shelf) (g.H.Shelf.faults c.open_journals.new.shelf) (g.H.Shelf.opened c.open_journals.new.shelf) long
     (c.in-Ok-open_journals.ensures.open target are) (c.close_journals.ensures target back) c.in-Ok-answer.field-0 (subst M c.in-Ok-answer.is c.move_journals-answer.ensures)
 
 pub returns : goal.returns
@@ -54,7 +54,7 @@ returns g c =
     let are = subst (λ (names : List (String Global)). AreNames target names) (sym c.deref.ensures.value) c.in-Ok.ensures.names in
     let back = subst (λ (names : List (String Global)). AreNames target names) (sym c.deref-2.ensures.value) c.in-Ok.ensures.names in
     let long = c.in-Ok-open_journals.ensures.count ∙ ap length c.deref.ensures.value ∙ c.in-Ok.ensures.count in
-    let M : Result (Unit {0}) MoveFault → Type 0 = λ answer. Moves g.H.Disk.Disk.tells g.H.Disk.Disk.moments g.H.Disk.Disk.faults value.terms value.digest cs old disks answer in
+    let M : Result (Unit {0}) MoveFault → Type 0 = λ answer. Moves g.H.Disk.Disk.shown value.terms value.digest cs old disks answer in
     subst (λ (end : Ended). JournalsNotMoved value cs target shelf end) (sym c.move_end.ensures)
-    (journals-not-moved g.H.Disk.Disk.tells g.H.Disk.Disk.moments g.H.Disk.Disk.faults value cs target old disks shelf (g.H.Shelf.files c.open_journals.new.shelf) (g.H.Shelf.faults c.open_journals.new.shelf) (g.H.Shelf.opened c.open_journals.new.shelf) long
+    (journals-not-moved g.H.Disk.Disk.shown value cs target old disks shelf (g.H.Shelf.files c.open_journals.new.shelf) (g.H.Shelf.faults c.open_journals.new.shelf) (g.H.Shelf.opened c.open_journals.new.shelf) long
     (c.in-Ok-open_journals.ensures.open target are) (c.close_journals.ensures target back) c.in-Err-answer.fault (subst M c.in-Err-answer.is c.move_journals-answer.ensures))

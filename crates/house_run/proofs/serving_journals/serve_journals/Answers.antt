@@ -41,6 +41,6 @@ returns g c =
     let are = subst (λ (names : List (String Global)). AreNames journals names) (sym c.deref.ensures.value) c.in-Ok.ensures.names in
     let back = subst (λ (names : List (String Global)). AreNames journals names) (sym c.deref-2.ensures.value) c.in-Ok.ensures.names in
     let long = c.in-Ok-open_journals.ensures.count ∙ ap length c.deref.ensures.value ∙ c.in-Ok.ensures.count in
-    served-journals g.H.Disk.Disk.tells g.H.Disk.Disk.moments g.H.Disk.Disk.faults g.N.Door.Door.told g.N.Door.Door.faults g.N.Door.Link.Link.told g.N.Door.Link.Link.faults g.N.Link.Link.told value journals (serving_as c.args.serving.now)
+    served-journals g.H.Disk.Disk.shown g.N.Door.Door.told g.N.Door.Door.faults g.N.Door.Link.Link.told g.N.Door.Link.Link.faults g.N.Link.Link.told value journals (serving_as c.args.serving.now)
     c.in-Ok-open_journals.disks.items c.host-answer.result.1.items shelf (g.H.Shelf.files c.open_journals.new.shelf) (g.H.Shelf.faults c.open_journals.new.shelf) (g.H.Shelf.opened c.open_journals.new.shelf) (g.N.Net.told c.args.net.now) (g.N.Net.told c.host-answer.new.net)
     (g.N.Net.faults c.args.net.now) (g.N.Net.faults c.host-answer.new.net) long (c.in-Ok-open_journals.ensures.open journals are) (c.close_journals.ensures journals back) c.host-answer.result.0 c.host-answer.ensures

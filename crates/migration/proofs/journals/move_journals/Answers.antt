@@ -18,7 +18,7 @@ move_all-answer-requires-clause-ready g c =
     let F : List (BookOf g.row.D.Denot) → Type 0 = λ books. AreFronts clocks books (length books) in
     let R : List (BookOf g.row.D.Denot) → Type 0 = λ books. AreReady clocks books in
     subst R (sym c.deref_mut.ensures.value)
-    (ready g.D.Disk.tells g.D.Disk.moments g.D.Disk.faults c.args.terms.now c.args.digest.now clocks c.args.disks.items o.books.items c.in-Ok.ensures.ok c.in-Ok.ensures.count c.requires.clocks count
+    (ready g.D.Disk.shown c.args.terms.now c.args.digest.now clocks c.args.disks.items o.books.items c.in-Ok.ensures.ok c.in-Ok.ensures.count c.requires.clocks count
     (subst F c.deref.ensures.value c.in-Ok-check_fronts.ensures.ok))
 
 pub returns-in-Err-check_fronts : goal.returns-in-Err-check_fronts
@@ -27,7 +27,7 @@ returns-in-Err-check_fronts g c =
     let clocks = histories c.args.clocks.now in
     let new = c.close_books.ensures ∙ no-more (disks_of o.books.items) o.room.items c.in-Ok.ensures.room.0 in
     let W : List (BookOf g.row.D.Denot) → Type 0 = λ books. IsFrontFault clocks books c.in-Err-check_fronts.fault in
-    not-moved g.D.Disk.tells g.D.Disk.moments g.D.Disk.faults c.args.terms.now c.args.digest.now clocks c.args.disks.items o.books.items c.in-Ok.ensures.ok c.in-Ok.ensures.count c.in-Err-check_fronts.fault c.close_books.result.items new
+    not-moved g.D.Disk.shown c.args.terms.now c.args.digest.now clocks c.args.disks.items o.books.items c.in-Ok.ensures.ok c.in-Ok.ensures.count c.in-Err-check_fronts.fault c.close_books.result.items new
     (subst W c.deref.ensures.value c.in-Err-check_fronts.ensures.err)
 
 pub returns-in-Ok-check_fronts : goal.returns-in-Ok-check_fronts
@@ -36,9 +36,9 @@ returns-in-Ok-check_fronts g c =
     let clocks = histories c.args.clocks.now in
     let last = c.move_all-answer.new.books in
     let F : List (BookOf g.row.D.Denot) → Type 0 = λ books. AreFronts clocks books (length books) in
-    let O : List (BookOf g.row.D.Denot) → Type 0 = λ books. AreOffered g.D.Disk.tells g.D.Disk.moments g.D.Disk.faults clocks books last c.move_all-answer.result in
+    let O : List (BookOf g.row.D.Denot) → Type 0 = λ books. AreOffered g.D.Disk.shown clocks books last c.move_all-answer.result in
     let long = c.move_all-answer.ensures.count ∙ c.deref_mut.ensures.len in
     let new : c.close_books-in-Ok-check_fronts.result.items ≡ disks_of last = c.close_books-in-Ok-check_fronts.ensures ∙ no-more _ o.room.items c.in-Ok.ensures.room.0 ∙ ap disks_of (take_at last _ o.books.len long) in
     let none : ClockHistory = record { terms = c.args.terms.now; number = 0; reports = [] } in
-    moved g.D.Disk.tells g.D.Disk.moments g.D.Disk.faults c.args.terms.now c.args.digest.now clocks c.args.disks.items o.books.items c.in-Ok.ensures.ok c.in-Ok.ensures.count last (subst F c.deref.ensures.value c.in-Ok-check_fronts.ensures.ok)
+    moved g.D.Disk.shown c.args.terms.now c.args.digest.now clocks c.args.disks.items o.books.items c.in-Ok.ensures.ok c.in-Ok.ensures.count last (subst F c.deref.ensures.value c.in-Ok-check_fronts.ensures.ok)
     c.close_books-in-Ok-check_fronts.result.items c.move_all-answer.result none new (subst O c.deref_mut.ensures.value c.move_all-answer.ensures)

@@ -3,4 +3,4 @@ use Rattle.migration.proofs.Offering.{ArePartly}
 use Rattle.migration.proofs.moving.move_all.Given as goal
 
 abbrev pub invariant-loop-clock : goal.invariant-loop-clock
-invariant-loop-clock g l = ArePartly g.D.Disk.tells g.D.Disk.moments g.D.Disk.faults (histories l.clocks) l.initial.books l.books l.clock
+invariant-loop-clock g l = ArePartly g.D.Disk.shown (histories l.clocks) l.initial.books l.books l.clock

@@ -45,23 +45,23 @@ unreachable-requires g c =
 pub returns-in-Taken-clause-goes_on : goal.returns-in-Taken-clause-goes_on
 returns-in-Taken-clause-goes_on g c =
     let source = c.args.source.now.history in
-    goes-next g.D.Disk.tells g.D.Disk.moments g.D.Disk.faults source c.args.place c.args.book.now c.offer.new.self c.in-Ok.report c.offer.result c.requires.first (at-place source.reports c.args.place c.in-Ok.report c.in-Ok.ensures)
-    c.offer.ensures.answer c.offer.ensures.origin c.offer.ensures.told c.offer.ensures.leaves
+    goes-next g.D.Disk.shown source c.args.place c.args.book.now c.offer.new.self c.in-Ok.report c.offer.result c.requires.first (at-place source.reports c.args.place c.in-Ok.report c.in-Ok.ensures)
+    c.offer.ensures.answer c.offer.ensures.origin c.offer.ensures.later c.offer.ensures.leaves
 
 pub returns-in-Taken-clause-first : goal.returns-in-Taken-clause-first
 returns-in-Taken-clause-first g c =
     let source = c.args.source.now.history in
-    has-next g.D.Disk.tells g.D.Disk.moments g.D.Disk.faults source c.args.place c.args.book.now c.offer.new.self c.in-Ok.report c.offer.result c.requires.first (at-place source.reports c.args.place c.in-Ok.report c.in-Ok.ensures)
+    has-next g.D.Disk.shown source c.args.place c.args.book.now c.offer.new.self c.in-Ok.report c.offer.result c.requires.first (at-place source.reports c.args.place c.in-Ok.report c.in-Ok.ensures)
     c.offer.ensures.answer c.offer.ensures.origin c.in-Taken.is
 
 pub returns-in-Full-clause-goes_on : goal.returns-in-Full-clause-goes_on
 returns-in-Full-clause-goes_on g c =
     let source = c.args.source.now.history in
-    goes-next g.D.Disk.tells g.D.Disk.moments g.D.Disk.faults source c.args.place c.args.book.now c.offer.new.self c.in-Ok.report c.offer.result c.requires.first (at-place source.reports c.args.place c.in-Ok.report c.in-Ok.ensures)
-    c.offer.ensures.answer c.offer.ensures.origin c.offer.ensures.told c.offer.ensures.leaves
+    goes-next g.D.Disk.shown source c.args.place c.args.book.now c.offer.new.self c.in-Ok.report c.offer.result c.requires.first (at-place source.reports c.args.place c.in-Ok.report c.in-Ok.ensures)
+    c.offer.ensures.answer c.offer.ensures.origin c.offer.ensures.later c.offer.ensures.leaves
 
 pub returns-in-DiskFault-clause-goes_on : goal.returns-in-DiskFault-clause-goes_on
 returns-in-DiskFault-clause-goes_on g c =
     let source = c.args.source.now.history in
-    goes-next g.D.Disk.tells g.D.Disk.moments g.D.Disk.faults source c.args.place c.args.book.now c.offer.new.self c.in-Ok.report c.offer.result c.requires.first (at-place source.reports c.args.place c.in-Ok.report c.in-Ok.ensures)
-    c.offer.ensures.answer c.offer.ensures.origin c.offer.ensures.told c.offer.ensures.leaves
+    goes-next g.D.Disk.shown source c.args.place c.args.book.now c.offer.new.self c.in-Ok.report c.offer.result c.requires.first (at-place source.reports c.args.place c.in-Ok.report c.in-Ok.ensures)
+    c.offer.ensures.answer c.offer.ensures.origin c.offer.ensures.later c.offer.ensures.leaves

@@ -24,7 +24,7 @@ returns-in-Err-clause-err g c =
     let i = c.loop-clock.invariant in
     let is : c.loop-clock.rest.items ≡ c.pop.new.self.items ++ c.unwrap-disk.result ∷ [] = search rules in
     let next = taken-next c.args.disks.items c.loop-clock.rest.items c.pop.new.self.items c.loop-clock.clock c.unwrap-disk.result is i.rest in
-    not-opened g.D.Disk.tells g.D.Disk.moments g.D.Disk.faults c.args.terms.now c.args.digest.now c.args.disks.items c.pop.new.self.items c.loop-clock.books.items c.loop-clock.clock c.unwrap-disk.result c.in-Err.field-0.disk c.in-Err.field-0.fault
+    not-opened g.D.Disk.shown c.args.terms.now c.args.digest.now c.args.disks.items c.pop.new.self.items c.loop-clock.books.items c.loop-clock.clock c.unwrap-disk.result c.in-Err.field-0.disk c.in-Err.field-0.fault
     i.are i.count next c.in-Err.ensures.err c.close_books-disks.result.items (c.close_books-disks.ensures ∙ ap (λ l. disks_of c.loop-clock.books.items ++ reverse l) c.push_reserved-in-Err.ensures.items)
 
 pub loop-clock-preserved : goal.loop-clock-preserved
@@ -34,8 +34,8 @@ loop-clock-preserved g c =
     let next = taken-next c.args.disks.items c.loop-clock.rest.items c.pop.new.self.items c.loop-clock.clock c.unwrap-disk.result is i.rest in
     let more = length-append c.loop-clock.books.items (c.in-Ok-open.book ∷ []) in
     record {
-      are = subst (λ l. AreOpen g.D.Disk.tells g.D.Disk.moments g.D.Disk.faults c.args.terms.now c.args.digest.now c.args.disks.items l) (sym c.push_reserved.ensures.items)
-          (open-more g.D.Disk.tells g.D.Disk.moments g.D.Disk.faults c.args.terms.now c.args.digest.now c.args.disks.items c.pop.new.self.items c.loop-clock.books.items c.loop-clock.clock c.unwrap-disk.result c.in-Ok-open.book i.are i.count next c.in-Ok-open.ensures.ok);
+      are = subst (λ l. AreOpen g.D.Disk.shown c.args.terms.now c.args.digest.now c.args.disks.items l) (sym c.push_reserved.ensures.items)
+          (open-more g.D.Disk.shown c.args.terms.now c.args.digest.now c.args.disks.items c.pop.new.self.items c.loop-clock.books.items c.loop-clock.clock c.unwrap-disk.result c.in-Ok-open.book i.are i.count next c.in-Ok-open.ensures.ok);
       count = omega (arith, ap length c.push_reserved.ensures.items, more, i.count);
       rest = next.rest;
       room = omega (arith, i.room, c.pop.ensures.capacity);

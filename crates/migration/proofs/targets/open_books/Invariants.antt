@@ -4,7 +4,7 @@ use Rattle.migration.proofs.targets.open_books.Given as goal
 
 abbrev pub invariant-loop-clock : goal.invariant-loop-clock
 invariant-loop-clock g l = record {
-  are : AreOpen g.D.Disk.tells g.D.Disk.moments g.D.Disk.faults l.terms l.digest l.fn.disks.items l.books.items;
+  are : AreOpen g.D.Disk.shown l.terms l.digest l.fn.disks.items l.books.items;
   count : length l.books.items ≡ l.clock;
   rest : reverse l.rest.items ≡ drop l.clock l.fn.disks.items;
   room : length l.fn.disks.items ≤ vec_capacity l.rest;

@@ -1,4 +1,5 @@
 use Rattle.std.proofs.Common.{◌≡◌, ◌-◌, IsTrue, length}
+use Rattle.house_io.specs.Disks.{is_told, told_moments, IsLater}
 use Rattle.house_io.specs.Moments.{synced_at}
 use Rattle.report_journal.specs.Scans.{places_in}
 use Rattle.recovery.specs.Journaled.{owner_of}
@@ -8,10 +9,10 @@ use Rattle.recovery.proofs.recovering.read_reports.Given as goal
 abbrev pub invariant-reports : goal.invariant-reports
 invariant-reports g l = record {
   owner : l.reader.owner ≡ owner_of l.terms l.clock l.digest;
-  given : HasGiven (IsTrue (g.D.Disk.tells l.disk)) l.reader l.reports.items (g.D.Disk.moments l.disk).now.read;
-  synced : IsTrue (g.D.Disk.tells l.disk) → g.D.Disk.moments l.disk ≡ synced_at (g.D.Disk.moments l.fn.disk);
-  tells : IsTrue (g.D.Disk.tells l.disk) → IsTrue (g.D.Disk.tells l.fn.disk);
-  steady : g.D.Disk.faults l.disk ≡ g.D.Disk.faults l.fn.disk;
+  given : HasGiven (IsTrue (is_told (g.D.Disk.shown l.disk))) l.reader l.reports.items (told_moments (g.D.Disk.shown l.disk)).now.read;
+  synced : IsTrue (is_told (g.D.Disk.shown l.disk)) → told_moments (g.D.Disk.shown l.disk) ≡ synced_at (told_moments (g.D.Disk.shown l.fn.disk));
+  later : IsLater (g.D.Disk.shown l.fn.disk) (g.D.Disk.shown l.disk);
+  steady : (g.D.Disk.shown l.disk).faults ≡ (g.D.Disk.shown l.fn.disk).faults;
 }
 
 abbrev pub decreases-reports : goal.decreases-reports

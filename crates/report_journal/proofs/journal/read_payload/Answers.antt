@@ -1,10 +1,11 @@
 use Rattle.std.proofs.Common.{◌≡◌, ◌∙◌, ◌-◌, ap, min, length, drop, rules}
+use Rattle.house_io.specs.Disks.{told_moments}
 use Rattle.report_journal.proofs.Placed.{read_back}
 use Rattle.report_journal.proofs.journal.read_payload.Goals as goal
 
 pub returns-clause-payload : goal.returns-clause-payload
 returns-clause-payload g c told whole =
-    let file = (g.D.Disk.moments c.args.disk.now).now.read in
+    let file = (told_moments (g.D.Disk.shown c.args.disk.now)).now.read in
     let read = c.in_ok-read_at.ensures.bytes told in
     let size : length c.deref_mut.result.now ≡ c.args.place.length = search rules in
     let into_size : length c.read_at.new.into ≡ c.args.place.length = search rules in

@@ -1,4 +1,4 @@
-use Rattle.std.proofs.Common.{◌≡◌, ap, inr, length, arith, rules}
+use Rattle.std.proofs.Common.{◌≡◌, inr, length, arith, rules}
 use Rattle.report_journal.proofs.Gates.{size, stands, damaged}
 use Rattle.report_journal.proofs.Prefixes.{header_within}
 use Rattle.report_journal.proofs.scanning.scan_records.Goals as goal
@@ -8,11 +8,9 @@ read_records-requires-clause-limit g c = omega (arith, c.first_gate.ensures, hea
 
 pub returns-then-found-clause-found : goal.returns-then-found-clause-found
 returns-then-found-clause-found g c told =
-    let told_size = c.read_records.ensures.reads.told told in
-    let file_is = ap (λ ms. ms.now.read) (c.size.ensures.moments told_size) in
-    let has = c.requires.has_it (c.size.ensures.tells told_size) in
-    let are = rw (file_is, c.first_gate.ensures) at (c.in_ok-found.ensures.found told).0 in
-    let ends = rw (file_is, c.if-found.true) at (c.in_ok-found.ensures.found told).1 in
+    let has = c.requires.has_it (c.read_records.ensures.reads.later.told told) in
+    let are = rw (c.first_gate.ensures) at (c.in_ok-found.ensures.found told).0 in
+    let ends = rw (c.if-found.true) at (c.in_ok-found.ensures.found told).1 in
     rw c.from_vec-records.ensures (
       stands _ c.args.header has _ _ are c.in_ok-found.ensures.places.limit ends,
       are.placed,
@@ -21,10 +19,8 @@ returns-then-found-clause-found g c told =
 
 pub returns-else-found-clause-found : goal.returns-else-found-clause-found
 returns-else-found-clause-found g c told =
-    let told_size = c.read_records.ensures.reads.told told in
-    let file_is = ap (λ ms. ms.now.read) (c.size.ensures.moments told_size) in
-    let has = c.requires.has_it (c.size.ensures.tells told_size) in
-    let are = rw (file_is, c.first_gate.ensures) at (c.in_ok-found.ensures.found told).0 in
-    let ends = rw (file_is, c.if-found.false) at (c.in_ok-found.ensures.found told).1 in
+    let has = c.requires.has_it (c.read_records.ensures.reads.later.told told) in
+    let are = rw (c.first_gate.ensures) at (c.in_ok-found.ensures.found told).0 in
+    let ends = rw (c.if-found.false) at (c.in_ok-found.ensures.found told).1 in
     let count : c.len.result ≡ length c.in_ok-found.found.places.items = search rules in
     rw c.from_vec-records.ensures (inr (omega (arith, count), damaged _ c.args.header has _ _ are c.in_ok-found.ensures.places.limit ends.0 ends.1, are.placed))

@@ -1,5 +1,6 @@
 -- The journal is full, the disk fails, or the report is taken.
 use Rattle.std.proofs.Common.{◌≡◌, ◌∙◌, ◌+◌, ◌≤◌, ℕ, IsTrue, List, length, Some, None, Err, refl, sym, ap, subst, arith}
+use Rattle.house_io.specs.Disks.{is_told, told_moments}
 use Rattle.std.specs.Option.{option_map}
 use Rattle.lot_base.specs.declared.limits.TheConstants.{GREATEST_FILE}
 use Rattle.clock.specs.Reports.{ClockHistory}
@@ -31,7 +32,7 @@ take-requires-clause-room g c =
     let N : ClockHistory → Type 0 = λ h. IsNext h r in
     let next : IsNext b.noted.clock r = subst N (ap (λ v. v.state.clock) (sym c.self.view_is)) (record { take = c.requires.take; fits = c.requires.fits }) in
     let report = next-report b.start.terms b.noted.clock r c.self.invariant.terms next in
-    let same : j.end + 6 + length c.as_slice.result.now ≡ record_end owner b.noted.clock.reports r = ap (λ p. j.end + 6 + length p) pay ∙ needed-is j j (IsTrue (g.D.Disk.tells j.disk)) (IsTrue (g.D.Disk.tells j.disk)) (g.D.Disk.moments j.disk) (g.D.Disk.moments j.disk) (g.D.Disk.faults j.disk) (g.D.Disk.faults j.disk) b.noted b.pending b.start c.self.invariant (λ t. t) (omega arith) r in
+    let same : j.end + 6 + length c.as_slice.result.now ≡ record_end owner b.noted.clock.reports r = ap (λ p. j.end + 6 + length p) pay ∙ needed-is j j (IsTrue (is_told (g.D.Disk.shown j.disk))) (IsTrue (is_told (g.D.Disk.shown j.disk))) (told_moments (g.D.Disk.shown j.disk)) (told_moments (g.D.Disk.shown j.disk)) (g.D.Disk.shown j.disk).faults (g.D.Disk.shown j.disk).faults b.noted b.pending b.start c.self.invariant (λ t. t) (omega arith) r in
     let within : record_end owner b.noted.clock.reports r ≤ GREATEST_FILE = subst (λ m. m ≤ GREATEST_FILE) same c.in-Ok.ensures.answer.0.fits in
     let room = room-for owner b.noted (j.spare + kept_for b.pending) r c.self.invariant.room c.self.invariant.terms c.self.invariant.are report (c.clock-more.ensures.more r next.take) within in
     room.0
@@ -50,11 +51,11 @@ invariant_of-self g c =
     let N : ClockHistory → Type 0 = λ h. IsNext h r in
     let next : IsNext b.noted.clock r = subst N (ap (λ v. v.state.clock) (sym c.self.view_is)) (record { take = c.requires.take; fits = c.requires.fits }) in
     let report = next-report b.start.terms b.noted.clock r c.self.invariant.terms next in
-    let A : List ℕ → Type 0 = λ p. AtEach (IsBeforeOrAfter j.contents p) (g.D.Disk.moments j.disk) (g.D.Disk.moments k.disk) in
-    let call : IsTrue (g.D.Disk.tells k.disk) → A (payload r) = λ t. subst A pay (c.append_hinted.ensures.writes.2.leaves jnone t).stand in
+    let A : List ℕ → Type 0 = λ p. AtEach (IsBeforeOrAfter j.contents p) (told_moments (g.D.Disk.shown j.disk)) (told_moments (g.D.Disk.shown k.disk)) in
+    let call : IsTrue (is_told (g.D.Disk.shown k.disk)) → A (payload r) = λ t. subst A pay (c.append_hinted.ensures.writes.2.leaves jnone t).stand in
     let answer = c.in-Ok.ensures.answer in
     let zero : kept_for b.pending ≡ 0 = ap kept_for none in
-    rw none (one-more j k (IsTrue (g.D.Disk.tells j.disk)) (IsTrue (g.D.Disk.tells k.disk)) (g.D.Disk.moments j.disk) (g.D.Disk.moments k.disk) (g.D.Disk.faults j.disk) (g.D.Disk.faults k.disk) b.noted b.pending b.start c.self.invariant c.append_hinted.ensures.tells (omega (arith, c.in-Ok.ensures.faults)) c.take.new.self r (entry.Offered r) next answer.2
+    rw none (one-more j k (IsTrue (is_told (g.D.Disk.shown j.disk))) (IsTrue (is_told (g.D.Disk.shown k.disk))) (told_moments (g.D.Disk.shown j.disk)) (told_moments (g.D.Disk.shown k.disk)) (g.D.Disk.shown j.disk).faults (g.D.Disk.shown k.disk).faults b.noted b.pending b.start c.self.invariant c.append_hinted.ensures.later.told (omega (arith, c.in-Ok.ensures.faults)) c.take.new.self r (entry.Offered r) next answer.2
     (answer.1.end ∙ ap (λ p. j.end + 5 + length p) pay) (omega (arith, answer.3, zero)) (λ t. (c.in-Ok.ensures.writes.2.end t).0 ∙ ap (with_one_more j.contents) pay) call
     c.take.ensures.clock c.take.ensures.history refl refl c.take.ensures.reports c.take.ensures.quantities)
 
@@ -72,15 +73,15 @@ invariant_of-self-in-Err-DiskFault g c =
     let N : ClockHistory → Type 0 = λ h. IsNext h r in
     let next : IsNext b.noted.clock r = subst N (ap (λ v. v.state.clock) (sym c.self.view_is)) (record { take = c.requires.take; fits = c.requires.fits }) in
     let report = next-report b.start.terms b.noted.clock r c.self.invariant.terms next in
-    let A : List ℕ → Type 0 = λ p. AtEach (IsBeforeOrAfter j.contents p) (g.D.Disk.moments j.disk) (g.D.Disk.moments k.disk) in
-    let call : IsTrue (g.D.Disk.tells k.disk) → A (payload r) = λ t. subst A pay (c.append_hinted.ensures.writes.2.leaves jnone t).stand in
+    let A : List ℕ → Type 0 = λ p. AtEach (IsBeforeOrAfter j.contents p) (told_moments (g.D.Disk.shown j.disk)) (told_moments (g.D.Disk.shown k.disk)) in
+    let call : IsTrue (is_told (g.D.Disk.shown k.disk)) → A (payload r) = λ t. subst A pay (c.append_hinted.ensures.writes.2.leaves jnone t).stand in
     let was : c.append_hinted.result ≡ Err fault.DiskFault = c.in-Err-DiskFault.is ∙ ap (λ x. Err x) c.in-Err-DiskFault.field-0-is in
     let answer = rw was at c.append_hinted.ensures.answer in
     let counts = rw was at c.append_hinted.ensures.faults in
-    let same : j.end + 6 + length c.as_slice.result.now ≡ record_end owner b.noted.clock.reports r = ap (λ p. j.end + 6 + length p) pay ∙ needed-is j j (IsTrue (g.D.Disk.tells j.disk)) (IsTrue (g.D.Disk.tells j.disk)) (g.D.Disk.moments j.disk) (g.D.Disk.moments j.disk) (g.D.Disk.faults j.disk) (g.D.Disk.faults j.disk) b.noted b.pending b.start c.self.invariant (λ t. t) (omega arith) r in
+    let same : j.end + 6 + length c.as_slice.result.now ≡ record_end owner b.noted.clock.reports r = ap (λ p. j.end + 6 + length p) pay ∙ needed-is j j (IsTrue (is_told (g.D.Disk.shown j.disk))) (IsTrue (is_told (g.D.Disk.shown j.disk))) (told_moments (g.D.Disk.shown j.disk)) (told_moments (g.D.Disk.shown j.disk)) (g.D.Disk.shown j.disk).faults (g.D.Disk.shown j.disk).faults b.noted b.pending b.start c.self.invariant (λ t. t) (omega arith) r in
     let within : record_end owner b.noted.clock.reports r ≤ GREATEST_FILE = subst (λ m. m ≤ GREATEST_FILE) same answer.0.fits in
     let room = room-for owner b.noted (j.spare + kept_for b.pending) r c.self.invariant.room c.self.invariant.terms c.self.invariant.are report (c.clock-more.ensures.more r next.take) within in
-    put-in-doubt j k (IsTrue (g.D.Disk.tells j.disk)) (IsTrue (g.D.Disk.tells k.disk)) (g.D.Disk.moments j.disk) (g.D.Disk.moments k.disk) (g.D.Disk.faults j.disk) (g.D.Disk.faults k.disk) b.noted b.pending b.start c.self.invariant c.append_hinted.ensures.tells counts.0 c.mark.new.self r none next room.0 (answer.2 ∙ ap (λ p. Some p) pay) answer.1.end (omega (arith, answer.3))
+    put-in-doubt j k (IsTrue (is_told (g.D.Disk.shown j.disk))) (IsTrue (is_told (g.D.Disk.shown k.disk))) (told_moments (g.D.Disk.shown j.disk)) (told_moments (g.D.Disk.shown k.disk)) (g.D.Disk.shown j.disk).faults (g.D.Disk.shown k.disk).faults b.noted b.pending b.start c.self.invariant c.append_hinted.ensures.later.told counts.0 c.mark.new.self r none next room.0 (answer.2 ∙ ap (λ p. Some p) pay) answer.1.end (omega (arith, answer.3))
     (λ t. rw was at (c.append_hinted.ensures.writes.2.end t)) counts.1 call c.mark.ensures.clock c.mark.ensures.history c.mark.ensures.reports c.mark.ensures.quantities
 
 pub returns-in-Ok-clause-moments : goal.returns-in-Ok-clause-moments
@@ -97,9 +98,9 @@ returns-in-Ok-clause-moments g c =
     let N : ClockHistory → Type 0 = λ h. IsNext h r in
     let next : IsNext b.noted.clock r = subst N (ap (λ v. v.state.clock) (sym c.self.view_is)) (record { take = c.requires.take; fits = c.requires.fits }) in
     let report = next-report b.start.terms b.noted.clock r c.self.invariant.terms next in
-    let A : List ℕ → Type 0 = λ p. AtEach (IsBeforeOrAfter j.contents p) (g.D.Disk.moments j.disk) (g.D.Disk.moments k.disk) in
-    let call : IsTrue (g.D.Disk.tells k.disk) → A (payload r) = λ t. subst A pay (c.append_hinted.ensures.writes.2.leaves jnone t).stand in
-    rw (← c.self.view_is) (λ t. at-either owner b.noted.clock.reports r j.contents (g.D.Disk.moments j.disk) (g.D.Disk.moments k.disk) c.self.invariant.are report (c.self.invariant.contents (c.append_hinted.ensures.tells t)) (call t))
+    let A : List ℕ → Type 0 = λ p. AtEach (IsBeforeOrAfter j.contents p) (told_moments (g.D.Disk.shown j.disk)) (told_moments (g.D.Disk.shown k.disk)) in
+    let call : IsTrue (is_told (g.D.Disk.shown k.disk)) → A (payload r) = λ t. subst A pay (c.append_hinted.ensures.writes.2.leaves jnone t).stand in
+    rw (← c.self.view_is) (λ t. at-either owner b.noted.clock.reports r j.contents (told_moments (g.D.Disk.shown j.disk)) (told_moments (g.D.Disk.shown k.disk)) c.self.invariant.are report (c.self.invariant.contents (c.append_hinted.ensures.later.told t)) (call t))
 
 pub returns-in-Err-Full-clause-moments : goal.returns-in-Err-Full-clause-moments
 returns-in-Err-Full-clause-moments g c =
@@ -115,9 +116,9 @@ returns-in-Err-Full-clause-moments g c =
     let N : ClockHistory → Type 0 = λ h. IsNext h r in
     let next : IsNext b.noted.clock r = subst N (ap (λ v. v.state.clock) (sym c.self.view_is)) (record { take = c.requires.take; fits = c.requires.fits }) in
     let report = next-report b.start.terms b.noted.clock r c.self.invariant.terms next in
-    let A : List ℕ → Type 0 = λ p. AtEach (IsBeforeOrAfter j.contents p) (g.D.Disk.moments j.disk) (g.D.Disk.moments k.disk) in
-    let call : IsTrue (g.D.Disk.tells k.disk) → A (payload r) = λ t. subst A pay (c.append_hinted.ensures.writes.2.leaves jnone t).stand in
-    rw (← c.self.view_is) (λ t. at-either owner b.noted.clock.reports r j.contents (g.D.Disk.moments j.disk) (g.D.Disk.moments k.disk) c.self.invariant.are report (c.self.invariant.contents (c.append_hinted.ensures.tells t)) (call t))
+    let A : List ℕ → Type 0 = λ p. AtEach (IsBeforeOrAfter j.contents p) (told_moments (g.D.Disk.shown j.disk)) (told_moments (g.D.Disk.shown k.disk)) in
+    let call : IsTrue (is_told (g.D.Disk.shown k.disk)) → A (payload r) = λ t. subst A pay (c.append_hinted.ensures.writes.2.leaves jnone t).stand in
+    rw (← c.self.view_is) (λ t. at-either owner b.noted.clock.reports r j.contents (told_moments (g.D.Disk.shown j.disk)) (told_moments (g.D.Disk.shown k.disk)) c.self.invariant.are report (c.self.invariant.contents (c.append_hinted.ensures.later.told t)) (call t))
 
 pub returns-in-Err-DiskFault-clause-moments : goal.returns-in-Err-DiskFault-clause-moments
 returns-in-Err-DiskFault-clause-moments g c =
@@ -133,6 +134,6 @@ returns-in-Err-DiskFault-clause-moments g c =
     let N : ClockHistory → Type 0 = λ h. IsNext h r in
     let next : IsNext b.noted.clock r = subst N (ap (λ v. v.state.clock) (sym c.self.view_is)) (record { take = c.requires.take; fits = c.requires.fits }) in
     let report = next-report b.start.terms b.noted.clock r c.self.invariant.terms next in
-    let A : List ℕ → Type 0 = λ p. AtEach (IsBeforeOrAfter j.contents p) (g.D.Disk.moments j.disk) (g.D.Disk.moments k.disk) in
-    let call : IsTrue (g.D.Disk.tells k.disk) → A (payload r) = λ t. subst A pay (c.append_hinted.ensures.writes.2.leaves jnone t).stand in
-    rw (← c.self.view_is) (λ t. at-either owner b.noted.clock.reports r j.contents (g.D.Disk.moments j.disk) (g.D.Disk.moments k.disk) c.self.invariant.are report (c.self.invariant.contents (c.append_hinted.ensures.tells t)) (call t))
+    let A : List ℕ → Type 0 = λ p. AtEach (IsBeforeOrAfter j.contents p) (told_moments (g.D.Disk.shown j.disk)) (told_moments (g.D.Disk.shown k.disk)) in
+    let call : IsTrue (is_told (g.D.Disk.shown k.disk)) → A (payload r) = λ t. subst A pay (c.append_hinted.ensures.writes.2.leaves jnone t).stand in
+    rw (← c.self.view_is) (λ t. at-either owner b.noted.clock.reports r j.contents (told_moments (g.D.Disk.shown j.disk)) (told_moments (g.D.Disk.shown k.disk)) c.self.invariant.are report (c.self.invariant.contents (c.append_hinted.ensures.later.told t)) (call t))

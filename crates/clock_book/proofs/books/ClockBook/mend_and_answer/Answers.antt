@@ -1,4 +1,5 @@
 use Rattle.std.proofs.Common.{ℕ, Some, inr, subst}
+use Rattle.house_io.specs.Disks.{told_moments}
 use Rattle.house_io.specs.Moments.{AtEach}
 use Rattle.clock_book.specs.declared.origins.Origin.{Origin}
 use Rattle.clock_book.specs.Past.{owner_in, IsEither}
@@ -15,15 +16,15 @@ pub returns-in-Ok-clause-moments : goal.returns-in-Ok-clause-moments
 returns-in-Ok-clause-moments g c t =
     let mid = c.settle_pending.new.self in
     let A : Origin → Type 0 = λ o. Answers (owner_in o) c.judge_and_append.result mid.state c.args.report c.judge_and_append.new.self.state in
-    let P : Origin → Type 0 = λ o. AtEach (IsEither (owner_in o) mid.state.clock.reports (Some c.args.report)) (g.D.Disk.moments mid.disk) (g.D.Disk.moments c.judge_and_append.new.self.disk) in
+    let P : Origin → Type 0 = λ o. AtEach (IsEither (owner_in o) mid.state.clock.reports (Some c.args.report)) (told_moments (g.D.Disk.shown mid.disk)) (told_moments (g.D.Disk.shown c.judge_and_append.new.self.disk)) in
     inr (
       mid.state,
       c.in-Ok.ensures.mended,
       subst A c.settle_pending.ensures.origin c.judge_and_append.ensures.answer,
-      (g.D.Disk.moments mid.disk, c.settle_pending.ensures.moments (c.judge_and_append.ensures.tells t), subst P c.settle_pending.ensures.origin (c.judge_and_append.ensures.moments t)),
-      c.in-Ok.ensures.gate (c.judge_and_append.ensures.tells t),
+      (told_moments (g.D.Disk.shown mid.disk), c.settle_pending.ensures.moments (c.judge_and_append.ensures.later.told t), subst P c.settle_pending.ensures.origin (c.judge_and_append.ensures.moments t)),
+      c.in-Ok.ensures.gate (c.judge_and_append.ensures.later.told t),
     )
 
 pub returns-in-Ok-clause-faults : goal.returns-in-Ok-clause-faults
 returns-in-Ok-clause-faults g c =
-    subst (λ (n : ℕ). CountsOffer n (g.D.Disk.faults c.judge_and_append.new.self.disk) c.judge_and_append.result) c.in-Ok.ensures.cause.steady c.judge_and_append.ensures.faults
+    subst (λ (n : ℕ). CountsOffer n (g.D.Disk.shown c.judge_and_append.new.self.disk).faults c.judge_and_append.result) c.in-Ok.ensures.cause.steady c.judge_and_append.ensures.faults

@@ -1,4 +1,5 @@
 use Rattle.std.proofs.Common.{IsTrue, ap, subst, sym, refl}
+use Rattle.house_io.specs.Disks.{is_told, told_moments}
 use Rattle.house_io.specs.Moments.{Moments}
 use Rattle.report_journal.specs.Scans.{IsScan}
 use Rattle.recovery.specs.Journaled.{owner_of}
@@ -7,9 +8,9 @@ use Rattle.recovery.proofs.streaming.Reports.begin.Goals as goal
 
 pub returns-clause-given : goal.returns-clause-given
 returns-clause-given g c =
-    let new = (g.D.Disk.moments c.scanned.new.disk).now.read in
+    let new = (told_moments (g.D.Disk.shown c.scanned.new.disk)).now.read in
     let scan = c.in_ok-scan.scan in
-    begun (IsTrue (g.D.Disk.tells c.scanned.new.disk)) (record {
+    begun (IsTrue (is_told (g.D.Disk.shown c.scanned.new.disk))) (record {
       owner = owner_of c.args.terms.now c.args.clock c.args.digest.now;
       scan = scan;
       given = 0;

@@ -1,4 +1,5 @@
 use Rattle.std.proofs.Common.{◌∙◌, ◌+◌, IsTrue, ap, subst, arith}
+use Rattle.house_io.specs.Disks.{is_told, told_moments}
 use Rattle.std.specs.List.{slice_get}
 use Rattle.house_io.specs.Moments.{Moments}
 use Rattle.report_journal.specs.Scans.{places_in}
@@ -34,8 +35,8 @@ returns-in-Ok-None-clause-answer g c given has =
     let unbroken = ap (λ (r : ReportsOf). r.broken) c.self.view_is ∙ c.requires.unbroken in
     let there = ap (λ (r : ReportsOf). slice_get (places_in r.scan) r.given) c.self.view_is ∙ c.requires.next in
     let none : HasNoReportAt (record view { window = c.cover.new.self }) c.args.place = rw c.in-Ok-None.field-0-is at c.in-Ok-None.ensures.none in
-    answers-none view c.args.self.now c.self.view_is unbroken (c.self.invariant.2 unbroken) (IsTrue (g.D.Disk.tells c.args.disk.now)) (IsTrue (g.D.Disk.tells c.cover.new.disk)) c.cover.new.self c.args.place given
-    (g.D.Disk.moments c.args.disk.now).now.read (g.D.Disk.moments c.cover.new.disk).now.read there c.cover.ensures.reads.told
+    answers-none view c.args.self.now c.self.view_is unbroken (c.self.invariant.2 unbroken) (IsTrue (is_told (g.D.Disk.shown c.args.disk.now))) (IsTrue (is_told (g.D.Disk.shown c.cover.new.disk))) c.cover.new.self c.args.place given
+    (told_moments (g.D.Disk.shown c.args.disk.now)).now.read (told_moments (g.D.Disk.shown c.cover.new.disk)).now.read there c.cover.ensures.reads.later.told
     (λ t. ap (λ (ms : Moments). ms.now.read) (c.cover.ensures.reads.same t)) c.cover.ensures.window has
     (inside.given + 1) c.break_off.new.self c.break_off.result none c.in_default.ensures.covers (omega arith) c.break_off.ensures.kept c.break_off.ensures.answer
 
@@ -46,8 +47,8 @@ returns-in-Ok-Some-clause-answer g c given has =
     let unbroken = ap (λ (r : ReportsOf). r.broken) c.self.view_is ∙ c.requires.unbroken in
     let there = ap (λ (r : ReportsOf). slice_get (places_in r.scan) r.given) c.self.view_is ∙ c.requires.next in
     let some : IsReportAt (record view { window = c.cover.new.self }) c.args.place c.in-Ok-Some.report = rw c.in-Ok-Some.field-0-is at c.in-Ok-Some.ensures.some in
-    answers-report view c.args.self.now c.self.view_is unbroken (c.self.invariant.2 unbroken) (IsTrue (g.D.Disk.tells c.args.disk.now)) (IsTrue (g.D.Disk.tells c.cover.new.disk)) c.cover.new.self c.args.place given
-    (g.D.Disk.moments c.args.disk.now).now.read (g.D.Disk.moments c.cover.new.disk).now.read there c.cover.ensures.reads.told
+    answers-report view c.args.self.now c.self.view_is unbroken (c.self.invariant.2 unbroken) (IsTrue (is_told (g.D.Disk.shown c.args.disk.now))) (IsTrue (is_told (g.D.Disk.shown c.cover.new.disk))) c.cover.new.self c.args.place given
+    (told_moments (g.D.Disk.shown c.args.disk.now)).now.read (told_moments (g.D.Disk.shown c.cover.new.disk)).now.read there c.cover.ensures.reads.later.told
     (λ t. ap (λ (ms : Moments). ms.now.read) (c.cover.ensures.reads.same t)) c.cover.ensures.window has c.in-Ok-Some.report some
 
 pub returns-in-Ok-Some-clause-goes_on : goal.returns-in-Ok-Some-clause-goes_on

@@ -11,4 +11,5 @@ invariant_of-result g c =
       λ told.
           let found = rw c.in-Formed.is at (c.requires.scanned told) in
           (record { stands = (found.0, found.1.0); placed = found.1.1; size = found.1.2 }, tt),
+      c.requires.claimed,
     )

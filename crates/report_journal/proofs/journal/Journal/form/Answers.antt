@@ -1,4 +1,5 @@
-use Rattle.std.proofs.Common.{◌+◌, ◌∷◌, ◌∙◌, refl, sym, ap, subst, arith}
+use Rattle.std.proofs.Common.{◌+◌, ◌∷◌, ◌∙◌, refl, sym, ap, subst, arith, IsTrue}
+use Rattle.house_io.specs.Disks.{told_moments}
 use Rattle.house_io.specs.Moments.{overlaid}
 use Rattle.house_io.proofs.Moments.{leaves_here}
 use Rattle.report_journal.specs.declared.spellings.TheConstants.{OPEN}
@@ -11,7 +12,7 @@ use Rattle.report_journal.proofs.journal.Journal.form.Goals as goal
 pub returns-in_default-clause-err : goal.returns-in_default-clause-err
 returns-in_default-clause-err g c = record {
   refuses = refl;
-  told = λ told. told;
+  later = record { told = λ told. told; claim = refl };
   leaves = λ told. not_written c.args.header.now _ (c.requires.unformed told);
 }
 
@@ -20,7 +21,7 @@ returns-in-Err-clause-err g c =
     let is_head = subst (IsHead c.args.header.now) (sym c.deref.ensures.value) c.in-Ok.ensures in
     record {
       refuses = (c.in-Err.ensures.cause.later, c.in-Err.ensures.cause.failed);
-      told = λ told. c.form_file.ensures.tells told;
+      later = c.form_file.ensures.later;
       leaves = λ told. form_leaves c.args.header.now c.deref.result.now is_head _ _ (c.form_file.ensures.moments told c.args.header.now is_head) (c.form_file.ensures.range told);
     }
 
@@ -42,6 +43,7 @@ invariant_of-result g c =
         },
         tt,
       ),
+      subst IsTrue (sym c.form_file.ensures.later.claim) c.requires.claimed,
     )
 
 pub returns-clause-ok : goal.returns-clause-ok
@@ -55,9 +57,9 @@ returns-clause-ok g c =
       spare = refl;
       laid = ap (λ gate. gate + 1) c.first_gate-end.ensures;
       steady = c.in-Ok-form_file.ensures.cause.steady;
-      told = λ told. c.form_file.ensures.tells told;
+      later = c.form_file.ensures.later;
       every_image = λ told. leaves_here _ _ (settled_is _ _ (c.in-Ok-form_file.ensures.done told)) (c.in-Ok-form_file.ensures.formed told c.args.header.now is_head);
-      written = λ told. ap (λ m. m.read) (c.in-Ok-form_file.ensures.done told) ∙ ap (λ bytes. overlaid (g.D.Disk.moments c.args.disk).now.read 0 (OPEN ∷ bytes)) is_head.spelled;
+      written = λ told. ap (λ m. m.read) (c.in-Ok-form_file.ensures.done told) ∙ ap (λ bytes. overlaid (told_moments (g.D.Disk.shown c.args.disk)).now.read 0 (OPEN ∷ bytes)) is_head.spelled;
       leaves = λ told. form_leaves c.args.header.now c.deref.result.now is_head _ _ (c.form_file.ensures.moments told c.args.header.now is_head) (c.form_file.ensures.range told);
     })
 

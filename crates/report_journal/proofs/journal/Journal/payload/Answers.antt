@@ -1,4 +1,5 @@
 use Rattle.std.proofs.Common.{◌≡◌, ◌-◌, ◌<◌, ◌∙◌, ap, sym, refl, length, Some, arith}
+use Rattle.house_io.specs.Disks.{told_moments}
 use Rattle.std.specs.List.{slice_get}
 use Rattle.std.proofs.lemmas.List.{length-map}
 use Rattle.std.proofs.lemmas.Option.{slice_get_read}
@@ -10,8 +11,8 @@ use Rattle.report_journal.proofs.journal.Journal.payload.Goals as goal
 
 pub returns-clause-payload : goal.returns-clause-payload
 returns-clause-payload g c = rw (← c.self.view_is) (IfOk-weaker c.read_payload.result _ _ (λ payload read told.
-    let file = (g.D.Disk.moments c.self.inside.disk).now.read in
-    let told_before = c.read_payload.ensures.reads.told told in
+    let file = (told_moments (g.D.Disk.shown c.self.inside.disk)).now.read in
+    let told_before = c.read_payload.ensures.reads.later.told told in
     let kept = (c.self.invariant.1 told_before).0 in
     let asked = rw (← c.self.view_is) at c.requires in
     let below : c.args.number - 1 < length c.self.inside.places.items = omega (arith, asked, length-map c.self.inside.places.items (payload_at file)) in

@@ -1,4 +1,5 @@
-use Rattle.std.proofs.Common.{◌≡◌, ◌+◌, ◌-◌, [], ◌∷◌, ◌++◌, length, Some, None, refl, sym, ◌∙◌, ap, subst, arith, length-append}
+use Rattle.std.proofs.Common.{◌≡◌, ◌+◌, ◌-◌, [], ◌∷◌, ◌++◌, length, Some, None, refl, sym, ◌∙◌, ap, subst, arith, length-append, IsTrue}
+use Rattle.house_io.specs.Disks.{told_moments}
 use Rattle.std.proofs.lemmas.List.{length-map}
 use Rattle.house_io.proofs.Moments.{at_now, leaves_here}
 use Rattle.report_journal.specs.declared.places.Place.{Place}
@@ -35,10 +36,11 @@ invariant_of-self g c =
         };
       },
       λ told.
-          let kept = (c.self.invariant.1 (c.put_record.ensures.tells told)).0 in
+          let kept = (c.self.invariant.1 (c.put_record.ensures.later.told told)).0 in
           let takes_it = takes _ _ _ _ _ kept none c.args.payload.now c.requires.short may.fits in
           let opens = c.put_record.ensures.puts.3 in
           (rw same (doubt_kept _ _ _ _ c.args.payload.now _ kept _ (at_now _ _ _ (opens.stand told _ takes_it)) takes_it.fits), tt),
+      subst IsTrue (sym c.put_record.ensures.later.claim) c.self.invariant.2,
     )
 
 pub returns-in-Err-clause-writes : goal.returns-in-Err-clause-writes
@@ -55,11 +57,11 @@ returns-in-Err-clause-writes g c =
       record {
         laid = refl;
         end = λ told.
-            let kept = (c.self.invariant.1 (c.put_record.ensures.tells told)).0 in
+            let kept = (c.self.invariant.1 (c.put_record.ensures.later.told told)).0 in
             let takes_it = takes _ _ _ _ _ kept none c.args.payload.now c.requires.short may.fits in
-            doubt_is _ _ _ _ c.args.payload.now _ kept (g.D.Disk.moments c.put_record.new.disk) (at_now _ _ _ (opens.stand told _ takes_it)) takes_it.fits;
+            doubt_is _ _ _ _ c.args.payload.now _ kept (told_moments (g.D.Disk.shown c.put_record.new.disk)) (at_now _ _ _ (opens.stand told _ takes_it)) takes_it.fits;
         leaves = λ mended told.
-            let kept = (c.self.invariant.1 (c.put_record.ensures.tells told)).0 in
+            let kept = (c.self.invariant.1 (c.put_record.ensures.later.told told)).0 in
             put_leaves c.args.payload.now next c.self.inside.end c.self.inside.laid _ _ _ (takes _ _ _ _ _ kept none c.args.payload.now c.requires.short may.fits) (opens.stand told) (opens.range told);
       },
     )
@@ -86,7 +88,7 @@ invariant_of-self-in-Ok g c =
         );
       },
       λ told.
-          let kept = (c.self.invariant.1 (c.put_record.ensures.tells told)).0 in
+          let kept = (c.self.invariant.1 (c.put_record.ensures.later.told told)).0 in
           let takes_it = takes _ _ _ _ _ kept none c.args.payload.now c.requires.short may.fits in
           let next = c.in-Ok.ensures.puts.0 in
           let bytes = put_of c.self.inside.end c.self.inside.laid c.args.payload.now next in
@@ -94,9 +96,10 @@ invariant_of-self-in-Ok g c =
           let done = c.in-Ok.ensures.puts.3.done told in
           let has = has_it _ c.args.payload.now c.self.inside.end bytes _ spelled takes_it _ (ap (λ m. m.read) done) in (
             put_kept _ _ _ _ c.args.payload.now _ kept _ _ (settled_is _ _ done) has refl refl _ refl,
-            subst (λ bs. LiesAhead (Some (length c.args.payload.now + 5)) bs (c.self.inside.end + 5 + length c.args.payload.now) (g.D.Disk.moments c.put_record.new.disk).now.read) (sym c.in-Ok.ensures.puts.2)
+            subst (λ bs. LiesAhead (Some (length c.args.payload.now + 5)) bs (c.self.inside.end + 5 + length c.args.payload.now) (told_moments (g.D.Disk.shown c.put_record.new.disk)).now.read) (sym c.in-Ok.ensures.puts.2)
                 (lies-behind _ c.args.payload.now bytes c.self.inside.end _ _ takes_it spelled (ap (λ m. m.read) done)),
           ),
+      subst IsTrue (sym c.put_record.ensures.later.claim) c.self.invariant.2,
     )
 
 pub returns-in-Ok-clause-writes : goal.returns-in-Ok-clause-writes
@@ -116,16 +119,16 @@ returns-in-Ok-clause-writes g c =
       record {
         laid = omega (arith, c.max-self-inside.ensures, ap length c.in-Ok.ensures.puts.2, long);
         end = λ told.
-            let kept = (c.self.invariant.1 (c.put_record.ensures.tells told)).0 in
+            let kept = (c.self.invariant.1 (c.put_record.ensures.later.told told)).0 in
             let takes_it = takes _ _ _ _ _ kept none c.args.payload.now c.requires.short may.fits in
             let done = c.in-Ok.ensures.puts.3.done told in
             let has = has_it _ c.args.payload.now c.self.inside.end bytes _ (behind, refl) takes_it _ (ap (λ m. m.read) done) in (
-              put_is _ _ _ _ c.args.payload.now _ kept _ (g.D.Disk.moments c.put_record.new.disk) (settled_is _ _ done) has refl refl,
+              put_is _ _ _ _ c.args.payload.now _ kept _ (told_moments (g.D.Disk.shown c.put_record.new.disk)) (settled_is _ _ done) has refl refl,
               leaves_here _ _ (settled_is _ _ done) has,
               ap (λ m. m.read) done,
             );
         leaves = λ mended told.
-            let kept = (c.self.invariant.1 (c.put_record.ensures.tells told)).0 in
+            let kept = (c.self.invariant.1 (c.put_record.ensures.later.told told)).0 in
             put_leaves c.args.payload.now next c.self.inside.end c.self.inside.laid _ _ _ (takes _ _ _ _ _ kept none c.args.payload.now c.requires.short may.fits) (opens.stand told) (opens.range told);
       },
     )
@@ -136,8 +139,8 @@ returns-in-Ok-clause-answer g c =
     let place : Place = record { at = c.self.inside.end + 5; length = length c.args.payload.now } in
     let more = length-append c.self.inside.places.items (place ∷ []) in
     let places = c.push_reserved.new.places.items in
-    let file = (g.D.Disk.moments c.put_record.new.disk).now.read in
-    let was = length-map c.self.inside.places.items (payload_at (g.D.Disk.moments c.self.inside.disk).now.read) in (
+    let file = (told_moments (g.D.Disk.shown c.put_record.new.disk)).now.read in
+    let was = length-map c.self.inside.places.items (payload_at (told_moments (g.D.Disk.shown c.self.inside.disk)).now.read) in (
       c.requires.ready,
       record {
         header = ap (λ j. j.contents.header) c.self.view_is;

@@ -11,4 +11,5 @@ invariant_of-self-2 g c = rw (c.in_ok-make_room.ensures.places.0, c.in_ok-make_r
     room = roomier _ _ _ _ _ _ _ _ _ _ c.self.invariant.0.room c.ranges.records.fits c.in_ok-make_room.ensures.room_places (omega (arith, c.in_ok-make_room.ensures.room_buffer));
   },
   c.self.invariant.1,
+  c.self.invariant.2,
 )

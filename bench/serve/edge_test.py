@@ -1,0 +1,195 @@
+#!/usr/bin/env python3
+"""Tries on real files what no proof reaches: two houses on one folder, looks beside a house, a sync that fails, and reading without rights.
+
+    edge_test.py PROGRAM [--looks N]
+
+PROGRAM is the built house_main. gcc has to be there, and reading without rights is tried by root alone. It prints a line for each, and ends with
+status 1 where one is not as it should be.
+"""
+import argparse
+import multiprocessing
+import os
+import shutil
+import struct
+import subprocess
+import sys
+import tempfile
+import time
+from pathlib import Path
+
+from load import AGAIN, BIDDERS, DISK_FAILED, REFUSED, REPORT, TAKEN, Session, entries, journal, write_auction
+
+PORT = 27_341
+UNITS = 2_000
+NOBODY = 65_534
+DISK_FAULT = 6
+SHIM = Path(__file__).resolve().parent / "dropped_pages.c"
+
+# How many bundles a report of some bytes has, and one of 3 KB.
+SHORT, LONG = 1, 1_500
+
+
+def payload(number, bundles):
+    """A report of so many bundles, of which the last is all units; each keeps a clock running."""
+    return struct.pack(f">IBH{bundles}H", number, 1, bundles, *range(UNITS - bundles + 1, UNITS + 1))
+
+
+def report(session, clock, number, bundles):
+    return session.ask(REPORT, bytes([clock]) + payload(number, bundles))
+
+
+def folder_with_auction(name):
+    folder = Path(name)
+    folder.chmod(0o755)
+    (folder / "journals").mkdir()
+    write_auction(folder / "auction.toml", (UNITS,))
+    return folder
+
+
+def serve(program, folder, port=PORT, **more):
+    words = [program, "serve", "auction.toml", "journals", f"127.0.0.1:{port}", "--doors", str(BIDDERS), "--sessions", "10000"]
+    env = {**os.environ, **more}
+    return subprocess.Popen(words, cwd=folder, stdout=subprocess.PIPE, stderr=subprocess.PIPE, text=True, env=env)
+
+
+def read(program, folder, command, journals="journals", **more):
+    return subprocess.run([program, command, "auction.toml", journals], cwd=folder, capture_output=True, text=True, **more)
+
+
+def end(house):
+    house.kill()
+    house.communicate()
+
+
+def two_houses(program, folder):
+    """The second of two houses ends at once, and the first goes on; once it was killed the next one starts."""
+    first = serve(program, folder)
+    session = Session(PORT, 1, wait=5.0)
+    kinds = [report(session, 0, 1, SHORT)[0]]
+    before = journal(folder / "journals", 0).read_bytes()
+    second = serve(program, folder, PORT + 1)
+    text, said = second.communicate(timeout=10)
+    same = journal(folder / "journals", 0).read_bytes() == before
+    kinds.append(report(session, 2, 1, SHORT)[0])
+    end(first)
+    next_one = serve(program, folder)
+    session = Session(PORT, 1, wait=5.0)
+    kinds.append(report(session, 0, 1, SHORT)[0])
+    end(next_one)
+    print(f"two houses: the second {second.returncode} {text.strip()!r} {said.strip()!r}, answers of the first and the next {kinds}, journal the same {same}")
+    return second.returncode == DISK_FAULT and text == "disk fault clock 0\n" and same and kinds == [TAKEN, TAKEN, AGAIN]
+
+
+def bid(bidder, stop):
+    clocks = [clock for clock in range(BIDDERS + 1) if clock != bidder]
+    session = Session(PORT, bidder, wait=5.0)
+    while not stop.is_set():
+        for clock in clocks:
+            report(session, clock, session.round_of(clock), LONG)
+
+
+def looks(program, folder, count):
+    """Each standing beside a house is one of some front, and none goes back."""
+    house = serve(program, folder)
+    stop = multiprocessing.Event()
+    bidders = [multiprocessing.Process(target=bid, args=(b, stop)) for b in range(1, BIDDERS + 1)]
+    for process in bidders:
+        process.start()
+    rounds, refused, back, statuses = [0] * (BIDDERS + 1), 0, 0, {}
+    for _ in range(count):
+        answer = read(program, folder, "standing")
+        lines = [line.split() for line in answer.stdout.splitlines()]
+        statuses[answer.returncode] = statuses.get(answer.returncode, 0) + 1
+        if answer.returncode or len(lines) != BIDDERS + 1:
+            refused += 1
+            continue
+        for line in lines:
+            clock, number = int(line[1]), int(line[3])
+            back += number < rounds[clock]
+            rounds[clock] = max(rounds[clock], number)
+    stop.set()
+    for process in bidders:
+        process.join(5)
+        process.kill()
+    end(house)
+    print(f"looks {count}: refused {refused}, gone back {back}, statuses {statuses}, last rounds {min(rounds)} to {max(rounds)}")
+    return refused == back == 0 and max(rounds) > 1
+
+
+def failed_sync(program, folder, shim, bundles, before):
+    """A sync of a journal fails once, the house goes on, and the file system is mounted anew: each acknowledged report is on the disk."""
+    when = folder / "when"
+    house = serve(program, folder, LD_PRELOAD=str(shim), DROP_WHEN=str(when))
+    sessions = {bidder: Session(PORT, bidder, wait=5.0) for bidder in range(1, BIDDERS + 1)}
+    acknowledged, faults, number = [], 0, 1
+
+    def send(bidder):
+        kind, answer = report(sessions[bidder], 0, number, bundles)
+        if kind in (TAKEN, AGAIN):
+            acknowledged.append((bidder, number))
+            return True
+        assert kind == REFUSED and answer[0] == DISK_FAILED, (kind, answer)
+        return False
+
+    for number in (1, 2, 3, 4):
+        for bidder in range(1, BIDDERS + 1):
+            if (number, bidder) == (3, 6):
+                when.write_text(str(before))
+            while not send(bidder):
+                faults += 1
+    house.kill()
+    _, said = house.communicate()
+    found = entries(journal(folder / "journals", 0).with_suffix(".ahj.disk"))
+    lost = len(set(acknowledged) - set(found))
+    print(f"a failed sync behind {before}, {bundles} bundles: faults {faults}, said {said.strip()!r}, acknowledged {len(acknowledged)}, lost {lost}, doubled {len(found) - len(set(found))}")
+    return faults == 1 and lost == 0 and len(found) == len(set(found)) and said.count("sync") == 1
+
+
+def names(folder):
+    return sorted(str(path.relative_to(folder)) for path in folder.rglob("*"))
+
+
+def without_rights(program, folder):
+    """Who may not write reads journals and an empty folder, and leaves no file."""
+    house = serve(program, folder)
+    session = Session(PORT, 1, wait=5.0)
+    report(session, 0, 1, SHORT)
+    end(house)
+    (folder / "none").mkdir()
+    before = names(folder)
+    own = [read(program, folder, command, journals).returncode for command in ("standing", "settle") for journals in ("journals", "none")]
+    them = [read(program, folder, command, journals, user=NOBODY, group=NOBODY).returncode for command in ("standing", "settle") for journals in ("journals", "none")]
+    kept = names(folder) == before
+    print(f"reading without rights: statuses {them}, with rights {own}, the same names {kept}")
+    return own == them == [0, 0, 9, 9] and kept
+
+
+def main():
+    words = argparse.ArgumentParser()
+    words.add_argument("program")
+    words.add_argument("--looks", type=int, default=1_000)
+    given = words.parse_args()
+    good = True
+    with tempfile.TemporaryDirectory() as name:
+        top = Path(name)
+        top.chmod(0o755)
+        program = str(shutil.copy(given.program, top / "house_main"))
+        shim = top / "dropped_pages.so"
+        subprocess.run(["gcc", "-shared", "-fPIC", "-O2", "-o", shim, SHIM, "-ldl"], check=True)
+
+        def fresh(label):
+            (top / label).mkdir()
+            return folder_with_auction(top / label)
+
+        good &= two_houses(program, fresh("two"))
+        good &= looks(program, fresh("looks"), given.looks)
+        for bundles in (SHORT, LONG):
+            for before in (0, 1):
+                good &= failed_sync(program, fresh(f"sync-{bundles}-{before}"), shim, bundles, before)
+        if os.geteuid() == 0:
+            good &= without_rights(program, fresh("rights"))
+    sys.exit(0 if good else 1)
+
+
+if __name__ == "__main__":
+    main()
