@@ -28,6 +28,9 @@ SHIM = Path(__file__).resolve().parent / "dropped_pages.c"
 # How many bundles a report of some bytes has, and one of 3 KB.
 SHORT, LONG = 1, 1_500
 
+# So many looks at one house: a look reads its journals whole, and they grow.
+SPELL = 50
+
 
 def payload(number, bundles):
     """A report of so many bundles, of which the last is all units; each keeps a clock running."""
@@ -88,19 +91,19 @@ def bid(bidder, stop):
             report(session, clock, session.round_of(clock), LONG)
 
 
-def looks(program, folder, count):
-    """Each standing beside a house is one of some front, and none goes back."""
+def spell(program, folder):
+    """How many looks beside a house tell no standing, and how often one goes back behind an earlier one; and the last round that was seen."""
     house = serve(program, folder)
     stop = multiprocessing.Event()
     bidders = [multiprocessing.Process(target=bid, args=(b, stop)) for b in range(1, BIDDERS + 1)]
     for process in bidders:
         process.start()
-    rounds, refused, back, statuses = [0] * (BIDDERS + 1), 0, 0, {}
-    for _ in range(count):
+    rounds, refused, back = [0] * (BIDDERS + 1), 0, 0
+    for _ in range(SPELL):
         answer = read(program, folder, "standing")
         lines = [line.split() for line in answer.stdout.splitlines()]
-        statuses[answer.returncode] = statuses.get(answer.returncode, 0) + 1
         if answer.returncode or len(lines) != BIDDERS + 1:
+            print(answer.returncode, answer.stdout.strip(), answer.stderr.strip())
             refused += 1
             continue
         for line in lines:
@@ -112,8 +115,16 @@ def looks(program, folder, count):
         process.join(5)
         process.kill()
     end(house)
-    print(f"looks {count}: refused {refused}, gone back {back}, statuses {statuses}, last rounds {min(rounds)} to {max(rounds)}")
-    return refused == back == 0 and max(rounds) > 1
+    return refused, back, max(rounds)
+
+
+def looks(program, fresh, count):
+    """Each standing beside a house under twelve bidders is one of some front, and none goes back."""
+    spells = [spell(program, fresh(f"looks-{number}")) for number in range(-(-count // SPELL))]
+    refused, back = sum(s[0] for s in spells), sum(s[1] for s in spells)
+    least, most = min(s[2] for s in spells), max(s[2] for s in spells)
+    print(f"looks {len(spells) * SPELL}: refused {refused}, gone back {back}, last rounds {least} to {most}")
+    return refused == back == 0 and least > 1
 
 
 def failed_sync(program, folder, shim, bundles, before):
@@ -178,11 +189,12 @@ def main():
         subprocess.run(["gcc", "-shared", "-fPIC", "-O2", "-o", shim, SHIM, "-ldl"], check=True)
 
         def fresh(label):
+            """A new folder with an auction and no journals."""
             (top / label).mkdir()
             return folder_with_auction(top / label)
 
         good &= two_houses(program, fresh("two"))
-        good &= looks(program, fresh("looks"), given.looks)
+        good &= looks(program, fresh, given.looks)
         for bundles in (SHORT, LONG):
             for before in (0, 1):
                 good &= failed_sync(program, fresh(f"sync-{bundles}-{before}"), shim, bundles, before)
