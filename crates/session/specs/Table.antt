@@ -110,10 +110,10 @@ abbrev pub reply_of : Asked → ToBidder
 reply_of (asked.Look clock look) = bidder.Price clock look.round look.phase look.prices
 reply_of (asked.Offer clock who round demand offered) = offered_reply clock round offered
 
--- want of memory may be the reply to these
+-- want of memory may be the reply to a report alone
 abbrev pub MayBeShort : ToHouse → Type 0
 MayBeShort (house.Hello claimed token) = ⊥
-MayBeShort (house.Look clock) = Unit {0}
+MayBeShort (house.Look clock) = ⊥
 MayBeShort (house.Report clock round demand) = Unit {0}
 MayBeShort house.Quit = ⊥
 

@@ -27,7 +27,7 @@ module _ {M : Type 0} (allows : M → Asked → M → Type 0) where
   KeepsTo (Asks question) None given before after = ⊥
   KeepsTo (Asks question) (Some a) given before after = (question_of a ≡ question) × (given ≡ reply_of a) × IsPossible a × allows before a after
 
-  -- the reply of the table, or, to a look or a report and with the hall unasked, that memory was wanting
+  -- the reply of the table, or, to a report and with the hall unasked, that memory was wanting
   abbrev pub IsTurn : Auction → Option ℕ → M → Turn M → Type 0
   IsTurn auction who before t =
       KeepsTo (line_of auction who t.frame) t.asked t.reply before t.now
