@@ -1,5 +1,5 @@
 -- What a book keeps once it is begun, and what is left of the disk where it is not.
-use Rattle.std.proofs.Common.{◌≡◌, ◌⊎◌, inl, inr, ⊎_elim, ℕ, ◌+◌, ◌∙◌, Bool, IsTrue, List, [], ◌∷◌, ◌++◌, length, take, map, Option, None, Err, refl, sym, ap, subst, arith, append_assoc, length-append}
+use Rattle.std.proofs.Common.{◌≡◌, inl, inr, ⊎_elim, ℕ, ◌+◌, ◌∙◌, IsTrue, List, [], ◌∷◌, ◌++◌, length, take, map, Option, None, Err, refl, sym, ap, subst, arith, append_assoc, length-append}
 use Rattle.std.proofs.lemmas.Bool.{true≢false}
 use Rattle.house_io.specs.Disks.{DiskShown, is_told, told_moments}
 use Rattle.std.specs.Int.{w32, to_be_bytes}

@@ -13,7 +13,7 @@ use Rattle.recovery.proofs.Lists.{all-push}
 use Rattle.clock_book.specs.declared.entries.Entry.{Entry}
 use Rattle.clock_book.specs.declared.origins.Origin.{Origin}
 use Rattle.clock_book.specs.DeskHistories.{IsMarkedBehind}
-use Rattle.clock_book.specs.Past.{owner_in, IsEither, IsNext, StoodFor, IsAsOpened, KeepsPast}
+use Rattle.clock_book.specs.Past.{owner_in, IsEither, IsNext, StoodFor, KeepsPast}
 use Rattle.clock_book.proofs.Histories.{marked-later}
 use Rattle.clock_book.proofs.Sizes.{contents-push}
 

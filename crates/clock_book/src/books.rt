@@ -130,7 +130,7 @@ impl<D: Disk> ClockBook<D> {
 impl<D: Disk> ClockBook<D> {
     ghost use Rattle.clock.specs.Standing.{last_round, phase_of, prices_of};
     ghost use Rattle.clock_book.specs.Books.{IsKept};
-    ghost use Rattle.clock_book.specs.Offers.{Answers, IsOffer, OfferLeaves, CountsOffer, Offers};
+    ghost use Rattle.clock_book.specs.Offers.{Answers, IsOffer, CountsOffer, Offers};
 
     /// Judges a report behind those of the clock, where nothing is pending, and appends one that is to be taken.
     fn judge_and_append<H: Hint>(&mut self, alloc: Global, report: Report, hint: &H) -> Offered
@@ -155,13 +155,12 @@ impl<D: Disk> ClockBook<D> {
     /// Mends, judges a report, and appends it where it is to be taken.
     fn mend_and_answer<H: Hint>(&mut self, alloc: Global, report: Report, hint: &H) -> Offered
         requires { IsDemand self.old.state.clock.terms.goods report.demand }
-        ensures answer { IsOffer (owner_in self.old.origin) self.old.state report result self.new.state }
+        ensures answer { IsOffer (owner_in self.old.origin) self.old.state report result self.new.state
+            (IsTrue (is_told (D.shown self.new.disk))) (told_moments (D.shown self.old.disk)) (told_moments (D.shown self.new.disk)) }
         ensures cause { result ≡ DiskFault → Rose (D.shown self.old.disk).faults (D.shown self.new.disk).faults }
         ensures origin { self.new.origin ≡ self.old.origin }
         ensures later { IsLater (D.shown self.old.disk) (D.shown self.new.disk) }
         ensures faults { CountsOffer (D.shown self.old.disk).faults (D.shown self.new.disk).faults result }
-        ensures moments { IsTrue (is_told (D.shown self.new.disk))
-            → OfferLeaves (owner_in self.old.origin) self.old.state report result self.new.state (told_moments (D.shown self.old.disk)) (told_moments (D.shown self.new.disk)) }
     {
         match self.settle_pending(alloc, &report) {
             Err(Failed) => Offered::DiskFault,

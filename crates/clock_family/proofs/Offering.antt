@@ -9,6 +9,7 @@ use Rattle.clock.specs.declared.judging.Judgement.{Judgement}
 use Rattle.clock.specs.declared.judging.Judgement.TheVariants as judged
 use Rattle.clock.specs.declared.judging.Offered.{Offered}
 use Rattle.clock.specs.declared.judging.Offered.TheVariants as answers
+use Rattle.house_io.specs.Moments.{Moments}
 use Rattle.recovery.specs.Journaled.{Owner}
 use Rattle.clock_book.specs.Opening.{history_of}
 use Rattle.clock_book.specs.declared.entries.Entry.{Entry}
@@ -75,8 +76,10 @@ module _ (owner : Owner) (old new : BookState) (r : Report) (answer : Offered) (
         appends = subst P (sym fault) (ap (λ (s : BookState). s.history) e ∙ ap (λ l. l ++ entry.Mark r ∷ []) (sym (append-nil old.history)));
       }
 
-  pub history-offer : IsOffer owner old r answer new → IsHistoryOffer owner old.history r answer new.history
-  history-offer is = ⊎_elim (λ failed. not-mended failed.0 failed.2) (λ answered. ⊎_elim (λ none. none-counted answered.0 none answered.2) (λ one. one-counted answered.0 one.0 one.1 one.2 answered.2) answered.1) is
+  pub history-offer : (told : Type 0) (before after : Moments) → IsOffer owner old r answer new told before after → IsHistoryOffer owner old.history r answer new.history
+  history-offer told before after is =
+      ⊎_elim (λ failed. not-mended failed.fault failed.marks)
+      (λ on. ⊎_elim (λ none. none-counted on.mid none on.answered) (λ one. one-counted on.mid one.0 one.1 one.2 on.answered) on.mended) is
 
 -- no more than two entries are appended
 appended-on : (owner : Owner) (answer : Offered) (h after : List Entry) (r : Report) → Appends owner answer h r after → (more : List Entry) × (after ≡ h ++ more) × (length more ≤ 1)

@@ -14,7 +14,7 @@ use Rattle.clock.specs.declared.judging.Offered.{Offered}
 use Rattle.recovery.specs.Journaled.{Owner, StandsForReports}
 use Rattle.clock_book.specs.Past.{IsEither}
 use Rattle.clock_book.specs.Books.{BookOf, BookState}
-use Rattle.clock_book.specs.Offers.{IsMended, IsOffer, Answers, OfferLeaves, with_pending}
+use Rattle.clock_book.specs.Offers.{IsMended, IsOffer, Answers, with_pending}
 use Rattle.clock_book.proofs.Sequences.{takes-at}
 use Rattle.migration.specs.Moving.{StandsForFront}
 use Rattle.migration.specs.Targets.{HasFirst}
@@ -54,10 +54,11 @@ mended-same old mid settled mended =
     ⊎_elim (λ is. is ∙ same) (λ one. absurd (let e : None ≡ Some one.0 = sym settled ∙ one.1 in cc e)) mended
 
 -- where nothing was pending, the answer is that of the state as it was
-pub answered : (owner : Owner) (old : BookState) (r : Report) (answer : Offered) (new : BookState) → old.pending ≡ None → IsOffer owner old r answer new → Answers owner answer old r new
-answered owner old r answer new settled offer = ⊎_elim
-    (λ failed. absurd (not-some old.pending settled failed.1))
-    (λ after. let A : BookState → Type 0 = λ s. Answers owner answer s r new in subst A (mended-same old after.0 settled after.1) after.2)
+pub answered : (owner : Owner) (old : BookState) (r : Report) (answer : Offered) (new : BookState) (told : Type 0) (before after : Moments) → old.pending ≡ None → IsOffer owner old r answer new told before after
+    → Answers owner answer old r new
+answered owner old r answer new told before after settled offer = ⊎_elim
+    (λ failed. absurd (not-some old.pending settled failed.pending))
+    (λ on. let A : BookState → Type 0 = λ s. Answers owner answer s r new in subst A (mended-same old on.mid settled on.mended) on.answered)
     offer
 
 module _ (owner : Owner) (reports : List Report) (n : ℕ) (old : BookState) (r : Report) (are : old.clock.reports ≡ take n reports) (settled : old.pending ≡ None) (at : slice_get reports n ≡ Some r) where
@@ -89,13 +90,14 @@ module _ (owner : Owner) (reports : List Report) (n : ℕ) (old : BookState) (r 
   front-rest before after each = at_weaker (IsEither owner old.clock.reports old.pending) Front before after
       (λ file is. let E : Option Report → Type 0 = λ o. IsEither owner old.clock.reports o file in front-as n old.clock.reports file are (omega arith) (omega arith) (subst E settled is)) each
 
-  pub front-leaves : (answer : Offered) (new : BookState) (before after : Moments) → OfferLeaves owner old r answer new before after → AtEach Front before after
-  front-leaves answer new before after leaves = ⊎_elim
-      (λ failed. front-rest before after failed.2)
+  pub front-leaves : (answer : Offered) (new : BookState) (told : Type 0) (before after : Moments) → IsOffer owner old r answer new told before after → told → AtEach Front before after
+  front-leaves answer new told before after offer t = ⊎_elim
+      (λ failed. front-rest before after (failed.leaves t))
       (λ on.
-      let mid = on.0 in
-      let same : mid ≡ old = mended-same old mid settled on.1 in
+      let mid = on.mid in
+      let left = on.leaves t in
+      let same : mid ≡ old = mended-same old mid settled on.mended in
       let is : mid.clock.reports ≡ take n reports = ap (λ (s : BookState). s.clock.reports) same ∙ are in
-      at_both Front before on.3.0 after (front-rest before on.3.0 on.3.1)
-      (at_weaker (IsEither owner mid.clock.reports (Some r)) Front on.3.0 after (λ file either. front-either mid.clock.reports file is either) on.3.2))
-      leaves
+      at_both Front before left.between after (front-rest before left.between left.mending)
+      (at_weaker (IsEither owner mid.clock.reports (Some r)) Front left.between after (λ file either. front-either mid.clock.reports file is either) left.answering))
+      offer

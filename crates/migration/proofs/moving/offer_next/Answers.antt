@@ -40,13 +40,13 @@ unreachable-requires g c =
     let r = c.in-Ok.report in
     let at = at-place source.reports c.args.place r c.in-Ok.ensures in
     not-refused (owner_in b.origin) b.state r c.offer.result c.offer.new.self.state (book-takes source c.args.place r c.number-legal.ensures.legal at b c.requires.first kept.terms kept.number)
-    (answered (owner_in b.origin) b.state r c.offer.result c.offer.new.self.state c.requires.first.settled c.offer.ensures.answer) c.in-Again.is
+    (answered (owner_in b.origin) b.state r c.offer.result c.offer.new.self.state _ _ _ c.requires.first.settled c.offer.ensures.answer) c.in-Again.is
 
 pub returns-in-Taken-clause-goes_on : goal.returns-in-Taken-clause-goes_on
 returns-in-Taken-clause-goes_on g c =
     let source = c.args.source.now.history in
     goes-next g.D.Disk.shown source c.args.place c.args.book.now c.offer.new.self c.in-Ok.report c.offer.result c.requires.first (at-place source.reports c.args.place c.in-Ok.report c.in-Ok.ensures)
-    c.offer.ensures.answer c.offer.ensures.origin c.offer.ensures.later c.offer.ensures.leaves
+    c.offer.ensures.answer c.offer.ensures.origin c.offer.ensures.later
 
 pub returns-in-Taken-clause-first : goal.returns-in-Taken-clause-first
 returns-in-Taken-clause-first g c =
@@ -58,10 +58,10 @@ pub returns-in-Full-clause-goes_on : goal.returns-in-Full-clause-goes_on
 returns-in-Full-clause-goes_on g c =
     let source = c.args.source.now.history in
     goes-next g.D.Disk.shown source c.args.place c.args.book.now c.offer.new.self c.in-Ok.report c.offer.result c.requires.first (at-place source.reports c.args.place c.in-Ok.report c.in-Ok.ensures)
-    c.offer.ensures.answer c.offer.ensures.origin c.offer.ensures.later c.offer.ensures.leaves
+    c.offer.ensures.answer c.offer.ensures.origin c.offer.ensures.later
 
 pub returns-in-DiskFault-clause-goes_on : goal.returns-in-DiskFault-clause-goes_on
 returns-in-DiskFault-clause-goes_on g c =
     let source = c.args.source.now.history in
     goes-next g.D.Disk.shown source c.args.place c.args.book.now c.offer.new.self c.in-Ok.report c.offer.result c.requires.first (at-place source.reports c.args.place c.in-Ok.report c.in-Ok.ensures)
-    c.offer.ensures.answer c.offer.ensures.origin c.offer.ensures.later c.offer.ensures.leaves
+    c.offer.ensures.answer c.offer.ensures.origin c.offer.ensures.later

@@ -1,4 +1,4 @@
-use Rattle.std.proofs.Common.{IsTrue, ℕ, List, Ok, Err, None, inl, map, length, sym, ◌∙◌, ap, subst}
+use Rattle.std.proofs.Common.{IsTrue, ℕ, Ok, Err, None, inl, map, length, sym, ◌∙◌, ap, subst}
 use Rattle.std.proofs.lemmas.Bool.{true≢false}
 use Rattle.std.proofs.lemmas.Result.{IfOk-weaker}
 use Rattle.house_io.specs.Disks.{told_moments}
