@@ -33,6 +33,7 @@ module _ {M : Type 0} (allows : M → Asked → M → Type 0) (auction : Auction
     [],
     (refl, refl),
     tt,
+    tt,
     told-map t t1 (Receives (Ok 0) into) (EndedBytes {M = M} auction (length into) reader w [] (ends.Closed n)) h (λ x y g. (
       [],
       [],
@@ -51,6 +52,7 @@ module _ {M : Type 0} (allows : M → Asked → M → Type 0) (auction : Auction
   failed e h = (
     [],
     (refl, refl),
+    tt,
     tt,
     told-map t t1 (Receives (Err e) into) (EndedBytes {M = M} auction (length into) reader w [] ends.LinkFault) h (λ x y g. (
       [],
@@ -75,6 +77,7 @@ module _ {M : Type 0} (allows : M → Asked → M → Type 0) (auction : Auction
         a.turns,
         a.held,
         a.each,
+        a.replies,
         subst (λ (l : List ℕ). GoesOn auction w (frames_of a.turns) l reader reader_after) a.goes.tail_is a.goes,
         told-trans t t1 t2 (Receives (Ok count) into) (λ x y. (given : List ℕ) × Adds given x y × AreWhole a.turns given × (given ≡ bytes_of a.turns)) (WentBytes reader reader_after a.turns count) pulled a.sent
             (λ x y z p q. (
@@ -92,6 +95,7 @@ module _ {M : Type 0} (allows : M → Asked → M → Type 0) (auction : Auction
       a.turns,
       a.held,
       a.each,
+      a.replies,
       told-trans t t1 t2 (Receives (Ok count) into)
           (λ x y. (given : List ℕ) × Adds given x y × AreWhole a.turns given × EndsBy auction w (frames_of a.turns) a.tail ((reader.place + length (stream_of (map house_sent (frames_of a.turns)) [])) % 2 ^ 64) y.left (bytes_of a.turns) given e)
           (EndedBytes auction (length into) reader w a.turns e) pulled a.sent

@@ -91,6 +91,7 @@ module _ {M : Type 0} (allows : M → Asked → M → Type 0) (auction : Auction
     tail = reader.rest ++ piece;
     held = (refl, refl);
     each = tt;
+    replies = tt;
     front = refl;
     goes = tt;
     sent = told-same t (λ b a. (given : List ℕ) × Adds given b a × AreWhole {M = M} [] given × EndsBy auction w [] (reader.rest ++ piece) ((reader.place + 0) % 2 ^ 64) a.left [] given ends.NoMemory) (λ x. ([], (refl, sym (append-nil x.written)), ([], refl), (tt, ([], inl refl))));
@@ -106,6 +107,7 @@ module _ {M : Type 0} (allows : M → Asked → M → Type 0) (auction : Auction
           tail = stream_of (map house_sent a.more) reader_after.rest;
           held = a.held;
           each = all_front (IsSent to_house) (map house_sent (frames_of a.turns)) (map house_sent a.more) (subst (AllByRecursion (IsSent to_house)) parts reads.each);
+          replies = a.replies;
           front = reads.whole ∙ ap (λ (l : List Sent). stream_of l reader_after.rest) parts ∙ stream_on (map house_sent (frames_of a.turns)) (map house_sent a.more) reader_after.rest;
           goes = midway auction w (frames_of a.turns) e a.goes;
           sent = told-map t t1 (λ x y. (given : List ℕ) × Adds given x y × AreWhole a.turns given × WritesBy (Some e) (bytes_of a.turns) given)
@@ -132,6 +134,7 @@ module _ {M : Type 0} (allows : M → Asked → M → Type 0) (auction : Auction
             tail = reader_after.rest;
             held = a.held;
             each = read.each;
+            replies = a.replies;
             front = read.whole;
             goes = record {
               goes = a.goes;
@@ -152,6 +155,7 @@ module _ {M : Type 0} (allows : M → Asked → M → Type 0) (auction : Auction
             tail = reader_after.rest;
             held = a.held;
             each = read.each;
+            replies = a.replies;
             front = read.whole;
             goes = mid;
             sent = told-trans t t1 t2 (λ x y. (given : List ℕ) × Adds given x y × AreWhole a.turns given × (given ≡ bytes_of a.turns)) (IsFaultSent f e)

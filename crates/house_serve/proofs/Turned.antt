@@ -8,12 +8,12 @@ use Rattle.house_io.specs.Links.{LinkBytes}
 use Rattle.house_io.proofs.Telling.{told-trans, told-map, told-same}
 use Rattle.auction_file.specs.declared.listing.Auction.{Auction}
 use Rattle.report_wire.specs.Frames.{IsMessage, IsSent, spelled}
-use Rattle.report_wire.specs.Messages.{to_house, house_sent, house_kind, house_payload, bidder_sent}
+use Rattle.report_wire.specs.Messages.{to_house, house_sent, house_kind, house_payload, to_bidder, bidder_sent, bidder_kind, bidder_payload}
 use Rattle.report_wire.specs.declared.messages.ToHouse.{ToHouse}
 use Rattle.report_wire.specs.declared.messages.ToBidder.{ToBidder}
 use Rattle.session.specs.declared.halls.Asked.{Asked}
 use Rattle.session.specs.Table.{bidder_after}
-use Rattle.session.specs.Turns.{Turn, IsTurn, AreTurns, frames_of, bytes_of, bidder_behind}
+use Rattle.session.specs.Turns.{Turn, IsTurn, AreTurns, frames_of, replies_of, bytes_of, bidder_behind}
 use Rattle.house_serve.specs.declared.ends.SessionEnd.{SessionEnd}
 use Rattle.house_serve.specs.declared.answering.Cut.{Cut}
 use Rattle.house_serve.specs.Pieces.{Adds, IsSentBy, AreWhole, WritesBy, GoesBy, Answers, earlier_bytes}
@@ -41,6 +41,12 @@ whole_with ts given more e = subst (λ (l : List (Turn _)). AreWhole l given) (a
 
 pub frames_on : {M : Type 0} (ts us : List (Turn M)) → frames_of (ts ++ us) ≡ frames_of ts ++ frames_of us
 frames_on {M = M} ts us = map-append (λ (t : Turn M). t.frame) ts us
+
+-- the replies of turns behind turns can each be spelled
+pub replies_on : {M : Type 0} (ts us : List (Turn M)) → AllByRecursion (IsSent to_bidder) (map bidder_sent (replies_of ts)) → AllByRecursion (IsSent to_bidder) (map bidder_sent (replies_of us))
+    → AllByRecursion (IsSent to_bidder) (map bidder_sent (replies_of (ts ++ us)))
+replies_on [] us p q = q
+replies_on (t ∷ ts) us p q = (p.0, replies_on ts us p.1 q)
 
 pub take_more : {A : Type 0} (xs : List A) (i : ℕ) (x : A) → i < length xs → x ≡ get_or xs i x → take (i + 1) xs ≡ take i xs ++ x ∷ []
 take_more [] i x lt is = absurd (omega arith)
@@ -73,19 +79,21 @@ module _ {M : Type 0} (allows : M → Asked → M → Type 0) (auction : Auction
     frames_are = refl;
     all = λ _. refl;
     held = (refl, refl);
+    replies = tt;
     goes = refl;
     sent = told-same t (λ b a. (given : List ℕ) × Adds given b a × AreWhole {M = M} [] given × WritesBy None [] given) (λ x. ([], (refl, sym (append-nil x.written)), ([], refl), refl));
   }
 
   pub one : (f : ToHouse) (w w1 : Option ℕ) (m m1 : M) (t t1 : Option LinkBytes) (reply : ToBidder) (asked : Option Asked) (end : Option SessionEnd) → IsTurn allows auction w m (record { frame = f; asked = asked; reply = reply; now = m1 })
-      → w1 ≡ bidder_after auction w f → GoesBy auction w (f ∷ []) end → IfTold t t1 (λ b a. (given : List ℕ) × Adds given b a × WritesBy end (spelled (bidder_sent reply)) given)
+      → IsMessage to_bidder (bidder_kind reply) (bidder_payload reply) → w1 ≡ bidder_after auction w f → GoesBy auction w (f ∷ []) end → IfTold t t1 (λ b a. (given : List ℕ) × Adds given b a × WritesBy end (spelled (bidder_sent reply)) given)
       → Answers allows auction (f ∷ []) w m t w1 m1 t1 end
-  one f w w1 m m1 t t1 reply asked end is later goes sent = let turn : Turn M = record { frame = f; asked = asked; reply = reply; now = m1 } in record {
+  one f w w1 m m1 t t1 reply asked end is said later goes sent = let turn : Turn M = record { frame = f; asked = asked; reply = reply; now = m1 } in record {
     turns = turn ∷ [];
     more = [];
     frames_are = refl;
     all = λ _. refl;
     held = (is, (later, refl));
+    replies = (said, tt);
     goes = goes;
     sent = told-map t t1 (λ b a. (given : List ℕ) × Adds given b a × WritesBy end (spelled (bidder_sent reply)) given) (λ b a. (given : List ℕ) × Adds given b a × AreWhole (turn ∷ []) given × WritesBy end (spelled (bidder_sent reply) ++ []) given) sent (λ x y h. (h.0, h.1, (h.0, refl), subst (λ (l : List ℕ). WritesBy end l h.0) (sym (append-nil (spelled (bidder_sent reply)))) h.2));
   }
@@ -103,6 +111,7 @@ module _ {M : Type 0} (allows : M → Asked → M → Type 0) (auction : Auction
         frames_are = ap (λ (l : List ToHouse). l ++ gs) whole ∙ ap (λ (l : List ToHouse). frames_of a.turns ++ l) b.frames_are ∙ sym (append_assoc (frames_of a.turns) (frames_of b.turns) b.more) ∙ ap (λ (l : List ToHouse). l ++ b.more) (sym both);
         all = b.all;
         held = turns_on a.turns b.turns w w1 w2 m m1 m2 a.held b.held;
+        replies = replies_on a.turns b.turns a.replies b.replies;
         goes = subst (λ (l : List ToHouse). GoesBy auction w l end) (sym both) (goes_join auction (frames_of a.turns) (frames_of b.turns) w end a.goes (subst (λ (x : Option ℕ). GoesBy auction x (frames_of b.turns) end) later b.goes));
         sent = told-trans t t1 t2 (λ x y. (given : List ℕ) × Adds given x y × AreWhole a.turns given × WritesBy None (bytes_of a.turns) given) (λ x y. (given : List ℕ) × Adds given x y × AreWhole b.turns given × WritesBy end (bytes_of b.turns) given)
             (λ x y. (given : List ℕ) × Adds given x y × AreWhole (a.turns ++ b.turns) given × WritesBy end (bytes_of (a.turns ++ b.turns)) given) a.sent b.sent (λ x y z p q. (
@@ -120,6 +129,7 @@ module _ {M : Type 0} (allows : M → Asked → M → Type 0) (auction : Auction
     frames_are = ap (λ (l : List ToHouse). l ++ hs) a.frames_are ∙ append_assoc (frames_of a.turns) a.more hs;
     all = λ same. absurd (let f : Some e ≡ None = same in cc);
     held = a.held;
+    replies = a.replies;
     goes = a.goes;
     sent = a.sent;
   }

@@ -19,7 +19,7 @@ use Rattle.house_serve.specs.Pieces.{GoesOn}
 use Rattle.house_serve.specs.declared.serving.TheConstants.{CHUNK}
 use Rattle.house_serve.specs.Serving.{Served, IsSession, Going, Underway, Went, WentBytes, Ended, EndedBytes, IsEmptyAtEnd}
 use Rattle.house_serve.proofs.Behind.{behind_on, ends_on, one_on}
-use Rattle.house_serve.proofs.Turned.{bytes_on, frames_on, turns_on, later_is, whole_behind, whole_with}
+use Rattle.house_serve.proofs.Turned.{bytes_on, frames_on, replies_on, turns_on, later_is, whole_behind, whole_with}
 
 -- the bytes of frames behind frames
 sent_on : {M : Type 0} (ts us : List (Turn M)) → map house_sent (frames_of (ts ++ us)) ≡ map house_sent (frames_of ts) ++ map house_sent (frames_of us)
@@ -77,6 +77,7 @@ module _ {M : Type 0} (allows : M → Asked → M → Type 0) (auction : Auction
     turns = [];
     held = (refl, refl);
     each = tt;
+    replies = tt;
     going = refl;
     partial = inl (omega arith);
     whole = refl;
@@ -92,6 +93,7 @@ module _ {M : Type 0} (allows : M → Asked → M → Type 0) (auction : Auction
       bidder = None;
       held = (refl, refl);
       each = tt;
+      replies = tt;
       bytes = told-same t (Served {M = M} auction [] ends.NoMemory) (λ x. record { taken = []; given = []; tail = []; left = refl; written = sym (append-nil x.written); front = refl; ends = (tt, ([], inl refl)); whole = ([], refl); takes = omega arith; pulls = record { done = []; new = []; rest = []; piece = []; turns_are = refl; taken_is = refl; goes = refl; partial = inl (omega arith); short = omega arith } });
     },
   )
@@ -103,17 +105,18 @@ module _ {M : Type 0} (allows : M → Asked → M → Type 0) (auction : Auction
     pub on : (reader_after : ReaderState) (w2 : Option ℕ) (m2 : M) (t2 : Option LinkBytes) (room n : ℕ) → Went allows auction room reader w m1 t1 reader_after w2 m2 t2 n → Underway allows auction m m2 w2 reader_after (count + n) t t2
     on reader_after w2 m2 t2 room n s =
         let new = s.2.0 in
-        let goes : GoesOn auction w (frames_of new) reader_after.rest reader reader_after = s.2.3 in
+        let goes : GoesOn auction w (frames_of new) reader_after.rest reader reader_after = s.2.4 in
         record {
           turns = u.turns ++ new;
           held = turns_on allows auction u.turns new None w w2 m m1 m2 u.held s.2.1;
           each = subst (AllByRecursion (IsSent to_house)) (sym (sent_on u.turns new)) (all-append (IsSent to_house) (map house_sent (frames_of u.turns)) (map house_sent (frames_of new)) u.each s.2.2);
+          replies = replies_on u.turns new u.replies s.2.3;
           going = subst (λ (l : List ToHouse). goes_on_behind auction None l ≡ true) (sym (frames_on u.turns new))
               (behind_on auction (frames_of u.turns) (frames_of new) None u.going (subst (λ (x : Option ℕ). goes_on_behind auction x (frames_of new) ≡ true) who_is goes.goes));
           partial = goes.partial;
           whole = goes.whole;
           place = goes.place ∙ placed reader.place (length (stream_of (map house_sent (frames_of u.turns)) [])) (length (stream_of (map house_sent (frames_of new)) [])) (length (stream_of (map house_sent (frames_of (u.turns ++ new))) [])) u.place (length_turns u.turns new);
-          bytes = told-trans t t1 t2 (Going u.turns reader.rest count) (WentBytes reader reader_after new n) (Going (u.turns ++ new) reader_after.rest (count + n)) u.bytes s.2.4 (λ x y z p q. record {
+          bytes = told-trans t t1 t2 (Going u.turns reader.rest count) (WentBytes reader reader_after new n) (Going (u.turns ++ new) reader_after.rest (count + n)) u.bytes s.2.5 (λ x y z p q. record {
             taken = p.taken ++ q.0;
             left = p.left ∙ ap (λ (l : List ℕ). p.taken ++ l) q.2 ∙ sym (append_assoc p.taken q.0 z.left);
             count_is = (let a = length-append p.taken q.0 in let b = p.count_is in let d = q.1 in omega (arith, a, b, d));
@@ -130,7 +133,8 @@ module _ {M : Type 0} (allows : M → Asked → M → Type 0) (auction : Auction
             bidder = w2;
             held = turns_on allows auction u.turns new None w w2 m m1 m2 u.held s.1;
             each = subst (AllByRecursion (IsSent to_house)) (sym (sent_on u.turns new)) (all-append (IsSent to_house) (map house_sent (frames_of u.turns)) (map house_sent (frames_of new)) u.each s.2);
-            bytes = told-trans t t1 t2 (Going u.turns reader.rest count) (EndedBytes auction room reader w new e) (Served auction (u.turns ++ new) e) u.bytes s.3 (λ x y z p q. record {
+            replies = replies_on u.turns new u.replies s.3;
+            bytes = told-trans t t1 t2 (Going u.turns reader.rest count) (EndedBytes auction room reader w new e) (Served auction (u.turns ++ new) e) u.bytes s.4 (λ x y z p q. record {
               taken = p.taken ++ q.0;
               given = bytes_of u.turns ++ q.1;
               tail = q.2;
@@ -169,6 +173,7 @@ module _ {M : Type 0} (allows : M → Asked → M → Type 0) (auction : Auction
         bidder = w;
         held = u.held;
         each = u.each;
+        replies = u.replies;
         bytes = told-map t t1 (Going u.turns reader.rest count) (Served auction u.turns ends.Spent) u.bytes (λ x y p. record {
           taken = p.taken;
           given = bytes_of u.turns;

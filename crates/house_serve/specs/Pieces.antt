@@ -6,10 +6,10 @@ use Rattle.house_io.specs.Links.{LinkBytes}
 use Rattle.auction_file.specs.declared.listing.Auction.{Auction}
 use Rattle.report_wire.specs.declared.messages.ToHouse.{ToHouse}
 use Rattle.report_wire.specs.Frames.{IsSent, IsPartial, spelled, stream_of}
-use Rattle.report_wire.specs.Messages.{to_house, house_sent, bidder_sent}
+use Rattle.report_wire.specs.Messages.{to_house, house_sent, to_bidder, bidder_sent}
 use Rattle.report_wire.specs.Reading.{ReaderState}
 use Rattle.session.specs.declared.halls.Asked.{Asked}
-use Rattle.session.specs.Turns.{Turn, AreTurns, frames_of, bytes_of, goes_on_behind}
+use Rattle.session.specs.Turns.{Turn, AreTurns, frames_of, replies_of, bytes_of, goes_on_behind}
 use Rattle.house_serve.specs.declared.ends.SessionEnd.{SessionEnd}
 use Rattle.house_serve.specs.declared.ends.SessionEnd.TheVariants as ends
 use Rattle.house_serve.specs.declared.answering.Cut.{Cut}
@@ -61,6 +61,7 @@ pub record Answers {M : Type 0} (allows : M → Asked → M → Type 0) (auction
   pub frames_are : frames ≡ frames_of turns ++ more
   pub all : end ≡ None → more ≡ []
   pub held : AreTurns allows auction who before turns later after
+  pub replies : AllByRecursion (IsSent to_bidder) (map bidder_sent (replies_of turns))
   pub goes : GoesBy auction who (frames_of turns) end
   pub sent : IfTold told told_after (λ b a. (given : List ℕ) × Adds given b a × AreWhole turns given × WritesBy end (bytes_of turns) given)
 
@@ -88,6 +89,7 @@ pub record Takes {M : Type 0} (allows : M → Asked → M → Type 0) (auction :
   pub tail : List ℕ
   pub held : AreTurns allows auction who before turns later after
   pub each : AllByRecursion (IsSent to_house) (map house_sent (frames_of turns))
+  pub replies : AllByRecursion (IsSent to_bidder) (map bidder_sent (replies_of turns))
   pub front : reader.rest ++ piece ≡ stream_of (map house_sent (frames_of turns)) tail
   pub goes : MatchOption end (GoesOn auction who (frames_of turns) tail reader reader_after) IsMidway
   pub sent : IfTold told told_after (λ b a. (given : List ℕ) × Adds given b a × AreWhole turns given

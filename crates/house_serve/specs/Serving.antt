@@ -5,10 +5,10 @@ use Rattle.house_io.specs.Told.{IfTold}
 use Rattle.house_io.specs.Links.{LinkBytes}
 use Rattle.auction_file.specs.declared.listing.Auction.{Auction}
 use Rattle.report_wire.specs.Frames.{IsSent, IsPartial, stream_of}
-use Rattle.report_wire.specs.Messages.{to_house, house_sent}
+use Rattle.report_wire.specs.Messages.{to_house, house_sent, to_bidder, bidder_sent}
 use Rattle.report_wire.specs.Reading.{ReaderState}
 use Rattle.session.specs.declared.halls.Asked.{Asked}
-use Rattle.session.specs.Turns.{Turn, AreTurns, frames_of, bytes_of, goes_on_behind}
+use Rattle.session.specs.Turns.{Turn, AreTurns, frames_of, replies_of, bytes_of, goes_on_behind}
 use Rattle.house_serve.specs.declared.ends.SessionEnd.{SessionEnd}
 use Rattle.house_serve.specs.declared.ends.SessionEnd.TheVariants as ends
 use Rattle.house_serve.specs.declared.serving.Step.{Step}
@@ -43,11 +43,13 @@ pub record Served {M : Type 0} (auction : Auction) (turns : List (Turn M)) (end 
   pub takes : TakesBy (length taken) end
   pub pulls : IsPulledLast auction turns taken
 
--- The whole of a session: its turns led the hall from one meaning to another, and they are those of the bytes, where these are told.
+-- The whole of a session: its turns led the hall from one meaning to another, each frame is a message to the house and each reply one to
+-- the bidder, and they are those of the bytes, where these are told.
 pub record IsSession {M : Type 0} (allows : M → Asked → M → Type 0) (auction : Auction) (turns : List (Turn M)) (before after : M) (told told_after : Option LinkBytes) (end : SessionEnd) : Type 0 where
   pub bidder : Option ℕ
   pub held : AreTurns allows auction None before turns bidder after
   pub each : AllByRecursion (IsSent to_house) (map house_sent (frames_of turns))
+  pub replies : AllByRecursion (IsSent to_bidder) (map bidder_sent (replies_of turns))
   pub bytes : IfTold told told_after (Served auction turns end)
 
 -- a session that has not ended yet, after so many bytes
@@ -62,6 +64,7 @@ pub record Underway {M : Type 0} (allows : M → Asked → M → Type 0) (auctio
   pub turns : List (Turn M)
   pub held : AreTurns allows auction None before turns who after
   pub each : AllByRecursion (IsSent to_house) (map house_sent (frames_of turns))
+  pub replies : AllByRecursion (IsSent to_bidder) (map bidder_sent (replies_of turns))
   pub going : goes_on_behind auction None (frames_of turns) ≡ true
   pub partial : IsPartial to_house reader.rest
   pub whole : reader.fault ≡ None
@@ -80,6 +83,7 @@ Went {M = M} allows auction most reader who before told reader_after later after
     (0 < count) × (count ≤ most)
     × ((turns : List (Turn M)) × AreTurns allows auction who before turns later after
     × AllByRecursion (IsSent to_house) (map house_sent (frames_of turns))
+    × AllByRecursion (IsSent to_bidder) (map bidder_sent (replies_of turns))
     × GoesOn auction who (frames_of turns) reader_after.rest reader reader_after
     × IfTold told told_after (WentBytes reader reader_after turns count))
 
@@ -105,6 +109,7 @@ abbrev pub Ended : {M : Type 0} → (M → Asked → M → Type 0) → Auction �
 Ended {M = M} allows auction most reader who before told later after told_after end =
     (turns : List (Turn M)) × AreTurns allows auction who before turns later after
     × AllByRecursion (IsSent to_house) (map house_sent (frames_of turns))
+    × AllByRecursion (IsSent to_bidder) (map bidder_sent (replies_of turns))
     × IfTold told told_after (EndedBytes auction most reader who turns end)
 
 abbrev pub IsStep : {M : Type 0} → (M → Asked → M → Type 0) → Auction → ℕ → ReaderState → Option ℕ → M → Option LinkBytes → ReaderState → Option ℕ → M → Option LinkBytes → Step → Type 0
