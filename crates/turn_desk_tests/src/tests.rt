@@ -1,5 +1,5 @@
-//! The desk with one thread, with two, and with as many passes as it can have.
-ghost use Rattle.std.specs.Prelude.{◌≡◌, List, None, length};
+//! The desk with one thread, with two, and with each number of passes that it can have.
+ghost use Rattle.std.specs.Prelude.{◌≡◌, ◌≤◌, List, None, length};
 ghost use Rattle.turn_desk.specs.Histories.{GoesOn};
 ghost use Rattle.turn_desk.specs.Passes.{AreAll};
 
@@ -12,9 +12,9 @@ use turn_desk::{Book, Desk, LONGEST_NOTE, Pass};
 
 /// Numbers, the oldest first. Its origin is the number that was written on its cover.
 #[derive(Drop)]
-struct Notes {
+pub(crate) struct Notes {
     cover: u32,
-    notes: Vec<u32>,
+    pub(crate) notes: Vec<u32>,
 }
 
 impl Book for Notes {
@@ -38,7 +38,7 @@ impl Book for Notes {
 }
 
 impl Notes {
-    fn empty(alloc: Global) -> Notes {
+    pub(crate) fn empty(alloc: Global) -> Notes {
         Notes {
             cover: 5,
             notes: Vec::new(alloc),
@@ -46,7 +46,7 @@ impl Notes {
     }
 
     /// Adds a note, if there is memory.
-    fn add(&mut self, note: u32) -> bool
+    pub(crate) fn add(&mut self, note: u32) -> bool
         ensures history { GoesOn self.old.notes.items self.new.notes.items }
         ensures cover { self.new.cover ≡ self.old.cover }
     {
@@ -104,7 +104,7 @@ fn write_all<T: Wait>(
 }
 
 /// Each pass adds its number, one after the other.
-fn write_numbers<T: Wait>(rt: &T, desk: &Desk<Notes>, passes: &mut Vec<Pass<Notes>>)
+pub(crate) fn write_numbers<T: Wait>(rt: &T, desk: &Desk<Notes>, passes: &mut Vec<Pass<Notes>>)
     requires all { AreAll desk.now.id passes.old.items }
     ensures all { AreAll desk.now.id passes.new.items }
 {
@@ -217,24 +217,39 @@ fn two_threads_write_one_history_with_every_entry_once(rt: HostRuntime) -> Resul
     Ok(())
 }
 
-/// What sixty-four passes write, in two rounds.
-fn two_rounds<T: Wait>(rt: &T, alloc: Global) -> Result<Notes, Fail> {
-    let Ok((desk, mut passes)) = Desk::new(alloc, Notes::empty(alloc), 64) else {
-        return Err(Fail::from("memory"));
+/// What so many passes write, in two rounds. None where there is no memory.
+fn two_rounds<T: Wait>(rt: &T, alloc: Global, passes: u32) -> Option<Notes>
+    requires { (1 ≤ passes) × (passes ≤ 64) }
+{
+    let Ok((desk, mut passes)) = Desk::new(alloc, Notes::empty(alloc), passes) else {
+        return None;
     };
     write_numbers(rt, &desk, &mut passes);
     write_numbers(rt, &desk, &mut passes);
-    Ok(desk.close(passes))
+    Some(desk.close(passes))
+}
+
+/// Whether so many passes can be made, and write their numbers in order, twice.
+fn writes_twice<T: Wait>(rt: &T, alloc: Global, passes: u32) -> bool
+    requires { (1 ≤ passes) × (passes ≤ 64) }
+{
+    let Some(book) = two_rounds(rt, alloc, passes) else {
+        return false;
+    };
+    let count = passes as usize;
+    for (place, &note) in book.notes.iter().enumerate() {
+        if note as usize != place % count {
+            return false;
+        }
+    }
+    book.notes.len() == 2 * count
 }
 
 #[test]
-fn sixty_four_passes_write_their_numbers_in_two_rounds(rt: HostRuntime) -> Result<(), Fail> {
-    let book = two_rounds(&rt, rt.alloc())?;
-    assert_eq!(rt; book.notes.len(), 128);
-    for (place, &note) in book.notes.iter().enumerate() {
-        assert_eq!(rt; note as usize, place % 64, "at {place}");
+fn as_many_passes_as_are_asked_for_write_their_numbers_in_two_rounds(rt: HostRuntime) {
+    for passes in 1..65 {
+        assert!(rt; writes_twice(&rt, rt.alloc(), passes), "{passes} passes");
     }
-    Ok(())
 }
 
 /// The length of the note behind that of this number, where so many were left before, each of as many bytes as its number says, which all are
