@@ -573,3 +573,84 @@ fn repeats_what_each_member_reported(rt: HostRuntime) {
     let auction = auction_of(rt.alloc(), &[2], 3, 10, 2);
     assert_eq!(rt; first_other(auction, REPEATED), None);
 }
+
+// The demands of a bidder that wants one unit of one of six goods.
+const FIRST_OF_SIX: &[u16] = &[1, 0, 0, 0, 0, 0];
+
+const SECOND_OF_SIX: &[u16] = &[0, 1, 0, 0, 0, 0];
+
+const THIRD_OF_SIX: &[u16] = &[0, 0, 1, 0, 0, 0];
+
+const FOURTH_OF_SIX: &[u16] = &[0, 0, 0, 1, 0, 0];
+
+const FIFTH_OF_SIX: &[u16] = &[0, 0, 0, 0, 1, 0];
+
+const SIXTH_OF_SIX: &[u16] = &[0, 0, 0, 0, 0, 1];
+
+// One good after the other rises to the ceiling of 10,000, so that the clock has all rounds that one can have.
+const ALL_ROUNDS: &[Step] = &[
+    Step::Reported(3, 1, FIRST_OF_SIX, Judgement::Take),
+    Step::Reported(1, 1, FIRST_OF_SIX, Judgement::Take),
+    Step::Repeats(100_000, 9_999),
+    Step::Reported(3, 10_001, SECOND_OF_SIX, Judgement::Take),
+    Step::Reported(1, 10_001, SECOND_OF_SIX, Judgement::Take),
+    Step::Repeats(100_000, 9_999),
+    Step::Reported(3, 20_001, THIRD_OF_SIX, Judgement::Take),
+    Step::Reported(1, 20_001, THIRD_OF_SIX, Judgement::Take),
+    Step::Repeats(100_000, 9_999),
+    Step::Reported(3, 30_001, FOURTH_OF_SIX, Judgement::Take),
+    Step::Reported(1, 30_001, FOURTH_OF_SIX, Judgement::Take),
+    Step::Repeats(100_000, 9_999),
+    Step::Reported(3, 40_001, FIFTH_OF_SIX, Judgement::Take),
+    Step::Reported(1, 40_001, FIFTH_OF_SIX, Judgement::Take),
+    Step::Repeats(100_000, 9_999),
+    Step::Stands(
+        50_001,
+        Phase::Running,
+        1,
+        &[10_000, 10_000, 10_000, 10_000, 10_000, 0],
+    ),
+    Step::Reported(3, 50_001, SIXTH_OF_SIX, Judgement::Take),
+    Step::Reported(1, 50_001, SIXTH_OF_SIX, Judgement::Take),
+    Step::Repeats(100_000, 9_999),
+    Step::Stands(
+        60_001,
+        Phase::Running,
+        1,
+        &[10_000, 10_000, 10_000, 10_000, 10_000, 10_000],
+    ),
+    Step::Reported(3, 60_001, &[0, 0, 0, 0, 0, 0], Judgement::Take),
+    Step::Reported(1, 60_001, SIXTH_OF_SIX, Judgement::Take),
+    Step::Stands(
+        60_001,
+        Phase::Ended,
+        0,
+        &[10_000, 10_000, 10_000, 10_000, 10_000, 10_000],
+    ),
+    Step::Counts(120_002),
+    Step::Told(100_001, 3, 50_001, SIXTH_OF_SIX),
+    Step::Told(120_002, 1, 60_001, SIXTH_OF_SIX),
+    Step::Priced(50_002, &[10_000, 10_000, 10_000, 10_000, 10_000, 1]),
+];
+
+#[test]
+fn a_clock_has_as_many_rounds_as_goods_and_ceiling_allow(rt: HostRuntime) {
+    let auction = auction_of(rt.alloc(), &[1, 1, 1, 1, 1, 1], 3, 10_000, 2);
+    assert_eq!(rt; first_other(auction, ALL_ROUNDS), None);
+}
+
+// As many reports and quantities as a clock of a house has room for.
+const IN_MOST_ROOM: &[Step] = &[
+    Step::Reported(1, 1, &[1], Judgement::Take),
+    Step::Reserves(33_554_432),
+    Step::Told(1, 1, 1, &[1]),
+];
+
+#[test]
+fn a_clock_takes_the_most_room_that_a_house_asks_for(rt: HostRuntime) {
+    let auction = match terms_of(&[2], 2, 10) {
+        Some(terms) => Auction::with_room(rt.alloc(), terms, 0, 720_012, 33_554_432),
+        None => None,
+    };
+    assert_eq!(rt; first_other(auction, IN_MOST_ROOM), None);
+}
