@@ -467,6 +467,33 @@ const ANYTHING_TOLD: Told = (
     ],
 );
 
+const NONE_OF_SIX: &[u16] = &[0, 0, 0, 0, 0, 0];
+
+const ALL_OF_SIX: &[u16] = &[1, 1, 1, 1, 1, 1];
+
+// Both bidders want all six goods at prices of 0, and the first one alone at prices of 1.
+const SIX_GOODS: Reports = Reports::Listed(&[
+    &[
+        (1, 1, ALL_OF_SIX),
+        (2, 1, ALL_OF_SIX),
+        (1, 2, ALL_OF_SIX),
+        (2, 2, NONE_OF_SIX),
+    ],
+    &[(2, 1, ALL_OF_SIX)],
+    &[(1, 1, ALL_OF_SIX)],
+]);
+
+const SIX_GOODS_TOLD: Told = (
+    &[],
+    &[1, 1, 1, 1, 1, 1],
+    &[(ALL_OF_SIX, 0, 0, 6), (NONE_OF_SIX, 0, 0, 0)],
+    &[
+        (1, &[1, 1, 1, 1, 1, 1], &[ALL_OF_SIX, NONE_OF_SIX]),
+        (0, &[0, 0, 0, 0, 0, 0], &[ALL_OF_SIX]),
+        (0, &[0, 0, 0, 0, 0, 0], &[ALL_OF_SIX]),
+    ],
+);
+
 // At price 4 both bidders want the unit or nothing.
 const TIE: Reports = Reports::Listed(&[
     &[
@@ -529,6 +556,13 @@ const AUCTIONS: &[Auction] = &[
         ANYTHING_TOLD,
     ),
     ("a tie goes to the last bidder", &[1], 2, TIE, TIE_TOLD),
+    (
+        "six goods go to one bidder",
+        ALL_OF_SIX,
+        2,
+        SIX_GOODS,
+        SIX_GOODS_TOLD,
+    ),
 ];
 
 #[test]
