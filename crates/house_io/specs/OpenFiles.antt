@@ -1,5 +1,5 @@
 -- What a disk does with the file that it stands on, as far as the file's position and bytes are known.
-use Rattle.std.specs.Prelude.{◌≡◌, ◌<◌, ℕ, List, length, take, Option, Some, IfSome}
+use Rattle.std.specs.Prelude.{◌≡◌, ◌<◌, ℕ, List, length, take, Option, Some, None, IfSome}
 use Rattle.std.specs.Io.KnownBytes.{Appends, Consumes, IsAtEnd}
 
 -- a file whose position was known was moved to this offset
@@ -23,3 +23,19 @@ pub record ReadsAt {F : Type 0} (position : F → Option ℕ) (remaining : F →
   pub stands : StandsAt (position before) (position moved) at
   pub bytes : Consumes (remaining moved) (remaining after) (take n into)
   pub whole : n < length into → IsAtEnd (remaining after)
+
+-- The number is the length of a file that is there. One that is absent has no byte.
+abbrev pub IsLengthOf : {F : Type 0} → (F → Option ℕ) → (F → Option (List ℕ)) → ℕ → Option F → Type 0
+IsLengthOf position bytes n None = n ≡ 0
+IsLengthOf position bytes n (Some file) = IsLength (position file) (bytes file) n
+
+-- The same of a read: it is one of a file that is there, and is there from then on. One that is absent gives no byte.
+abbrev pub ReadsFile : {F : Type 0} → (F → Option ℕ) → (F → Option (List ℕ)) → ℕ → ℕ → List ℕ → Option F → Option F → Type 0
+ReadsFile position remaining at n into None after = (n ≡ 0) × (after ≡ None)
+ReadsFile position remaining at n into (Some before) None = ⊥
+ReadsFile position remaining at n into (Some before) (Some after) = ReadsAt position remaining at n into before after
+
+-- The same of a write, which is one of a file that is there.
+abbrev pub WritesFile : {F : Type 0} → (F → Option ℕ) → (F → Option (List ℕ)) → ℕ → List ℕ → Option F → Option F → Type 0
+WritesFile position contents at bytes (Some before) (Some after) = WritesAt position contents at bytes before after
+WritesFile position contents at bytes _ _ = ⊥

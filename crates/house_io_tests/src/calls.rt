@@ -1,284 +1,15 @@
-//! What no clause says of the files of a folder: each call that is made of them, one by one, with its arguments, and what is said of one
-//! that fails.
-use house_io::{Disk, Failed, FolderShelf, LockFile, Refusal, Shelf, Source};
-use std::alloc::{Allocator, Global};
-use std::fmt::Display;
-use std::fs::{Metadata, OpenFile, OpenOptions};
-use std::io::{self, ErrorKind, Read, Seek, SeekFrom, Write};
-use std::rt::Files;
-use std::sync::atomic::{AtomicU64, Ordering};
-use std::sync::{Arc, Mutex};
-
-/// What a call is on.
-#[derive(Clone, Copy, Debug, PartialEq, Eq)]
-enum Place {
-    Journal,
-    Folder,
-    Elsewhere,
-}
-
-/// A call with its arguments.
-#[derive(Clone, Copy, Debug, PartialEq, Eq)]
-enum Call {
-    /// Whether it is opened to be read, to be written, and made where it is absent.
-    Open(Place, bool, bool, bool),
-    SeekEnd,
-    SeekStart(u64),
-    /// The length of the buffer.
-    Read(usize),
-    /// The length of the piece.
-    Write(usize),
-    SetLength(u64),
-    SyncAll(Place),
-    SyncData,
-    Lock,
-}
-
-/// The calls that came, in order, what was said on standard error, and which calls fail, by their numbers from 0 on.
-#[derive(Drop)]
-struct Calls {
-    list: Mutex<Vec<Call>>,
-    said: Mutex<String>,
-    failing: Vec<usize>,
-    alloc: Global,
-}
-
-impl Calls {
-    fn new(alloc: Global, failing: Vec<usize>) -> Calls {
-        Calls {
-            list: Mutex::new(Vec::new(alloc)),
-            said: Mutex::new(String::new(alloc)),
-            failing,
-            alloc,
-        }
-    }
-
-    /// Notes a call, and fails it where its turn has come.
-    fn note(&self, call: Call) -> io::Result<()> {
-        let Some(mut list) = self.list.try_lock() else {
-            return unsupported();
-        };
-        let number = list.len();
-        let _if_room = list.push(call);
-        if self.failing.contains(&number) {
-            // Input/output error.
-            return Err(io::Error::from_raw_os_error(5));
-        }
-        Ok(())
-    }
-
-    fn say(&self, line: &str) -> io::Result<()> {
-        let Some(mut said) = self.said.try_lock() else {
-            return unsupported();
-        };
-        let _if_room = said.push_str(line);
-        let _if_room = said.push('\n');
-        Ok(())
-    }
-
-    /// The calls that came.
-    fn taken(&self) -> Vec<Call> {
-        let mut taken = Vec::new(self.alloc);
-        if let Some(list) = self.list.try_lock() {
-            for call in list.iter() {
-                let _if_room = taken.push(*call);
-            }
-        }
-        taken
-    }
-
-    /// What was said, each line with its end.
-    fn said(&self) -> String {
-        let mut taken = String::new(self.alloc);
-        if let Some(said) = self.said.try_lock() {
-            let _if_room = taken.push_str(said.as_str());
-        }
-        taken
-    }
-}
-
-fn unsupported<T>() -> io::Result<T> {
-    Err(ErrorKind::Unsupported.into())
-}
-
-/// A folder in which a journal stands, or may be made.
-#[derive(Drop)]
-struct NotedFolder {
-    calls: Arc<Calls>,
-    folder: String,
-    journal: String,
-    /// 1 where the journal stands.
-    stands: AtomicU64,
-}
-
-/// A file of 200,000 bytes that gives at most 65,536 at a time, and takes at most 3.
-#[derive(Drop)]
-struct NotedFile {
-    calls: Arc<Calls>,
-    place: Place,
-    at: u64,
-}
-
-const LENGTH: u64 = 200_000;
-
-impl Read for NotedFile {
-    fn read(&mut self, into: &mut [u8]) -> io::Result<usize> {
-        self.calls.note(Call::Read(into.len()))?;
-        let left = LENGTH.saturating_sub(self.at).min(65_536) as usize;
-        let count = into.len().min(left);
-        self.at = self.at.saturating_add(count as u64);
-        Ok(count)
-    }
-}
-
-impl Write for NotedFile {
-    fn write(&mut self, from: &[u8]) -> io::Result<usize> {
-        self.calls.note(Call::Write(from.len()))?;
-        Ok(from.len().min(3))
-    }
-
-    fn flush(&mut self) -> io::Result<()> {
-        Ok(())
-    }
-}
-
-impl Seek for NotedFile {
-    fn seek(&mut self, to: SeekFrom) -> io::Result<u64> {
-        let (call, at) = match to {
-            SeekFrom::Start(at) => (Call::SeekStart(at), at),
-            _ => (Call::SeekEnd, LENGTH),
-        };
-        self.calls.note(call)?;
-        self.at = at;
-        Ok(at)
-    }
-}
-
-impl OpenFile for NotedFile {
-    fn metadata(&self) -> io::Result<Metadata> {
-        unsupported()
-    }
-
-    fn set_len(&self, size: u64) -> io::Result<()> {
-        self.calls.note(Call::SetLength(size))
-    }
-
-    fn sync_all(&self) -> io::Result<()> {
-        self.calls.note(Call::SyncAll(self.place))
-    }
-
-    fn sync_data(&self) -> io::Result<()> {
-        self.calls.note(Call::SyncData)
-    }
-}
-
-impl LockFile for NotedFile {
-    fn lock_now(&self) -> io::Result<()> {
-        self.calls.note(Call::Lock)
-    }
-}
-
-impl Eprint for NotedFolder {
-    fn eprint<D: Display + Drop>(&self, value: D) -> io::Result<()> {
-        self.eprintln(value)
-    }
-
-    fn eprintln<D: Display + Drop>(&self, value: D) -> io::Result<()> {
-        let Ok(line) = format!(in self.calls.alloc; "{value}") else {
-            return unsupported();
-        };
-        self.calls.say(&line)
-    }
-}
-
-impl NotedFolder {
-    fn place_of(&self, path: &str) -> Place {
-        if path == self.folder.as_str() {
-            Place::Folder
-        } else if path == self.journal.as_str() {
-            Place::Journal
-        } else {
-            Place::Elsewhere
-        }
-    }
-
-    /// Whether a file is found there, or made.
-    fn is_found(&self, place: Place, makes: bool) -> bool {
-        match place {
-            Place::Folder => true,
-            Place::Elsewhere => false,
-            Place::Journal => {
-                if makes {
-                    self.stands.store(1, Ordering::SeqCst);
-                }
-                self.stands.load(Ordering::SeqCst) == 1
-            }
-        }
-    }
-}
-
-impl Files for NotedFolder {
-    type File = NotedFile;
-
-    type Dir = NotedFile;
-
-    fn open_file(&self, how: &OpenOptions, path: &str) -> io::Result<NotedFile> {
-        let place = self.place_of(path);
-        let makes = how.asks_create();
-        self.calls.note(Call::Open(place, how.asks_read(), how.asks_write(), makes))?;
-        if !self.is_found(place, makes) {
-            return Err(ErrorKind::NotFound.into());
-        }
-        match Arc::clone(&self.calls) {
-            Ok(calls) => Ok(NotedFile {
-                calls,
-                place,
-                at: 0,
-            }),
-            Err(_) => unsupported(),
-        }
-    }
-
-    fn open_dir(&self, _path: &str) -> io::Result<NotedFile> {
-        unsupported()
-    }
-
-    fn metadata(&self, _path: &str) -> io::Result<Metadata> {
-        unsupported()
-    }
-
-    fn symlink_metadata(&self, _path: &str) -> io::Result<Metadata> {
-        unsupported()
-    }
-
-    fn copy(&self, _from: &str, _to: &str) -> io::Result<u64> {
-        unsupported()
-    }
-
-    fn rename(&self, _from: &str, _to: &str) -> io::Result<()> {
-        unsupported()
-    }
-
-    fn remove_file(&self, _path: &str) -> io::Result<()> {
-        unsupported()
-    }
-
-    fn create_dir(&self, _path: &str) -> io::Result<()> {
-        unsupported()
-    }
-
-    fn remove_dir(&self, _path: &str) -> io::Result<()> {
-        unsupported()
-    }
-
-    fn remove_dir_all<B: Allocator>(&self, _alloc: B, _path: &str) -> io::Result<()> {
-        unsupported()
-    }
-}
+//! What no clause says of the files of a folder: each call that is made of them, one by one, with its arguments, what is said of one that
+//! fails, and that what is closed is let go of.
+use crate::noted_folder::{Call, NotedFolder, Place};
+use crate::notes::{Notes, notes_of, open_ones};
+use house_io::{Disk, Failed, FolderShelf, Refusal, Shelf, Source};
+use std::alloc::Global;
+use std::sync::Arc;
+use std::sync::atomic::AtomicU64;
 
 /// What is asked for.
 #[derive(Clone, Copy, Debug)]
-enum Asked {
+pub(crate) enum Asked {
     Size,
     /// So many bytes at this offset.
     Reads(u64, usize),
@@ -323,25 +54,28 @@ fn pulls<S: Source>(source: &mut S, asked: Asked, room: &mut [u8]) -> bool {
 
 /// A name that a shelf opens in a folder with one journal, what is asked of the disk or the source, and which calls on the files fail.
 #[derive(Clone, Copy)]
-struct Question {
-    folder: &'static str,
-    journal: &'static str,
-    name: &'static str,
-    stands: bool,
-    asked: &'static [Asked],
-    failing: &'static [usize],
+pub(crate) struct Question {
+    pub(crate) parent: &'static str,
+    pub(crate) folder: &'static str,
+    pub(crate) journal: &'static str,
+    pub(crate) name: &'static str,
+    pub(crate) stands: bool,
+    pub(crate) asked: &'static [Asked],
+    pub(crate) failing: &'static [usize],
 }
 
-/// How many of what was asked for failed, or why nothing was opened, with the calls that were made and what was said.
+/// How many of what was asked for failed, or why nothing was opened, with how many files are open at the end, the calls that were made
+/// and what was said.
 #[derive(Debug, Drop)]
-struct Outcome {
-    outcome: Result<u64, Refusal>,
-    calls: Vec<Call>,
+pub(crate) struct Outcome {
+    pub(crate) outcome: Result<u64, Refusal>,
+    open: usize,
+    pub(crate) calls: Vec<Call>,
     said: String,
 }
 
 /// How many fail of what is asked of a disk.
-fn failures<H: Shelf>(
+pub(crate) fn failures<H: Shelf>(
     alloc: Global,
     shelf: &mut H,
     name: &str,
@@ -393,38 +127,61 @@ fn is_of_a_source(asked: &[Asked]) -> bool {
     }
 }
 
-/// How many fail of what is asked for in a folder.
+/// How many fail of what is asked for in a folder, and how many files are open once the disk or the source is closed.
 fn outcome_of(
     alloc: Global,
     folder: &NotedFolder,
     question: &Question,
     room: &mut [u8],
-) -> Result<u64, Refusal> {
+) -> (Result<u64, Refusal>, usize) {
     let mut shelf = FolderShelf::new(alloc, folder);
-    if is_of_a_source(question.asked) {
+    let outcome = if is_of_a_source(question.asked) {
         source_failures(alloc, &mut shelf, question.name, question.asked, room)
     } else {
         failures(alloc, &mut shelf, question.name, question.asked, room)
-    }
+    };
+    (outcome, open_ones(&folder.calls))
 }
 
-fn found(alloc: Global, question: &Question) -> Option<Outcome> {
-    let mut room = vec![in alloc; 7; 131_072].ok()?;
-    let calls = Arc::new(
-        alloc,
-        Calls::new(alloc, question.failing.to_vec(alloc).ok()?),
-    )
-    .ok()?;
-    let noted = Arc::clone(&calls).ok()?;
-    let folder = NotedFolder {
-        calls: noted,
+/// The most bytes that are asked for at once.
+fn most_asked(asked: &[Asked]) -> usize {
+    let mut most: usize = 0;
+    for one in asked {
+        most = match *one {
+            Asked::Reads(_, count) | Asked::Writes(_, count) | Asked::Pulls(count) => {
+                most.max(count)
+            }
+            _ => most,
+        };
+    }
+    most
+}
+
+pub(crate) fn folder_of(
+    alloc: Global,
+    question: &Question,
+    calls: Arc<Notes<Call>>,
+) -> Option<NotedFolder> {
+    Some(NotedFolder {
+        calls,
+        parent: String::from_str(alloc, question.parent).ok()?,
         folder: String::from_str(alloc, question.folder).ok()?,
         journal: String::from_str(alloc, question.journal).ok()?,
         stands: AtomicU64::new(u64::from(question.stands)),
-    };
-    let outcome = outcome_of(alloc, &folder, question, &mut room);
+    })
+}
+
+/// Input/output error.
+pub(crate) const BROKEN: i32 = 5;
+
+pub(crate) fn found(alloc: Global, question: &Question) -> Option<Outcome> {
+    let mut room = vec![in alloc; 7; most_asked(question.asked)].ok()?;
+    let calls = notes_of(alloc, question.failing, BROKEN)?;
+    let folder = folder_of(alloc, question, Arc::clone(&calls).ok()?)?;
+    let (outcome, open) = outcome_of(alloc, &folder, question, &mut room);
     Some(Outcome {
         outcome,
+        open,
         calls: calls.taken(),
         said: calls.said(),
     })
@@ -443,6 +200,7 @@ struct Row {
 
 fn question_of(row: &Row) -> Question {
     Question {
+        parent: "/",
         folder: ".",
         journal: "journal",
         name: "journal",
@@ -456,6 +214,7 @@ fn holds(alloc: Global, row: &Row) -> bool {
     match found(alloc, &question_of(row)) {
         Some(found) => {
             found.outcome == row.outcome
+                && found.open == 0
                 && found.calls.as_slice() == row.calls
                 && found.said.as_str() == row.said
         }
@@ -463,11 +222,13 @@ fn holds(alloc: Global, row: &Row) -> bool {
     }
 }
 
-const OPENED: Call = Call::Open(Place::Journal, true, false, false);
+pub(crate) const OPENED: Call = Call::Open(Place::Journal, true, false, false);
 
-const FOLDER: Call = Call::Open(Place::Folder, true, false, false);
+pub(crate) const FOLDER: Call = Call::Open(Place::Folder, true, false, false);
 
-const MADE: Call = Call::Open(Place::Journal, true, true, true);
+const SYNCED: Call = Call::SyncData(Place::Journal);
+
+pub(crate) const MADE: Call = Call::Open(Place::Journal, true, true, true);
 
 const READING: [Row; 4] = [
     // It is read without leave to write.
@@ -482,7 +243,7 @@ const READING: [Row; 4] = [
             Call::SeekStart(4_095),
             Call::Read(65_537),
             Call::Read(1),
-            Call::SyncData,
+            SYNCED,
         ],
         said: "",
     },
@@ -640,7 +401,7 @@ const FAULTS: [Row; 7] = [
         asked: &[Asked::Size, Asked::Syncs, Asked::Syncs],
         failing: &[1, 2, 3],
         outcome: Ok(3),
-        calls: &[OPENED, Call::SeekEnd, Call::SyncData, Call::SyncData],
+        calls: &[OPENED, Call::SeekEnd, SYNCED, SYNCED],
         said: "journal: size: Input/output error (os error 5)\njournal: sync: Input/output error (os error 5)\n",
     },
     // A write that fails behind its first bytes.
@@ -699,6 +460,213 @@ const FAULTS: [Row; 7] = [
     },
 ];
 
+const PIECES: [Row; 10] = [
+    // A piece at the start is written, and the length is left as it is.
+    Row {
+        stands: true,
+        asked: &[Asked::Writes(0, 4), Asked::Writes(0, 17)],
+        failing: &[],
+        outcome: Ok(0),
+        calls: &[
+            OPENED,
+            MADE,
+            Call::Lock,
+            Call::SyncAll(Place::Journal),
+            FOLDER,
+            Call::SyncAll(Place::Folder),
+            Call::SeekStart(0),
+            Call::Write(4),
+            Call::Write(1),
+            Call::SeekStart(0),
+            Call::Write(17),
+        ],
+        said: "",
+    },
+    // The same about a mebibyte, and just below 64 of them.
+    Row {
+        stands: true,
+        asked: &[
+            Asked::Writes(1_048_575, 2),
+            Asked::Writes(1_048_576, 2),
+            Asked::Writes(67_108_863, 2),
+        ],
+        failing: &[],
+        outcome: Ok(0),
+        calls: &[
+            OPENED,
+            MADE,
+            Call::Lock,
+            Call::SyncAll(Place::Journal),
+            FOLDER,
+            Call::SyncAll(Place::Folder),
+            Call::SeekStart(1_048_575),
+            Call::Write(2),
+            Call::SeekStart(1_048_576),
+            Call::Write(2),
+            Call::SeekStart(67_108_863),
+            Call::Write(2),
+        ],
+        said: "",
+    },
+    // A read changes nothing, wherever it is.
+    Row {
+        stands: true,
+        asked: &[
+            Asked::Reads(4_096, 8),
+            Asked::Reads(4_097, 8),
+            Asked::Reads(1_048_575, 2),
+            Asked::Reads(1_048_576, 2),
+            Asked::Reads(67_108_863, 2),
+        ],
+        failing: &[],
+        outcome: Ok(0),
+        calls: &[
+            OPENED,
+            Call::SeekStart(4_096),
+            Call::Read(8),
+            Call::SeekStart(4_097),
+            Call::Read(8),
+            Call::SeekStart(1_048_575),
+            Call::Read(2),
+            Call::SeekStart(1_048_576),
+            Call::Read(2),
+            Call::SeekStart(67_108_863),
+            Call::Read(2),
+        ],
+        said: "",
+    },
+    // A long piece is written at once, and read up to the end of the file.
+    Row {
+        stands: true,
+        asked: &[Asked::Writes(0, 16_777_216), Asked::Reads(0, 16_777_216)],
+        failing: &[],
+        outcome: Ok(0),
+        calls: &[
+            OPENED,
+            MADE,
+            Call::Lock,
+            Call::SyncAll(Place::Journal),
+            FOLDER,
+            Call::SyncAll(Place::Folder),
+            Call::SeekStart(0),
+            Call::Write(16_777_216),
+            Call::SeekStart(0),
+            Call::Read(16_777_216),
+            Call::Read(16_711_680),
+            Call::Read(16_646_144),
+            Call::Read(16_580_608),
+            Call::Read(16_577_216),
+        ],
+        said: "",
+    },
+    Row {
+        stands: true,
+        asked: &[Asked::Pulls(16_777_216)],
+        failing: &[],
+        outcome: Ok(0),
+        calls: &[OPENED, Call::Read(16_777_216)],
+        said: "",
+    },
+    // What was written is read and synced by the claimed file.
+    Row {
+        stands: true,
+        asked: &[
+            Asked::Writes(9, 2),
+            Asked::Reads(9, 2),
+            Asked::Size,
+            Asked::Syncs,
+        ],
+        failing: &[],
+        outcome: Ok(0),
+        calls: &[
+            OPENED,
+            MADE,
+            Call::Lock,
+            Call::SyncAll(Place::Journal),
+            FOLDER,
+            Call::SyncAll(Place::Folder),
+            Call::SeekStart(9),
+            Call::Write(2),
+            Call::SeekStart(9),
+            Call::Read(2),
+            Call::SeekEnd,
+            SYNCED,
+        ],
+        said: "",
+    },
+    // A write that fails at its first byte cuts nothing, and the next one is made as any other.
+    Row {
+        stands: true,
+        asked: &[Asked::Writes(4_096, 9), Asked::Writes(4_096, 2)],
+        failing: &[7],
+        outcome: Ok(1),
+        calls: &[
+            OPENED,
+            MADE,
+            Call::Lock,
+            Call::SyncAll(Place::Journal),
+            FOLDER,
+            Call::SyncAll(Place::Folder),
+            Call::SeekStart(4_096),
+            Call::Write(9),
+            Call::SeekStart(4_096),
+            Call::Write(2),
+        ],
+        said: "journal: write: Input/output error (os error 5)\n",
+    },
+    // An offset that cannot be gone to: nothing is written there, and nothing read.
+    Row {
+        stands: true,
+        asked: &[Asked::Writes(4_096, 9), Asked::Reads(4_096, 9)],
+        failing: &[6, 7],
+        outcome: Ok(2),
+        calls: &[
+            OPENED,
+            MADE,
+            Call::Lock,
+            Call::SyncAll(Place::Journal),
+            FOLDER,
+            Call::SyncAll(Place::Folder),
+            Call::SeekStart(4_096),
+            Call::SeekStart(4_096),
+        ],
+        said: "journal: write: Input/output error (os error 5)\njournal: read: Input/output error (os error 5)\n",
+    },
+    // A length that cannot be set.
+    Row {
+        stands: true,
+        asked: &[Asked::Writes(200_001, 0)],
+        failing: &[7],
+        outcome: Ok(1),
+        calls: &[
+            OPENED,
+            MADE,
+            Call::Lock,
+            Call::SyncAll(Place::Journal),
+            FOLDER,
+            Call::SyncAll(Place::Folder),
+            Call::SeekEnd,
+            Call::SetLength(200_001),
+        ],
+        said: "journal: write: Input/output error (os error 5)\n",
+    },
+    // Each sync is a call, also behind some that failed.
+    Row {
+        stands: true,
+        asked: &[
+            Asked::Syncs,
+            Asked::Syncs,
+            Asked::Syncs,
+            Asked::Syncs,
+            Asked::Syncs,
+        ],
+        failing: &[1, 2, 3],
+        outcome: Ok(3),
+        calls: &[OPENED, SYNCED, SYNCED, SYNCED, SYNCED, SYNCED],
+        said: "journal: sync: Input/output error (os error 5)\n",
+    },
+];
+
 /// The number, from 0, of the first row that does not hold, or that of all rows.
 fn first_other(alloc: Global, rows: &[Row]) -> usize {
     let mut number: usize = 0;
@@ -737,53 +705,8 @@ fn a_fault_is_said_once_for_each_cause_in_a_row(rt: HostRuntime) {
     assert_eq!(rt; number, 7, "{:?}", found_at(rt.alloc(), &FAULTS, number));
 }
 
-/// The calls by which a claimed disk of a name is opened, where its file stands in this folder, and whether that goes well.
-fn claimed_in(
-    alloc: Global,
-    folder: &'static str,
-    journal: &'static str,
-    name: &'static str,
-) -> Option<Outcome> {
-    found(
-        alloc,
-        &Question {
-            folder,
-            journal,
-            name,
-            stands: false,
-            asked: &[Asked::Claims],
-            failing: &[],
-        },
-    )
-}
-
-/// The same: whether it goes well, and how many calls are made.
-fn is_claimed_in(
-    alloc: Global,
-    folder: &'static str,
-    journal: &'static str,
-    name: &'static str,
-) -> Option<(bool, usize)> {
-    match claimed_in(alloc, folder, journal, name) {
-        Some(found) => Some((found.outcome == Ok(0), found.calls.len())),
-        None => None,
-    }
-}
-
-/// The folder that is looked at and synced is the one in which the file stands. Where that is absent, nothing is opened.
 #[test]
-fn a_claim_syncs_the_folder_of_its_name(rt: HostRuntime) {
-    for (folder, journal, name, claimed) in [
-        (".", "journal", "journal", (true, 7)),
-        ("kept", "kept/journal", "kept/journal", (true, 7)),
-        ("a/b", "a/b/journal", "a/b/journal", (true, 7)),
-        ("/", "/journal", "/journal", (true, 7)),
-        (".", "journal", "absent/journal", (false, 2)),
-    ] {
-        assert_eq!(rt;
-            is_claimed_in(rt.alloc(), folder, journal, name),
-            Some(claimed),
-            "{name} in {folder}"
-        );
-    }
+fn pieces_go_where_they_are_to_by_these_calls(rt: HostRuntime) {
+    let number = first_other(rt.alloc(), &PIECES);
+    assert_eq!(rt; number, 10, "{:?}", found_at(rt.alloc(), &PIECES, number));
 }

@@ -4,10 +4,20 @@
 #[cfg(test)]
 mod calls;
 #[cfg(test)]
+mod claim_calls;
+#[cfg(test)]
 mod disk_tests;
 #[cfg(test)]
 mod file_tests;
 #[cfg(test)]
+mod link_calls;
+#[cfg(test)]
 mod link_tests;
+#[cfg(test)]
+mod noted_folder;
+#[cfg(test)]
+mod noted_net;
+#[cfg(test)]
+mod notes;
 #[cfg(test)]
 mod tests;

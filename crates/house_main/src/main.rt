@@ -13,7 +13,12 @@ fn main(rt: HostRuntime) -> ExitCode {
         Ok(words) => {
             let mut shelf = FolderShelf::new(rt.alloc(), &rt);
             let mut net = TcpNet::new(&rt);
-            run(&rt, rt.alloc(), &words, &mut shelf, &mut out, &mut net)
+            let ended = run(&rt, rt.alloc(), &words, &mut shelf, &mut out, &mut net);
+            if shelf.found_no_disk() {
+                // Else a word that is mistyped reads as journals without reports. Where it cannot be said nobody can be told.
+                let _unsaid = eprintln!(rt; "no journal was found");
+            }
+            ended
         }
         Err(error) if error.kind() == io::ErrorKind::OutOfMemory => Ended::NoMemory,
         // Words that are not UTF-8 are no command.

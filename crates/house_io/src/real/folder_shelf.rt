@@ -16,6 +16,7 @@ use std::alloc::Global;
 use std::fs;
 use std::marker::Model;
 use std::rt::Files;
+use std::sync::ArcStr;
 
 /// Files that are named relative to the working directory, seen as the counts of their faults by name. An absent name fails as a
 /// source, and is a disk without bytes, unless its folder is absent too. Each fault is said on standard error, once for each cause
@@ -26,6 +27,10 @@ pub struct FolderShelf<'a, R: Files> {
     rt: &'a R,
     /// The names that were opened, and the faults of each.
     tallies: Tallies,
+    /// A disk was given out.
+    gave_disk: bool,
+    /// The file of such a disk was there at its opening, or at its closing.
+    found_disk: bool,
 }
 
 impl<'a, R: Files> Model for FolderShelf<'a, R> {
@@ -42,7 +47,15 @@ impl<'a, R: Files> FolderShelf<'a, R> {
         FolderShelf {
             rt,
             tallies: Tallies::new(alloc),
+            gave_disk: false,
+            found_disk: false,
         }
+    }
+
+    /// Whether disks were given out, and the file of none of them was there, neither at its opening nor, as a claim leaves it, at its
+    /// closing.
+    pub fn found_no_disk(&self) -> bool {
+        self.gave_disk && !self.found_disk
     }
 }
 
@@ -68,7 +81,7 @@ where
         ensures memory { result ≡ Err why.NoMemory → self.new ≡ self.old }
         ensures opening { IsOpening result name.now (counted_state None self.old) (counted_state None self.new) }
     {
-        let Ok(own) = String::from_str(alloc, name) else {
+        let Ok(own) = ArcStr::from_str(alloc, name) else {
             return Err(Refusal::NoMemory);
         };
         if let Err(_) = self.tallies.begin(alloc, name) {
@@ -97,14 +110,18 @@ where
         ensures memory { result ≡ Err why.NoMemory → self.new ≡ self.old }
         ensures opening { IsOpening result name.now (counted_state None self.old) (counted_state None self.new) }
     {
-        let Ok(own) = String::from_str(alloc, name) else {
+        let Ok(own) = ArcStr::from_str(alloc, name) else {
             return Err(Refusal::NoMemory);
         };
         if let Err(_) = self.tallies.begin(alloc, name) {
             return Err(Refusal::NoMemory);
         }
         match find_file(self.rt, name) {
-            Ok(file) => Ok(FolderDisk::new(self.rt, own, file)),
+            Ok(file) => {
+                self.gave_disk = true;
+                self.found_disk = self.found_disk || file.is_some();
+                Ok(FolderDisk::new(self.rt, own, file))
+            }
             Err(error) => {
                 say(self.rt, name, Call::Open, &error);
                 self.tallies.raise(name, 1);
@@ -114,6 +131,7 @@ where
     }
 
     fn close_disk(&mut self, name: &str, disk: FolderDisk<'a, R>) {
+        self.found_disk = self.found_disk || disk.is_there();
         self.tallies.raise(name, disk.faults());
     }
 }

@@ -8,6 +8,7 @@ use crate::{Failed, Source};
 use std::io::Read;
 use std::marker::Model;
 use std::rt::Files;
+use std::sync::ArcStr;
 
 /// A file that is open for reading, seen as the file and the count of its faults.
 #[derive(Drop)]
@@ -30,7 +31,7 @@ impl<'a, R: Files> Model for FolderSource<'a, R> {
 
 impl<'a, R: Files> FolderSource<'a, R> {
     /// A source on an open file. It has not failed yet.
-    pub(crate) fn new(rt: &'a R, name: String, file: R::File) -> FolderSource<'a, R>
+    pub(crate) fn new(rt: &'a R, name: ArcStr, file: R::File) -> FolderSource<'a, R>
         ensures { result ≡ record { file = file; faults = 0 } }
     {
         FolderSource {
@@ -53,8 +54,19 @@ impl<'a, R: Files + Eprint> Source for FolderSource<'a, R> {
 
     ghost faults = { λ source. source.faults };
 
-    fn pull(&mut self, into: &mut [u8]) -> Result<usize, Failed> {
-        let outcome = self.file.read(into);
-        self.reporter.ended(self.rt, Call::Read, outcome)
+    fn pull(&mut self, into: &mut [u8]) -> Result<usize, Failed>
+        ensures within { IfOk result (λ count. count ≤ length into.new) }
+        // Of a file whose bytes are known.
+        ensures reads { ReadConsumes (R.File.remaining self.old.file) (R.File.remaining self.new.file) result into.new }
+        ensures faults { self.new.faults ≡ faults_after result self.old.faults }
+        ensures cause { HasCause self.old.faults self.new.faults result }
+    {
+        match self.file.read(into) {
+            Ok(count) => {
+                self.reporter.went_well();
+                Ok(count)
+            }
+            Err(error) => Err(self.reporter.failed(self.rt, Call::Read, &error)),
+        }
     }
 }

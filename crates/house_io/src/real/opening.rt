@@ -21,9 +21,9 @@ pub(crate) fn find_file<R: Files>(files: &R, name: &str) -> io::Result<Option<R:
     }
 }
 
-/// Opens the file of a name for writing, which is made where it is absent, and locks it. The file and its folder are synced before the
-/// file is handed out, also one that was found: an earlier claim may have made it and failed, or the process may have died, before
-/// its folder was synced.
+/// Opens the file of a name for writing, which is made where it is absent, and locks it. The file, its folder, and the folder that names
+/// this one are synced before the file is handed out, also where it was found: an earlier claim may have made it and failed, or the
+/// process may have died, before they were synced, and the folder itself may be new.
 pub(crate) fn claim_file<R: Files>(files: &R, name: &str) -> io::Result<R::File>
 where
     R::File: LockFile,
@@ -34,8 +34,17 @@ where
     file.lock_now()?;
     // The file, and then the folder that names it.
     file.sync_all()?;
-    File::open(files, folder_of(name))?.sync_all()?;
+    let folder = folder_of(name);
+    File::open(files, folder)?.sync_all()?;
+    if has_parent(folder) {
+        File::open(files, folder_of(folder))?.sync_all()?;
+    }
     Ok(file)
+}
+
+/// Whether a folder is named in another one: neither the working directory nor the root is.
+fn has_parent(folder: &str) -> bool {
+    folder != "." && folder != "/"
 }
 
 /// The folder in which a file of this name stands.

@@ -1,12 +1,14 @@
-//! Faults of the files in a folder: each is counted, and said on standard error.
+//! Faults of the files in a folder, and of connections: each is counted, and said on standard error.
 ghost use Rattle.std.specs.Prelude.{◌≡◌, ℕ, Ok, IfOk};
 ghost use Rattle.house_io.specs.Faults.{faults_after, raised_by};
 
 use crate::Failed;
+use std::alloc::AllocError;
 use std::io;
 use std::marker::Model;
+use std::sync::ArcStr;
 
-/// A call on a file, as it is said where it fails.
+/// A call on a file or on the net, as it is said where it fails.
 #[derive(Clone, Copy, Debug, PartialEq, Eq)]
 pub(crate) enum Call {
     Open,
@@ -15,6 +17,9 @@ pub(crate) enum Call {
     Claim,
     Write,
     Sync,
+    Bind,
+    Connect,
+    Accept,
 }
 
 impl Call {
@@ -26,6 +31,9 @@ impl Call {
             Call::Claim => "claim",
             Call::Write => "write",
             Call::Sync => "sync",
+            Call::Bind => "bind",
+            Call::Connect => "connect",
+            Call::Accept => "accept",
         }
     }
 }
@@ -36,11 +44,16 @@ pub(crate) fn say<R: Eprint>(rt: &R, name: &str, call: Call, error: &io::Error) 
     let _unsaid = eprintln!(rt; "{name}: {word}: {error}");
 }
 
-/// Counts the faults of a file that was opened, and says them, seen as their count.
+/// Says on standard error that doors are open at an address.
+pub(crate) fn say_open<R: Eprint>(rt: &R, address: &str) {
+    let _unsaid = eprintln!(rt; "{address}: doors are open");
+}
+
+/// Counts the faults of a file that was opened, or of a connection or a door, and says them, seen as their count.
 #[derive(Drop)]
 pub(crate) struct Reporter {
-    /// The name by which the file was opened.
-    name: String,
+    /// The name by which the file was opened, or the address as it was asked for. A door and its links share it.
+    name: ArcStr,
     /// How often a call on it has failed, up to the last value of 64 bits.
     faults: u64,
     /// What was said last, where no call has gone well since: the call, and the system's number of its cause.
@@ -54,8 +67,8 @@ impl Model for Reporter {
 }
 
 impl Reporter {
-    /// One for the file of this name, on which no call has failed yet.
-    pub(crate) fn new(name: String) -> Reporter
+    /// One for what has this name, on which no call has failed yet.
+    pub(crate) fn new(name: ArcStr) -> Reporter
         ensures { result ≡ 0 }
     {
         Reporter {
@@ -65,6 +78,13 @@ impl Reporter {
         }
     }
 
+    /// Another for what has the same name, on which no call has failed yet. It takes no memory.
+    pub(crate) fn anew(&self) -> Result<Reporter, AllocError>
+        ensures { IfOk result (λ reporter. reporter ≡ 0) }
+    {
+        Ok(Reporter::new(self.name.clone()?))
+    }
+
     /// How often a call has failed.
     pub(crate) fn faults(&self) -> u64
         ensures { result ≡ self.now }
@@ -72,9 +92,9 @@ impl Reporter {
         self.faults
     }
 
-    /// The name by which the file was opened.
+    /// The name by which the file was opened, or the address.
     pub(crate) fn name(&self) -> &str {
-        &self.name
+        self.name.as_str()
     }
 
     /// A call went well: the next fault is said, whatever it is.
@@ -85,15 +105,16 @@ impl Reporter {
     }
 
     /// Counts a call that failed, and says it, unless it said the same last.
-    pub(crate) fn failed<R: Eprint>(&mut self, rt: &R, call: Call, error: &io::Error)
+    pub(crate) fn failed<R: Eprint>(&mut self, rt: &R, call: Call, error: &io::Error) -> Failed
         ensures { self.new ≡ raised_by self.old 1 }
     {
         let cause = Some((call, error.raw_os_error()));
         if self.said != cause {
-            say(rt, &self.name, call, error);
+            say(rt, self.name.as_str(), call, error);
         }
         self.said = cause;
         self.faults = self.faults.saturating_add(1);
+        Failed
     }
 
     /// The same of a call that has ended, well or not.
@@ -111,10 +132,7 @@ impl Reporter {
                 self.went_well();
                 Ok(value)
             }
-            Err(error) => {
-                self.failed(rt, call, &error);
-                Err(Failed)
-            }
+            Err(error) => Err(self.failed(rt, call, &error)),
         }
     }
 }

@@ -1,4 +1,4 @@
-//! Links, doors and a net over TCP. They count their faults, and tell no content.
+//! Links, doors and a net over TCP. They count their faults, say them on standard error, and tell no content.
 ghost use Rattle.std.specs.Prelude.{◌≡◌, ◌≤◌, ◌+◌, [], ℕ, List, None, length, vec_capacity, IfOk, OnOk};
 ghost use Rattle.std.specs.List.{AllByRecursion};
 ghost use Rattle.std.specs.Io.KnownBytes.{ReadConsumes, WriteAppends};
@@ -8,51 +8,61 @@ ghost use Rattle.house_io.specs.Nets.{HasNetCause};
 ghost use Rattle.house_io.specs.LinkForms.{net_faults_after};
 
 use crate::real::closing::close;
+use crate::real::reporting::{Call, Reporter, say, say_open};
 use crate::{Door, Failed, Link, Net, Refusal};
 use std::alloc::Global;
 use std::io::{self, ErrorKind, Read, Write};
 use std::marker::Model;
 use std::net::{OpenListener, OpenStream, TcpListener, TcpStream};
+use std::sync::ArcStr;
 
 /// A connection, seen as the stream and the count of its faults. A pull reads once, and a push writes once.
 #[derive(Drop)]
-pub struct TcpLink<S> {
+pub struct TcpLink<'a, R, S> {
+    /// The runtime by which a fault is said.
+    rt: &'a R,
     /// The connection. Its small pieces are sent at once where the system allows it.
     stream: S,
-    /// How often it has failed, up to the last value of 64 bits.
-    faults: u64,
+    /// Counts its faults, and says them.
+    reporter: Reporter,
 }
 
-impl<S> Model for TcpLink<S> {
+impl<'a, R, S> Model for TcpLink<'a, R, S> {
     ghost use Rattle.house_io.specs.Opened.{OpenedStream};
 
     ghost Value = { OpenedStream S };
 
-    ghost view = { λ link. record { stream = link.stream; faults = link.faults } };
+    ghost view = { λ link. record { stream = link.stream; faults = link.reporter } };
 }
 
-impl<S: OpenStream> TcpLink<S> {
+impl<'a, R, S: OpenStream> TcpLink<'a, R, S> {
     /// A link over a connection, whose small pieces are sent at once where the system allows it. It has not failed yet.
-    pub fn new(stream: S) -> TcpLink<S>
-        ensures { result ≡ record { stream = stream; faults = 0 } }
+    fn new(rt: &'a R, reporter: Reporter, stream: S) -> TcpLink<'a, R, S>
+        ensures { result ≡ record { stream = stream; faults = reporter } }
     {
         // Else a reply would wait for the one before it to be acknowledged. A refusal makes it slower, and nothing else.
         let _ = stream.set_nodelay(true);
-        TcpLink { stream, faults: 0 }
+        TcpLink {
+            rt,
+            stream,
+            reporter,
+        }
     }
 }
 
-impl<S> TcpLink<S> {
-    /// Counts a call that failed.
-    fn fail(&mut self) -> Failed
-        ensures { self.new ≡ record self.old { faults = raised_by self.old.faults 1 } }
-    {
-        self.faults = self.faults.saturating_add(1);
-        Failed
+/// Writes once. Where nothing is taken of a piece that is not empty, the write has failed.
+fn write_part<S: Write>(stream: &mut S, from: &[u8]) -> io::Result<usize>
+    ensures part { IfOk result (λ count. IsPart count from.now) }
+    // On a stream whose bytes are known.
+    ensures writes { WriteAppends (S.contents stream.old) (S.contents stream.new) result from.now }
+{
+    match stream.write(from) {
+        Ok(0) if !from.is_empty() => Err(ErrorKind::WriteZero.into()),
+        outcome => outcome,
     }
 }
 
-impl<S: Read + Write> Link for TcpLink<S> {
+impl<'a, R: Eprint, S: Read + Write> Link for TcpLink<'a, R, S> {
     ghost told = { λ _. None };
 
     ghost faults = { λ link. link.faults };
@@ -62,10 +72,14 @@ impl<S: Read + Write> Link for TcpLink<S> {
         // Of a stream whose bytes are known.
         ensures reads { ReadConsumes (S.remaining self.old.stream) (S.remaining self.new.stream) result into.new }
         ensures faults { self.new.faults ≡ faults_after result self.old.faults }
+        ensures cause { HasCause self.old.faults self.new.faults result }
     {
         match self.stream.read(into) {
-            Ok(count) => Ok(count),
-            Err(_) => Err(self.fail()),
+            Ok(count) => {
+                self.reporter.went_well();
+                Ok(count)
+            }
+            Err(error) => Err(self.reporter.failed(self.rt, Call::Read, &error)),
         }
     }
 
@@ -74,39 +88,33 @@ impl<S: Read + Write> Link for TcpLink<S> {
         // On a stream whose bytes are known.
         ensures writes { WriteAppends (S.contents self.old.stream) (S.contents self.new.stream) result from.now }
         ensures faults { self.new.faults ≡ faults_after result self.old.faults }
+        ensures cause { HasCause self.old.faults self.new.faults result }
     {
-        match self.stream.write(from) {
-            Ok(count) if count > 0 || from.is_empty() => Ok(count),
-            _ => Err(self.fail()),
+        match write_part(&mut self.stream, from) {
+            Ok(count) => {
+                self.reporter.went_well();
+                Ok(count)
+            }
+            Err(error) => Err(self.reporter.failed(self.rt, Call::Write, &error)),
         }
     }
 }
 
 /// A door at which connections come in, seen as the count of its faults.
 #[derive(Drop)]
-pub struct TcpDoor<L> {
+pub struct TcpDoor<'a, R, L> {
+    /// The runtime by which a fault is said.
+    rt: &'a R,
     /// Where the connections come in. The doors of a net at one address have clones of one listener.
     listener: L,
-    /// How often it has failed, up to the last value of 64 bits.
-    faults: u64,
+    /// Counts its faults, and says them.
+    reporter: Reporter,
 }
 
-impl<L> Model for TcpDoor<L> {
+impl<'a, R, L> Model for TcpDoor<'a, R, L> {
     ghost Value = { ℕ };
 
-    ghost view = { λ door. door.faults };
-}
-
-impl<L> TcpDoor<L> {
-    /// A door on a listener. It has not failed yet.
-    pub fn new(listener: L) -> TcpDoor<L>
-        ensures { result ≡ 0 }
-    {
-        TcpDoor {
-            listener,
-            faults: 0,
-        }
-    }
+    ghost view = { λ door. door.reporter };
 }
 
 /// The next connection. One that was given up before it was accepted is passed over.
@@ -122,42 +130,65 @@ fn next_stream<L: OpenListener>(listener: &L) -> io::Result<L::Stream> {
     Err(last)
 }
 
-impl<L: OpenListener> Door for TcpDoor<L>
+/// A link over the next connection, which says its faults under the door's name.
+fn next_link<'a, R, L: OpenListener>(
+    rt: &'a R,
+    listener: &L,
+    door: &Reporter,
+) -> io::Result<TcpLink<'a, R, L::Stream>>
+where
+    L::Stream: OpenStream,
+    ensures { IfOk result (λ link. link.faults ≡ 0) }
+{
+    let stream = next_stream(listener)?;
+    match door.anew() {
+        Ok(reporter) => Ok(TcpLink::new(rt, reporter, stream)),
+        Err(_) => Err(ErrorKind::OutOfMemory.into()),
+    }
+}
+
+impl<'a, R: Eprint + Sync, L: OpenListener> Door for TcpDoor<'a, R, L>
 where
     L::Stream: Read + Write + OpenStream + Send,
 {
-    type Link = TcpLink<L::Stream>;
+    type Link = TcpLink<'a, R, L::Stream>;
 
     ghost told = { λ _. None };
 
     ghost faults = { λ door. door };
 
-    fn accept(&mut self) -> Result<TcpLink<L::Stream>, Failed>
+    fn accept(&mut self) -> Result<TcpLink<'a, R, L::Stream>, Failed>
         ensures fresh { IfOk result (λ link. link.faults ≡ 0) }
         ensures faults { self.new ≡ faults_after result self.old }
+        ensures cause { HasCause self.old self.new result }
     {
-        match next_stream(&self.listener) {
-            Ok(stream) => Ok(TcpLink::new(stream)),
-            Err(_) => {
-                self.faults = self.faults.saturating_add(1);
-                Err(Failed)
-            }
-        }
+        let outcome = next_link(self.rt, &self.listener, &self.reporter);
+        self.reporter.ended(self.rt, Call::Accept, outcome)
     }
 
-    fn hang_up(&mut self, link: TcpLink<L::Stream>) {
-        let TcpLink { stream, faults: _ } = link;
+    fn hang_up(&mut self, link: TcpLink<'a, R, L::Stream>) {
+        let TcpLink { stream, .. } = link;
         close(stream);
     }
+}
+
+/// What a net said last: the address, the call, and the system's number of its cause.
+#[derive(Drop)]
+struct Said {
+    address: ArcStr,
+    call: Call,
+    cause: Option<i32>,
 }
 
 /// The network, seen as the count of its faults and of those that were given back to it.
 #[derive(Drop)]
 pub struct TcpNet<'a, R: std::net::Net> {
-    /// The runtime by which addresses are listened at and dialled.
+    /// The runtime by which addresses are listened at and dialled, and a fault is said.
     rt: &'a R,
     /// How often it has failed, up to the last value of 64 bits.
     faults: u64,
+    /// What was said last of a call that failed, where none has gone well since.
+    said: Option<Said>,
 }
 
 impl<'a, R: std::net::Net> Model for TcpNet<'a, R> {
@@ -171,23 +202,48 @@ impl<'a, R: std::net::Net> TcpNet<'a, R> {
     pub fn new(rt: &'a R) -> TcpNet<'a, R>
         ensures { result ≡ 0 }
     {
-        TcpNet { rt, faults: 0 }
+        TcpNet {
+            rt,
+            faults: 0,
+            said: None,
+        }
     }
 
-    /// Counts a call that failed.
-    fn fail(&mut self) -> Refusal
+    /// Whether that was said last.
+    fn has_said(&self, address: &ArcStr, call: Call, cause: Option<i32>) -> bool {
+        match &self.said {
+            Some(said) => said.address == *address && said.call == call && said.cause == cause,
+            None => false,
+        }
+    }
+}
+
+impl<'a, R: std::net::Net + Eprint> TcpNet<'a, R> {
+    /// Counts a call that failed, and says it, unless it said the same last.
+    fn fail(&mut self, address: ArcStr, call: Call, error: &io::Error) -> Refusal
         ensures count { self.new ≡ raised_by self.old 1 }
         ensures refusal { result ≡ Refusal.Failed }
     {
+        let cause = error.raw_os_error();
+        if !self.has_said(&address, call, cause) {
+            say(self.rt, address.as_str(), call, error);
+        }
+        self.said = Some(Said {
+            address,
+            call,
+            cause,
+        });
         self.faults = self.faults.saturating_add(1);
         Refusal::Failed
     }
 }
 
-/// Puts so many doors on a listener into a list.
-fn fill_doors<L: OpenListener>(
+/// Puts so many doors on a listener into a list, with the reporter's name.
+fn fill_doors<'a, R, L: OpenListener>(
+    rt: &'a R,
     listener: &L,
-    doors: &mut Vec<TcpDoor<L>>,
+    reporter: &Reporter,
+    doors: &mut Vec<TcpDoor<'a, R, L>>,
     count: usize,
 ) -> io::Result<()>
     requires room { count ≤ vec_capacity doors.old }
@@ -196,20 +252,70 @@ fn fill_doors<L: OpenListener>(
     ensures fresh { AllByRecursion (λ (faults : ℕ). faults ≡ 0) doors.new.items }
 {
     for _turn in 0..count {
-        let listener = listener.try_clone()?;
-        doors.push_reserved(TcpDoor::new(listener));
+        doors.push_reserved(another_door(rt, listener, reporter)?);
     }
     Ok(())
 }
 
-impl<'a, R: std::net::Net> Net for TcpNet<'a, R>
+/// A door on a clone of the listener, with the reporter's name. It has not failed yet.
+fn another_door<'a, R, L: OpenListener>(
+    rt: &'a R,
+    listener: &L,
+    reporter: &Reporter,
+) -> io::Result<TcpDoor<'a, R, L>>
+    ensures { IfOk result (λ door. door ≡ 0) }
+{
+    let Ok(reporter) = reporter.anew() else {
+        return Err(ErrorKind::OutOfMemory.into());
+    };
+    Ok(TcpDoor {
+        rt,
+        listener: listener.try_clone()?,
+        reporter,
+    })
+}
+
+/// Listens at an address, and puts so many doors on it into a list.
+fn open_doors<'a, R: std::net::Net>(
+    rt: &'a R,
+    address: &ArcStr,
+    doors: &mut Vec<TcpDoor<'a, R, R::Listener>>,
+    count: usize,
+) -> io::Result<()>
+    requires room { count ≤ vec_capacity doors.old }
+    requires empty { doors.old.items ≡ [] }
+    ensures count { OnOk result (length doors.new.items ≡ count) }
+    ensures fresh { AllByRecursion (λ (faults : ℕ). faults ≡ 0) doors.new.items }
+{
+    let Ok(name) = address.clone() else {
+        return Err(ErrorKind::OutOfMemory.into());
+    };
+    let listener = TcpListener::bind(rt, address.as_str())?;
+    fill_doors(rt, &listener, &Reporter::new(name), doors, count)
+}
+
+/// A link over a new connection to an address, whose faults are said under its name.
+fn dialled<'a, R: std::net::Net>(
+    rt: &'a R,
+    address: &ArcStr,
+) -> io::Result<TcpLink<'a, R, R::Stream>>
+    ensures { IfOk result (λ link. link.faults ≡ 0) }
+{
+    let Ok(name) = address.clone() else {
+        return Err(ErrorKind::OutOfMemory.into());
+    };
+    let stream = TcpStream::connect(rt, address.as_str())?;
+    Ok(TcpLink::new(rt, Reporter::new(name), stream))
+}
+
+impl<'a, R: std::net::Net + Eprint + Sync> Net for TcpNet<'a, R>
 where
     R::Stream: Send,
     R::Listener: Send,
 {
-    type Link = TcpLink<R::Stream>;
+    type Link = TcpLink<'a, R, R::Stream>;
 
-    type Door = TcpDoor<R::Listener>;
+    type Door = TcpDoor<'a, R, R::Listener>;
 
     ghost told = { λ _. None };
 
@@ -220,7 +326,7 @@ where
         alloc: Global,
         address: &str,
         count: u32,
-    ) -> Result<Vec<TcpDoor<R::Listener>>, Refusal>
+    ) -> Result<Vec<TcpDoor<'a, R, R::Listener>>, Refusal>
         ensures count { IfOk result (λ doors. length doors.items ≡ count) }
         ensures fresh { IfOk result (λ doors. AllByRecursion (λ (faults : ℕ). faults ≡ 0) doors.items) }
         // They tell nothing.
@@ -232,32 +338,43 @@ where
             Ok(doors) => doors,
             Err(_) => return Err(Refusal::NoMemory),
         };
-        let listener = match TcpListener::bind(self.rt, address) {
-            Ok(listener) => listener,
-            Err(_) => return Err(self.fail()),
+        let name = match ArcStr::from_str(alloc, address) {
+            Ok(name) => name,
+            Err(_) => return Err(Refusal::NoMemory),
         };
-        match fill_doors(&listener, &mut doors, count as usize) {
-            Ok(()) => Ok(doors),
-            Err(_) => Err(self.fail()),
+        match open_doors(self.rt, &name, &mut doors, count as usize) {
+            Ok(()) => {
+                say_open(self.rt, address);
+                self.said = None;
+                Ok(doors)
+            }
+            Err(error) => Err(self.fail(name, Call::Bind, &error)),
         }
     }
 
-    fn close_door(&mut self, door: TcpDoor<R::Listener>) {
-        self.faults = self.faults.saturating_add(door.faults);
+    fn close_door(&mut self, door: TcpDoor<'a, R, R::Listener>) {
+        self.faults = self.faults.saturating_add(door.reporter.faults());
     }
 
-    fn dial(&mut self, _alloc: Global, address: &str) -> Result<TcpLink<R::Stream>, Refusal>
+    fn dial(&mut self, alloc: Global, address: &str) -> Result<TcpLink<'a, R, R::Stream>, Refusal>
         ensures fresh { IfOk result (λ link. link.faults ≡ 0) }
         ensures faults { self.new ≡ net_faults_after result self.old }
         ensures cause { HasNetCause self.old self.new result }
     {
-        match TcpStream::connect(self.rt, address) {
-            Ok(stream) => Ok(TcpLink::new(stream)),
-            Err(_) => Err(self.fail()),
+        let name = match ArcStr::from_str(alloc, address) {
+            Ok(name) => name,
+            Err(_) => return Err(Refusal::NoMemory),
+        };
+        match dialled(self.rt, &name) {
+            Ok(link) => {
+                self.said = None;
+                Ok(link)
+            }
+            Err(error) => Err(self.fail(name, Call::Connect, &error)),
         }
     }
 
-    fn hang_up(&mut self, link: TcpLink<R::Stream>) {
-        self.faults = self.faults.saturating_add(link.faults);
+    fn hang_up(&mut self, link: TcpLink<'a, R, R::Stream>) {
+        self.faults = self.faults.saturating_add(link.reporter.faults());
     }
 }

@@ -74,7 +74,7 @@ fn free_address<R: std::net::Net>(rt: &R, alloc: Global) -> Result<String, Fail>
 /// How these words end over TCP. There is nothing where there is no memory.
 fn run_over_tcp<T>(rt: &T, alloc: Global, words: &[&str], shelf: &mut SureShelf) -> Ran
 where
-    T: Threads + Wait + Sync + std::net::Net,
+    T: Threads + Wait + Sync + Eprint + std::net::Net,
     T::Stream: Send,
     T::Listener: Send,
 {
@@ -90,7 +90,7 @@ fn is_net_fault(ran: &Ran) -> bool {
 /// How the bid of a bidder ends, tried again until the doors are open.
 fn bid<T>(rt: &T, alloc: Global, bidder: &str, token: &str, address: &str) -> Ran
 where
-    T: Threads + Wait + Sync + Clock + std::net::Net,
+    T: Threads + Wait + Sync + Clock + Eprint + std::net::Net,
     T::Stream: Send,
     T::Listener: Send,
 {
@@ -125,7 +125,7 @@ struct Talk {
 /// Serves at two doors of an address while both bid there.
 fn serve_and_bid<T>(rt: &T, alloc: Global, address: &str, shelf: &mut SureShelf) -> Talk
 where
-    T: Threads + Wait + Sync + Clock + std::net::Net,
+    T: Threads + Wait + Sync + Clock + Eprint + std::net::Net,
     T::Stream: Send,
     T::Listener: Send,
 {
@@ -154,7 +154,7 @@ fn is_told(talk: &Talk) -> bool {
 /// Whether an auction over TCP goes as it should, how long the journal is, and whether it is settled.
 fn talked_and_settled<T>(rt: &T, alloc: Global, address: &str) -> Option<(bool, usize, bool)>
 where
-    T: Threads + Wait + Sync + Clock + std::net::Net,
+    T: Threads + Wait + Sync + Clock + Eprint + std::net::Net,
     T::Stream: Send,
     T::Listener: Send,
 {
@@ -253,7 +253,7 @@ struct Visits {
 /// How another house at an address ends.
 fn serve_at<T>(rt: &T, alloc: Global, address: &str) -> Ran
 where
-    T: Threads + Wait + Sync + std::net::Net,
+    T: Threads + Wait + Sync + Eprint + std::net::Net,
     T::Stream: Send,
     T::Listener: Send,
 {
@@ -264,7 +264,7 @@ where
 /// Whether the front of a hello is sent over TCP.
 fn is_cut_over_tcp<T>(rt: &T, alloc: Global, address: &str) -> bool
 where
-    T: Threads + Wait + Sync + Clock + std::net::Net,
+    T: Threads + Wait + Sync + Clock + Eprint + std::net::Net,
     T::Stream: Send,
     T::Listener: Send,
 {
@@ -275,7 +275,7 @@ where
 /// Whether a session over TCP goes well.
 fn is_served_over_tcp<T>(rt: &T, alloc: Global, address: &str) -> bool
 where
-    T: Threads + Wait + Sync + Clock + std::net::Net,
+    T: Threads + Wait + Sync + Clock + Eprint + std::net::Net,
     T::Stream: Send,
     T::Listener: Send,
 {
@@ -286,7 +286,7 @@ where
 /// Those who come to an address.
 fn visit<T>(rt: &T, alloc: Global, address: &str) -> (bool, Ran, bool)
 where
-    T: Threads + Wait + Sync + Clock + std::net::Net,
+    T: Threads + Wait + Sync + Clock + Eprint + std::net::Net,
     T::Stream: Send,
     T::Listener: Send,
 {
@@ -299,7 +299,7 @@ where
 /// Serves two sessions at one door of an address while they come there.
 fn serve_visits<T>(rt: &T, alloc: Global, address: &str, shelf: &mut SureShelf) -> Visits
 where
-    T: Threads + Wait + Sync + Clock + std::net::Net,
+    T: Threads + Wait + Sync + Clock + Eprint + std::net::Net,
     T::Stream: Send,
     T::Listener: Send,
 {
@@ -320,7 +320,7 @@ where
 /// Whether the cut was sent, how the other house and the house ended, and whether the last session went well.
 fn is_cut_alone<T>(rt: &T, alloc: Global, address: &str) -> Option<[bool; 4]>
 where
-    T: Threads + Wait + Sync + Clock + std::net::Net,
+    T: Threads + Wait + Sync + Clock + Eprint + std::net::Net,
     T::Stream: Send,
     T::Listener: Send,
 {

@@ -1,0 +1,156 @@
+//! What no clause says of a claim: which folders are synced for a name, and that a shelf tells whether it found a disk.
+use crate::calls::{
+    Asked, BROKEN, FOLDER, MADE, OPENED, Outcome, Question, failures, folder_of, found,
+};
+use crate::noted_folder::{Call, Place};
+use crate::notes::notes_of;
+use house_io::{FolderShelf, Refusal};
+use std::alloc::Global;
+
+/// The calls by which a claimed disk of a name is opened, where its file is to stand in this folder, and whether that goes well.
+fn claimed_in(
+    alloc: Global,
+    parent: &'static str,
+    folder: &'static str,
+    name: &'static str,
+    failing: &'static [usize],
+) -> Option<Outcome> {
+    found(
+        alloc,
+        &Question {
+            parent,
+            folder,
+            journal: name,
+            name,
+            stands: false,
+            asked: &[Asked::Claims],
+            failing,
+        },
+    )
+}
+
+/// The same: whether it goes well, and how many calls are made.
+fn is_claimed_in(
+    alloc: Global,
+    parent: &'static str,
+    folder: &'static str,
+    name: &'static str,
+) -> Option<(bool, usize)> {
+    match claimed_in(alloc, parent, folder, name, &[]) {
+        Some(found) => Some((found.outcome == Ok(0), found.calls.len())),
+        None => None,
+    }
+}
+
+/// The folder that is looked at and synced is the one in which the file stands, and the folder that names this one is synced as well.
+/// Where the file's folder is absent, nothing is opened.
+#[test]
+fn a_claim_syncs_the_folder_of_its_name(rt: HostRuntime) {
+    for (parent, folder, name, claimed) in [
+        ("no parent", ".", "journal", (true, 7)),
+        ("no parent", ".", " journal ", (true, 7)),
+        (
+            "no parent",
+            ".",
+            "the-journal-of-an-auction-of-forty-eight-letters",
+            (true, 7),
+        ),
+        (".", "kept", "kept/journal", (true, 9)),
+        (".", "kept ", "kept / journal", (true, 9)),
+        ("a", "a/b", "a/b/journal", (true, 9)),
+        ("/a", "/a/b", "/a/b/journal", (true, 9)),
+        ("/", "/a", "/a/journal", (true, 9)),
+        ("no parent", "/", "/journal", (true, 7)),
+        (".", "kept", "absent/journal", (false, 2)),
+    ] {
+        assert_eq!(rt;
+            is_claimed_in(rt.alloc(), parent, folder, name),
+            Some(claimed),
+            "{name} in {folder} in {parent}"
+        );
+    }
+}
+
+const KEPT: [Call; 9] = [
+    OPENED,
+    FOLDER,
+    MADE,
+    Call::Lock,
+    Call::SyncAll(Place::Journal),
+    FOLDER,
+    Call::SyncAll(Place::Folder),
+    Call::Open(Place::Parent, true, false, false),
+    Call::SyncAll(Place::Parent),
+];
+
+/// Whether a journal in a folder of the working directory is claimed by the first so many of these calls, and how often that fails.
+fn is_kept_by(
+    alloc: Global,
+    count: usize,
+    failing: &'static [usize],
+) -> Option<(bool, Result<u64, Refusal>)> {
+    match claimed_in(alloc, ".", "kept", "kept/journal", failing) {
+        Some(found) => Some((
+            Some(found.calls.as_slice()) == KEPT.get(..count),
+            found.outcome,
+        )),
+        None => None,
+    }
+}
+
+#[test]
+fn a_claim_fails_where_a_folder_is_not_synced(rt: HostRuntime) {
+    let failing: [(usize, &'static [usize], u64); 5] = [
+        (9, &[], 0),
+        (6, &[5], 1),
+        (7, &[6], 1),
+        (8, &[7], 1),
+        (9, &[8], 1),
+    ];
+    for (count, failing, failed) in failing {
+        assert_eq!(rt;
+            is_kept_by(rt.alloc(), count, failing),
+            Some((true, Ok(failed))),
+            "{count}"
+        );
+    }
+}
+
+/// A look at a journal in the working directory, or a claim of it.
+fn question_of(stands: bool, asked: &'static [Asked]) -> Question {
+    Question {
+        parent: "/",
+        folder: ".",
+        journal: "journal",
+        name: "journal",
+        stands,
+        asked,
+        failing: &[],
+    }
+}
+
+/// Whether a shelf has found no disk, before anything is asked of it and behind that.
+fn finds_no_disk(alloc: Global, stands: bool, asked: &'static [Asked]) -> Option<(bool, bool)> {
+    let question = question_of(stands, asked);
+    let folder = folder_of(alloc, &question, notes_of(alloc, &[], BROKEN)?)?;
+    let mut shelf = FolderShelf::new(alloc, &folder);
+    let before = shelf.found_no_disk();
+    let _outcome = failures(alloc, &mut shelf, question.name, asked, &mut []);
+    Some((before, shelf.found_no_disk()))
+}
+
+#[test]
+fn a_shelf_tells_that_it_found_no_disk(rt: HostRuntime) {
+    assert_eq!(rt;
+        finds_no_disk(rt.alloc(), false, &[Asked::Size]),
+        Some((false, true))
+    );
+    assert_eq!(rt;
+        finds_no_disk(rt.alloc(), true, &[Asked::Size]),
+        Some((false, false))
+    );
+    assert_eq!(rt;
+        finds_no_disk(rt.alloc(), false, &[Asked::Claims]),
+        Some((false, false))
+    );
+}
