@@ -119,6 +119,9 @@ module _ {D : Type 0} (shown : D → DiskShown) (terms : Terms) (digest : List �
                     let of = (are.each k x l less).opens.origin in
                     ((get_or laid k l).desk.book.origin, (fresh-at x i k p q l low less).origin_is, (λ j. owner_of (of.terms_are j) (of.clock_is j) (of.digest_is j)));
               };
+              origin = λ k d q below.
+                  let less : k < length laid = omega (arith, below, wide) in
+                  (fresh-at x i k p q l low less).origin_is ∙ ap (λ (z : Opened (BookOf D)). Some z.book.origin) (sym (desk-at k d l less));
               seen = λ k d q below.
                   let less : k < length laid = omega (arith, below, wide) in
                   (fresh-at x i k p q l low less).seen ∙ ap (λ (z : Opened (BookOf D)). z.book.state.history) (sym (desk-at k d l less));

@@ -56,9 +56,10 @@ pub record AreAllOf {B : Type 0} (desks : List (Opened B)) (passes : List HouseP
   pub columns : (k : ℕ) (d : Opened B) → k < length desks → AreAll (slice_index_or desks k d).id (column k passes)
   pub room : room_in passes ≡ length passes
 
--- a new pass of a house: it has seen the histories of the desks' books at the opening, and has made nothing
+-- a new pass of a house: it is of the desks' books, has seen their histories at the opening, and has made nothing
 pub record IsNewPass {D : Type 0} (house : HouseOf D) (p : HousePassOf) : Type 0 where
   pub of_house : AreOf house.terms house.digest house.desks p.passes
+  pub origin : (k : ℕ) (d : Opened (BookOf D)) (q : Known Entry Origin) → k < length house.desks → (slice_index_or p.passes k q).origin ≡ Some (slice_index_or house.desks k d).book.origin
   pub seen : (k : ℕ) (d : Opened (BookOf D)) (q : Known Entry Origin) → k < length house.desks → (slice_index_or p.passes k q).seen ≡ (slice_index_or house.desks k d).book.state.history
   pub own : (k : ℕ) (q : Known Entry Origin) → k < length p.passes → (slice_index_or p.passes k q).own ≡ []
 

@@ -7,6 +7,7 @@ pub mod Links
 pub mod Doors
 pub mod Shelves
 pub mod Nets
+pub mod NetsShown
 pub mod Counts
 pub mod Tallies
 pub mod SureForms

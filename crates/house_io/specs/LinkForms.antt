@@ -1,5 +1,6 @@
 -- Links, doors and nets in memory.
-use Rattle.std.specs.Prelude.{◌≡◌, ◌≤◌, ◌<◌, ◌-◌, ◌+◌, ◌⊎◌, ℕ, List, [], ◌∷◌, ◌++◌, length, map, take, drop, max, Option, option_map, Result, Ok, Err}
+use Rattle.std.specs.Prelude.{◌≡◌, ◌≤◌, ◌<◌, ◌-◌, ◌+◌, ◌⊎◌, ℕ, List, [], ◌∷◌, ◌++◌, length, map, take, drop, max, Option, option_map, Result, Ok, Err, Vec}
+use Rattle.std.specs.declared.alloc.Global.{Global}
 use Rattle.house_io.specs.declared.shelves.Refusal.{Refusal}
 use Rattle.house_io.specs.declared.shelves.Refusal.TheVariants as why
 use Rattle.house_io.specs.Faults.{raised_by}
@@ -72,7 +73,7 @@ ready_door door = record door { links = with_places door.links; faults = 0 }
 
 -- a net with these doors and links to come, to which nothing was given back
 abbrev pub fresh_net : {D L : Type 0} → List D → List L → NetLists D L
-fresh_net doors links = record { doors = doors; links = links; closed = []; hung_up = []; door_places = 0; link_places = 0 }
+fresh_net doors links = record { doors = doors; links = links; closed = []; hung_up = []; door_places = 0; link_places = 0; asked = []; dialled = [] }
 
 -- a net on which chosen calls fail: its lists, the plan, and the count of its faults
 pub record ListedNet : Type 0 where
@@ -85,15 +86,27 @@ abbrev pub fresh_list_net : List ListedDoor → List ListedLink → List ℕ →
 fresh_list_net doors links failing =
     record { lists = fresh_net (map ready_door doors) (map unfailed_link links); plan = begun failing; faults = 0 }
 
--- the doors are the first so many of those to come; there is a place for each, and nothing else changes
-pub record AreFirstDoors (count : ℕ) (given : List ListedDoor) (before after : NetLists ListedDoor ListedLink) : Type 0 where
+-- the doors are the first so many of those to come; there is a place for each, the address is noted, and nothing else changes
+pub record AreFirstDoors (address : List ℕ) (count : ℕ) (given : List ListedDoor) (before after : NetLists ListedDoor ListedLink) : Type 0 where
   pub first : given ≡ take count before.doors
-  pub rest : after ≡ record before { doors = drop count before.doors; door_places = before.door_places + count }
+  pub rest : after ≡ record before { doors = drop count before.doors; door_places = before.door_places + count; asked = before.asked ++ address ∷ [] }
 
--- the link is the first of those to come; there is a place for it, and nothing else changes
-pub record IsFirstDialled (link : ListedLink) (before after : NetLists ListedDoor ListedLink) : Type 0 where
+-- the link is the first of those to come; there is a place for it, the address is noted, and nothing else changes
+pub record IsFirstDialled (address : List ℕ) (link : ListedLink) (before after : NetLists ListedDoor ListedLink) : Type 0 where
   pub first : before.links ≡ link ∷ after.links
-  pub rest : after ≡ record before { links = after.links; link_places = before.link_places + 1 }
+  pub rest : after ≡ record before { links = after.links; link_places = before.link_places + 1; dialled = before.dialled ++ address ∷ [] }
+
+-- what asking for doors does, by its answer: one that memory ran out for asked no address
+abbrev pub ListsDoors : List ℕ → ℕ → Result (Vec ListedDoor Global) Refusal → NetLists ListedDoor ListedLink → NetLists ListedDoor ListedLink → Type 0
+ListsDoors address count (Ok doors) before after = AreFirstDoors address count doors.items before after
+ListsDoors address count (Err why.Failed) before after = after ≡ record before { asked = before.asked ++ address ∷ [] }
+ListsDoors address count (Err why.NoMemory) before after = after ≡ before
+
+-- what dialling does, in the same way
+abbrev pub ListsLink : List ℕ → Result ListedLink Refusal → NetLists ListedDoor ListedLink → NetLists ListedDoor ListedLink → Type 0
+ListsLink address (Ok link) before after = IsFirstDialled address link before after
+ListsLink address (Err why.Failed) before after = after ≡ record before { dialled = before.dialled ++ address ∷ [] }
+ListsLink address (Err why.NoMemory) before after = after ≡ before
 
 -- the door has a place for each of its links to come, and its count is at 0
 abbrev pub IsReady : ListedDoor → Type 0

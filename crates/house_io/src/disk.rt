@@ -52,11 +52,13 @@ pub trait Disk {
 
     /// After it the only image is what a read gives.
     fn sync(&mut self) -> Result<(), Failed>
-        ensures synced { OnOk result (IsTrue (is_told (shown self.new)) → told_moments (shown self.new) ≡ synced_at (told_moments (shown self.old))) }
+        ensures synced { OnOk result (IsTrue (is_told (shown self.new))
+            → told_moments (shown self.new) ≡ synced_at (told_moments (shown self.old))) }
         ensures failed { OnErr result (IsTrue (is_told (shown self.new)) → told_moments (shown self.new) ≡ told_moments (shown self.old)) }
         ensures later { IsLater (shown self.old) (shown self.new) }
         ensures cause { HasCause (shown self.old).faults (shown self.new).faults result };
 
     /// What a read gives is one of the images.
-    ghost reads_an_image: { (disk : Self) → IsTrue (is_told (shown disk)) → IsImage (told_moments (shown disk)).now (told_moments (shown disk)).now.read };
+    ghost reads_an_image: { (disk : Self) → IsTrue (is_told (shown disk))
+        → IsImage (told_moments (shown disk)).now (told_moments (shown disk)).now.read };
 }

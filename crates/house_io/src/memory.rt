@@ -1,5 +1,6 @@
 //! The forms in memory, which stand in for the outside in tests and in proofs: `Sure..` never fail, and of `List..` chosen
 //! calls fail.
+mod addresses;
 mod failing;
 pub mod list;
 pub mod list_disk;

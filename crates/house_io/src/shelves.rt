@@ -59,7 +59,8 @@ pub trait Shelf {
     fn close_disk(&mut self, name: &str, disk: Self::Disk)
         requires { Contains (opened self.old) name.now }
         ensures counts { Adds name.now (Self.Disk.Disk.shown disk).faults (faults self.old) (faults self.new) }
-        ensures left { IfTells (files self.new) (λ after. IfWasTold (files self.old) (λ before. IsLeftBy name.now (Self.Disk.Disk.shown disk) before after)) }
+        ensures left { IfTells (files self.new)
+            (λ after. IfWasTold (files self.old) (λ before. IsLeftBy name.now (Self.Disk.Disk.shown disk) before after)) }
         ensures others { ChangesOnly name.now (files self.old) (files self.new) }
         ensures names { opened self.new ≡ opened self.old };
 }

@@ -48,6 +48,8 @@ none-taken lists few = λ i. record {
   hung_up = lists.hung_up;
   door_places = (let e : lists.door_places ≡ lists.door_places - 0 = omega arith in e) i;
   link_places = lists.link_places;
+  asked = lists.asked;
+  dialled = lists.dialled;
 }
 
 one-taken : {D L : Type 0} (front : List D) (door : D) (a b c : NetLists D L) → TakesAll front a b → TakesDoor door b c → TakesAll (front ++ door ∷ []) a c
@@ -57,7 +59,7 @@ one-taken front door a b c first takes few =
     let places : b.door_places ≡ a.door_places - length front = ap (λ l. l.door_places) e in
     let closed : c.closed ≡ a.closed ++ (front ++ door ∷ []) = takes.placed (omega arith) ∙ ap (λ l. l.closed ++ door ∷ []) e ∙ append_assoc a.closed front (door ∷ []) in
     let left : b.door_places - 1 ≡ a.door_places - length (front ++ door ∷ []) = omega arith in
-    takes.rest ∙ (λ i. record { doors = (e i).doors; links = (e i).links; closed = closed i; hung_up = (e i).hung_up; door_places = left i; link_places = (e i).link_places })
+    takes.rest ∙ (λ i. record { doors = (e i).doors; links = (e i).links; closed = closed i; hung_up = (e i).hung_up; door_places = left i; link_places = (e i).link_places; asked = (e i).asked; dialled = (e i).dialled })
 
 -- before a door is given back
 pub record DoorsBack {D L : Type 0} (faults : D → ℕ) (doors rest : List D) (told_before told : Option (NetLists D L)) (counted_before counted : ℕ) : Type 0 where

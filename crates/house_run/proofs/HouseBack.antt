@@ -9,7 +9,7 @@ use Rattle.house_io.specs.Doors.{DoorLinks}
 use Rattle.house_io.specs.Faults.{Rose, raised_by}
 use Rattle.house_io.specs.Links.{LinkBytes}
 use Rattle.house_io.specs.Moments.{Moments}
-use Rattle.house_io.specs.Nets.{GivesDoors, NetLists}
+use Rattle.house_io.specs.Nets.{AsksDoors, GivesDoors, NetLists}
 use Rattle.house_io.specs.Shelves.{IsRefused}
 use Rattle.house_io.specs.Told.{IfTold}
 use Rattle.house_io.specs.declared.shelves.Refusal.{Refusal}
@@ -69,8 +69,8 @@ none-added f xs before now none is = is ∙ raised-none before (map f xs) (all-z
 
 -- the doors were given, and then given back
 module _ {R L M : Type 0} (told : R → Option (DoorLinks M)) where
-  both : (count : ℕ) (given back : List R) (a b c : NetLists R L) → length back ≡ count → GivesDoors told count given a b → TakesAll back b c → DoorsServed told count given back a c
-  both count given back a b c long gives takes =
+  both : (address : List ℕ) (count : ℕ) (given back : List R) (a b c : NetLists R L) → length back ≡ count → GivesDoors told address count given a b → TakesAll back b c → DoorsServed told address count given back a c
+  both address count given back a b c long gives takes =
       let places : b.door_places ≡ a.door_places + count = ap (λ l. l.door_places) gives.rest in
       let e = takes (omega arith) in
       let left : b.door_places - length back ≡ a.door_places = omega arith in
@@ -78,24 +78,26 @@ module _ {R L M : Type 0} (told : R → Option (DoorLinks M)) where
         empty = gives.empty;
         given_are = gives.given_are;
         are_empty = gives.are_empty;
-        after_is = e ∙ (λ i. record { doors = (gives.rest i).doors; links = (gives.rest i).links; closed = (gives.rest i).closed ++ back; hung_up = (gives.rest i).hung_up; door_places = left i; link_places = (gives.rest i).link_places });
+        after_is = e ∙ (λ i. record { doors = (gives.rest i).doors; links = (gives.rest i).links; closed = (gives.rest i).closed ++ back; hung_up = (gives.rest i).hung_up; door_places = left i; link_places = (gives.rest i).link_places; asked = (gives.rest i).asked; dialled = (gives.rest i).dialled });
       }
 
-  pub doors-served : (count : ℕ) (given back : List R) (before between after : Option (NetLists R L)) → length back ≡ count → IfTold before between (GivesDoors told count given) → IfTold between after (TakesAll back)
-      → IfTold before after (DoorsServed told count given back)
-  doors-served count given back before between after long gives takes =
-      told-then (GivesDoors told count given) (TakesAll back) (DoorsServed told count given back) before between after (λ a b c g t. both count given back a b c long g t) gives takes
+  pub doors-served : (address : List ℕ) (count : ℕ) (given back : List R) (before between after : Option (NetLists R L)) → length back ≡ count → IfTold before between (GivesDoors told address count given) → IfTold between after (TakesAll back)
+      → IfTold before after (DoorsServed told address count given back)
+  doors-served address count given back before between after long gives takes =
+      told-then (GivesDoors told address count given) (TakesAll back) (DoorsServed told address count given back) before between after (λ a b c g t. both address count given back a b c long g t) gives takes
 
   -- the doors went back as they came
-  pub doors-back : (count : ℕ) (given : List R) (before between after : Option (NetLists R L)) → length given ≡ count → IfTold before between (GivesDoors told count given) → IfTold between after (TakesAll given)
-      → IfTold before after (LeavesNet told count)
-  doors-back count given before between after long gives takes =
-      told-then (GivesDoors told count given) (TakesAll given) (LeavesNet told count) before between after (λ a b c g t. inr (given, both count given given a b c long g t)) gives takes
+  pub doors-back : (address : List ℕ) (count : ℕ) (given : List R) (before between after : Option (NetLists R L)) → length given ≡ count → IfTold before between (GivesDoors told address count given) → IfTold between after (TakesAll given)
+      → IfTold before after (LeavesNet told address count)
+  doors-back address count given before between after long gives takes =
+      told-then (GivesDoors told address count given) (TakesAll given) (LeavesNet told address count) before between after (λ a b c g t. inr (inr (given, both address count given given a b c long g t))) gives takes
 
-  pub as-it-was : (count : ℕ) (before after : Option (NetLists R L)) → IfTold before after (λ a b. b ≡ a) → IfTold before after (LeavesNet told count)
-  as-it-was count before None same = tt
-  as-it-was count None (Some b) same = absurd same
-  as-it-was count (Some a) (Some b) same = inl same
+  -- the net refused doors, or memory ran out before it was asked
+  pub refused-doors : (why : Refusal) (address : List ℕ) (count : ℕ) (before after : Option (NetLists R L)) → IfTold before after (AsksDoors told address count (Err why)) → IfTold before after (LeavesNet told address count)
+  refused-doors why address count before None asks = tt
+  refused-doors why address count None (Some b) asks = absurd asks
+  refused-doors refusal.Failed address count (Some a) (Some b) asks = inr (inl asks)
+  refused-doors refusal.NoMemory address count (Some a) (Some b) asks = inl asks
 
 module _ {R M : Type 0} (told : R → Option (DoorLinks M)) (faults : R → ℕ) (link_told : M → Option LinkBytes) (link_faults : M → ℕ) (auction : Auction) (sessions : ℕ) where
   runs-failed : (runs : List (DoorRun R M)) → AllByRecursion (λ (log : DoorLog R). log.failed ≡ false) (map (λ (r : DoorRun R M). r.log) runs) → AllByRecursion (λ (r : DoorRun R M). r.log.failed ≡ false) runs
@@ -153,27 +155,27 @@ module _ {R M : Type 0} (told : R → Option (DoorLinks M)) (faults : R → ℕ)
   }
 
 module _ {D R L M : Type 0} (shown : D → DiskShown) (told : R → Option (DoorLinks M)) (faults : R → ℕ) (link_told : M → Option LinkBytes) (link_faults : M → ℕ) (auction : Auction) (sessions : ℕ) where
-  as-outcome : (answer : Result Hosted Ended) (count : ℕ) (desks : List (Opened (BookOf D))) (passes : List HousePassOf) (disks : List D) (before after : Option (NetLists R L)) (counted counted_after : ℕ)
-      → HouseServed {L = L} shown told faults link_told link_faults auction count sessions desks passes disks answer before after counted counted_after
-      → HouseOutcome {L = L} shown told faults link_told link_faults auction count sessions desks passes answer disks before after counted counted_after
-  as-outcome (Ok hosted) count desks passes disks before after counted counted_after served = served
-  as-outcome (Err end) count desks passes disks before after counted counted_after served = inl served
+  as-outcome : (answer : Result Hosted Ended) (address : List ℕ) (count : ℕ) (desks : List (Opened (BookOf D))) (passes : List HousePassOf) (disks : List D) (before after : Option (NetLists R L)) (counted counted_after : ℕ)
+      → HouseServed {L = L} shown told faults link_told link_faults auction address count sessions desks passes disks answer before after counted counted_after
+      → HouseOutcome {L = L} shown told faults link_told link_faults auction address count sessions desks passes answer disks before after counted counted_after
+  as-outcome (Ok hosted) address count desks passes disks before after counted counted_after served = served
+  as-outcome (Err end) address count desks passes disks before after counted counted_after served = inl served
 
   -- a house was served: its doors are back at the net, and its books were taken apart
-  pub served-outcome : (answer : Result Hosted Ended) (house : HouseOf D) (passes : List HousePassOf) (doors : List R) (books : List (BookOf D)) (logs : List (DoorLog R)) (disks : List D) (before between after : Option (NetLists R L)) (counted counted_after : ℕ)
-      → IsServed told faults link_told link_faults auction sessions house passes doors books logs → AllByRecursion (λ door. faults door ≡ 0) doors → IfTold before between (GivesDoors told (length doors) doors)
+  pub served-outcome : (answer : Result Hosted Ended) (address : List ℕ) (house : HouseOf D) (passes : List HousePassOf) (doors : List R) (books : List (BookOf D)) (logs : List (DoorLog R)) (disks : List D) (before between after : Option (NetLists R L)) (counted counted_after : ℕ)
+      → IsServed told faults link_told link_faults auction sessions house passes doors books logs → AllByRecursion (λ door. faults door ≡ 0) doors → IfTold before between (GivesDoors told address (length doors) doors)
       → disks ≡ map (λ (b : BookOf D). b.disk) books → AllByRecursion (λ (b : BookOf D). IsKept shown b) books
       → IfTold between after (TakesAll (map (λ (log : DoorLog R). log.door) logs)) → counted_after ≡ raised_by_all counted (map (λ (log : DoorLog R). faults log.door) logs) → LogsOutcome books logs answer
-      → HouseOutcome {L = L} shown told faults link_told link_faults auction (length doors) sessions house.desks passes answer disks before after counted counted_after
-  served-outcome answer house passes doors books logs disks before between after counted counted_after served fresh gives are kept takes raised outcome =
+      → HouseOutcome {L = L} shown told faults link_told link_faults auction address (length doors) sessions house.desks passes answer disks before after counted counted_after
+  served-outcome answer address house passes doors books logs disks before between after counted counted_after served fresh gives are kept takes raised outcome =
       let runs = served.runs in
       let first = subst (AllByRecursion (λ door. faults door ≡ 0)) served.doors_are fresh in
       let back : map (λ (l : DoorLog R). l.door) logs ≡ map (λ (r : DoorRun R M). r.log.door) runs = ap (map (λ (l : DoorLog R). l.door)) served.logs_are ∙ map-map (λ (l : DoorLog R). l.door) (λ (r : DoorRun R M). r.log) runs in
       let long : length runs ≡ length doors = sym (ap length served.doors_are ∙ length-map runs (λ (r : DoorRun R M). r.door)) in
-      let G : List R → Type 0 = λ ds. IfTold before between (GivesDoors told (length doors) ds) in
+      let G : List R → Type 0 = λ ds. IfTold before between (GivesDoors told address (length doors) ds) in
       let T : List R → Type 0 = λ ds. IfTold between after (TakesAll ds) in
       let O : List (DoorLog R) → Type 0 = λ ls. LogsOutcome books ls answer in
-      as-outcome answer (length doors) house.desks passes disks before after counted counted_after (record {
+      as-outcome answer address (length doors) house.desks passes disks before after counted counted_after (record {
         books = books;
         back = books-back shown house.desks (map (λ (r : DoorRun R M). r.after) runs) books disks served.closed are kept;
         runs = runs;
@@ -181,7 +183,7 @@ module _ {D R L M : Type 0} (shown : D → DiskShown) (told : R → Option (Door
         ran = record {
           count_is = long;
           each = served.each;
-          lists = doors-served told (length doors) (map (λ (r : DoorRun R M). r.door) runs) (map (λ (r : DoorRun R M). r.log.door) runs) before between after (length-map runs (λ (r : DoorRun R M). r.log.door) ∙ long) (subst G served.doors_are gives) (subst T back takes);
+          lists = doors-served told address (length doors) (map (λ (r : DoorRun R M). r.door) runs) (map (λ (r : DoorRun R M). r.log.door) runs) before between after (length-map runs (λ (r : DoorRun R M). r.log.door) ∙ long) (subst G served.doors_are gives) (subst T back takes);
         };
         joins = served.joins;
         answer_is = served-answer told faults link_told link_faults auction sessions answer runs books counted counted_after served.each first (raised ∙ ap (λ ls. raised_by_all counted (map (λ (l : DoorLog R). faults l.door) ls)) served.logs_are) (subst O served.logs_are outcome);

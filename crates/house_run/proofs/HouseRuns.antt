@@ -1,5 +1,5 @@
 -- From the disks of a house's journals to these disks again.
-use Rattle.std.proofs.Common.{true≢false, ◌≡◌, ◌∙◌, ◌<◌, ◌≤◌, ◌-◌, ◌^◌, min, ℕ, zero, suc, Bool, IsTrue, List, [], ◌∷◌, length, map, get_or, Option, Result, Ok, Err, arith, inl, inr, refl, sym, ap, subst}
+use Rattle.std.proofs.Common.{true≢false, ◌≡◌, ◌∙◌, ◌<◌, ◌≤◌, ◌-◌, ◌^◌, min, ℕ, zero, suc, Bool, IsTrue, List, [], ◌∷◌, length, map, get_or, Option, Some, Result, Ok, Err, arith, inl, inr, refl, sym, ap, subst}
 use Rattle.house_io.specs.Disks.{DiskShown, is_told, told_moments}
 use Rattle.std.specs.List.{AllByRecursion, flat_map}
 use Rattle.std.specs.Prelude.{◌⊎◌}
@@ -21,7 +21,6 @@ use Rattle.clock_book.specs.declared.faults.OpenFault.{OpenFault}
 use Rattle.clock_book.specs.declared.faults.OpenFault.TheVariants as why
 use Rattle.clock_family.specs.Houses.{HouseOf, HousePassOf, IsNewPass, IsOpened}
 use Rattle.clock_family.specs.Opening.{IsNotOpen}
-use Rattle.clock_family.specs.Turns.{IsOf}
 use Rattle.turn_desk.specs.Passes.{Opened}
 use Rattle.house_serve.specs.Houses.{DoorRun, Joins, turns_of}
 use Rattle.house_run.specs.ClockRuns.{AreNewPasses, BeginNew, ClockRun, IsClockRun, IsJournalRun, IsNewPassAt}
@@ -105,7 +104,7 @@ module _ {D : Type 0} (shown : D → DiskShown) (terms : Terms) (digest : List �
 
   -- the passes with which the doors began were new ones of the house
   new-passes : (count : ℕ) (old disks : List D) (house : HouseOf D) (all : List HousePassOf) (books : List (BookOf D)) (p : HousePassOf) → IsOpened shown terms digest count old house all
-      → BooksBack shown house.desks books disks → IsNewPass house p → AreNewPasses terms digest (runs_in house.desks books) p.passes
+      → BooksBack shown house.desks books disks → IsNewPass house p → AreNewPasses (runs_in house.desks books) p.passes
   new-passes count old disks house all books p opened back new =
       let long = length-runs house.desks books back.count in
       let same = new.of_house.count in
@@ -116,14 +115,12 @@ module _ {D : Type 0} (shown : D → DiskShown) (terms : Terms) (digest : List �
             let r = ran-at old disks house books opened.clocks opened.books back k (omega arith) in
             let within : k < length house.desks = omega arith in
             let inside : k < length p.passes = omega arith in
-            let O : Owner → Type 0 = λ owner. IsOf owner (get_or p.passes k q) in
-            let whose : owner_of house.terms k house.digest ≡ owner_of terms k digest = λ i. owner_of (opened.terms_are i) k (opened.digest_is i) in
-            subst (λ (run : ClockRun). IsNewPassAt (owner_of terms k digest) run (get_or p.passes k q)) (sym (r.run_is c))
-            (record { of = subst O whose (new.of_house.book k q inside); seen = new.seen k r.desk q within; own = new.own k q inside });
+            subst (λ (run : ClockRun). IsNewPassAt run (get_or p.passes k q)) (sym (r.run_is c))
+            (record { origin = new.origin k r.desk q within ∙ ap Some (sym (back.origins k r.desk r.book within)); seen = new.seen k r.desk q within; own = new.own k q inside });
       }
 
   begin-all : {R L : Type 0} (count : ℕ) (old disks : List D) (house : HouseOf D) (all : List HousePassOf) (books : List (BookOf D)) (runs : List (DoorRun R L)) → IsOpened shown terms digest count old house all
-      → BooksBack shown house.desks books disks → AllByRecursion (IsNewPass house) (map (λ (r : DoorRun R L). r.before) runs) → BeginNew terms digest (runs_in house.desks books) runs
+      → BooksBack shown house.desks books disks → AllByRecursion (IsNewPass house) (map (λ (r : DoorRun R L). r.before) runs) → BeginNew (runs_in house.desks books) runs
   begin-all count old disks house all books [] opened back new = tt
   begin-all count old disks house all books (r ∷ runs) opened back new = (new-passes count old disks house all books r.before opened back new.0, begin-all count old disks house all books runs opened back new.1)
 
@@ -163,23 +160,23 @@ module _ {D : Type 0} (shown : D → DiskShown) (terms : Terms) (digest : List �
             subst (λ (n : ℕ). IsLeftUnlessClaimed (shown (get_or old n d)) (shown (get_or disks n d))) here (not.refused d).unclaimed
       ]
 
-module _ {D R L M : Type 0} (shown : D → DiskShown) (told : R → Option (DoorLinks M)) (faults : R → ℕ) (link_told : M → Option LinkBytes) (link_faults : M → ℕ) (auction : Auction) (count sessions : ℕ) where
+module _ {D R L M : Type 0} (shown : D → DiskShown) (told : R → Option (DoorLinks M)) (faults : R → ℕ) (link_told : M → Option LinkBytes) (link_faults : M → ℕ) (auction : Auction) (address : List ℕ) (count sessions : ℕ) where
   -- no house was opened
   pub not-hosted : (fault : OpenFault) (old disks : List D) (clock : ℕ) (lists : Option (NetLists R L)) (counted : ℕ) → IsNotOpen shown auction.terms auction.digest old disks clock fault
-      → HostOutcome {L = L} shown told faults link_told link_faults auction count sessions old (Err (end_at clock fault)) disks lists lists counted counted
+      → HostOutcome {L = L} shown told faults link_told link_faults auction address count sessions old (Err (end_at clock fault)) disks lists lists counted counted
   not-hosted fault old disks clock lists counted not = inr (record {
     disks_count = not.count;
     left = λ k d below. left-unopened shown auction.terms auction.digest fault old disks clock not k d;
     unclaimed = λ k d below. quiet-unopened shown auction.terms auction.digest fault old disks clock not k d;
-    net_is = told-same (LeavesNet told count) lists (λ x. inl refl);
+    net_is = told-same (LeavesNet told address count) lists (λ x. inl refl);
     cause = refused-host shown auction.terms auction.digest fault old disks clock lists counted not;
   })
 
   -- a house was opened, and served
   hosted-served : (answer : Result Hosted Ended) (old disks : List D) (house : HouseOf D) (passes : List HousePassOf) (told_before told_after : Option (NetLists R L)) (counted_before counted : ℕ)
       → IsOpened shown auction.terms auction.digest count old house passes
-      → HouseServed {L = L} shown told faults link_told link_faults auction count sessions house.desks passes disks answer told_before told_after counted_before counted
-      → IsHosted {L = L} shown told faults link_told link_faults auction count sessions old disks answer told_before told_after counted_before counted
+      → HouseServed {L = L} shown told faults link_told link_faults auction address count sessions house.desks passes disks answer told_before told_after counted_before counted
+      → IsHosted {L = L} shown told faults link_told link_faults auction address count sessions old disks answer told_before told_after counted_before counted
   hosted-served answer old disks house passes told_before told_after counted_before counted opened served =
       let back = served.back in
       let books = served.books in
@@ -216,8 +213,8 @@ module _ {D R L M : Type 0} (shown : D → DiskShown) (told : R → Option (Door
   -- a house was opened, and closed unused
   hosted-unused : (end : Ended) (old disks : List D) (house : HouseOf D) (passes : List HousePassOf) (told_before told_after : Option (NetLists R L)) (counted_before counted : ℕ)
       → IsOpened shown auction.terms auction.digest count old house passes
-      → HouseNotServed {L = L} shown told faults link_told link_faults auction count sessions house.desks disks end told_before told_after counted_before counted
-      → IsUnhosted {L = L} shown told faults link_told link_faults auction count sessions old disks end told_before told_after counted_before counted
+      → HouseNotServed {L = L} shown told faults link_told link_faults auction address count sessions house.desks disks end told_before told_after counted_before counted
+      → IsUnhosted {L = L} shown told faults link_told link_faults auction address count sessions old disks end told_before told_after counted_before counted
   hosted-unused end old disks house passes told_before told_after counted_before counted opened not =
       let back = not.closed.back in
       let books = not.closed.books in
@@ -237,8 +234,8 @@ module _ {D R L M : Type 0} (shown : D → DiskShown) (told : R → Option (Door
   -- a house was opened, and came to this
   pub hosted : (answer : Result Hosted Ended) (old disks : List D) (house : HouseOf D) (passes : List HousePassOf) (told_before told_after : Option (NetLists R L)) (counted_before counted : ℕ)
       → IsOpened shown auction.terms auction.digest count old house passes
-      → HouseOutcome {L = L} shown told faults link_told link_faults auction count sessions house.desks passes answer disks told_before told_after counted_before counted
-      → HostOutcome {L = L} shown told faults link_told link_faults auction count sessions old answer disks told_before told_after counted_before counted
+      → HouseOutcome {L = L} shown told faults link_told link_faults auction address count sessions house.desks passes answer disks told_before told_after counted_before counted
+      → HostOutcome {L = L} shown told faults link_told link_faults auction address count sessions old answer disks told_before told_after counted_before counted
   hosted (Ok done) old disks house passes told_before told_after counted_before counted opened served = hosted-served (Ok done) old disks house passes told_before told_after counted_before counted opened served
   hosted (Err end) old disks house passes told_before told_after counted_before counted opened (inl served) = inl (hosted-served (Err end) old disks house passes told_before told_after counted_before counted opened served)
   hosted (Err end) old disks house passes told_before told_after counted_before counted opened (inr not) = inr (hosted-unused end old disks house passes told_before told_after counted_before counted opened not)

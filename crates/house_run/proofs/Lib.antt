@@ -10,6 +10,7 @@ pub mod ClockRunning
 pub mod GivingSteps
 pub mod HouseBack
 pub mod HouseRuns
+pub mod NetsSeen
 pub mod RunsSeen
 pub mod HouseSteps
 pub mod Telling

@@ -9,7 +9,7 @@ use Rattle.auction_file.specs.declared.listing.Auction.{Auction}
 use Rattle.house_run.specs.Causes.{FailedAt}
 use Rattle.house_serve.specs.Houses.{DoorRun}
 use Rattle.house_run.specs.ClockRuns.{ClockRun, NoneFailed}
-use Rattle.house_run.specs.DoorsSeen.{DoorSeen, LinkSeen}
+use Rattle.house_io.specs.NetsShown.{DoorShown, LinkShown}
 use Rattle.house_run.specs.Hosting.{IsNetEnd}
 use Rattle.house_run.specs.Disks.{IsJournalBelow, KeepsOthers}
 use Rattle.house_run.specs.Found.{as_found, found, told_first}
@@ -123,7 +123,7 @@ module _ (auction journals : List ℕ) (s : Serving) (value : Auction) (seen : O
   failed-then k failed = let e = r.steady (journal_name journals k) in omega arith
 
   -- the auction was served, from the first look at its file on
-  served-then : (net : NetSeen) (clocks : List ClockRun) (doors : List (DoorRun DoorSeen LinkSeen)) → AuctionServed value journals s (later seen.shelf files faults names) net clocks doors → AuctionServed value journals s seen.shelf net clocks doors
+  served-then : (net : NetSeen) (clocks : List ClockRun) (doors : List (DoorRun DoorShown LinkShown)) → AuctionServed value journals s (later seen.shelf files faults names) net clocks doors → AuctionServed value journals s seen.shelf net clocks doors
   served-then net clocks doors served = record {
     ran = record {
       count_is = served.ran.count_is;
@@ -166,11 +166,11 @@ module _ (auction journals : List ℕ) (s : Serving) (value : Auction) (seen : O
   }
 
   -- the text of an auction that was served is written, or memory for it runs out
-  pub done-frame : (end : Ended) (net : NetSeen) (hosted : Hosted) → JournalsServed value journals s (later seen.shelf files faults names) net (Ok hosted) → ((doors : List (DoorRun DoorSeen LinkSeen)) → NoneFailed doors → FailedSo end doors) → ServeFrame auction journals s end seen net
+  pub done-frame : (end : Ended) (net : NetSeen) (hosted : Hosted) → JournalsServed value journals s (later seen.shelf files faults names) net (Ok hosted) → ((doors : List (DoorRun DoorShown LinkShown)) → NoneFailed doors → FailedSo end doors) → ServeFrame auction journals s end seen net
   done-frame end net hosted served so =
       serve-frame end net served.keeps (inl (record { clocks = served.clocks; doors = served.doors; served = served-then net served.clocks served.doors served.served; failed = so served.doors served.answer_is.none_failed }))
 
-  failed-so : (end : Ended) (doors : List (DoorRun DoorSeen LinkSeen)) → end ≡ how.NetFault → (NoneFailed doors → ⊥) → FailedSo end doors
+  failed-so : (end : Ended) (doors : List (DoorRun DoorShown LinkShown)) → end ≡ how.NetFault → (NoneFailed doors → ⊥) → FailedSo end doors
   failed-so end doors e some = let P : Ended → Type 0 = λ w. FailedSo w doors in subst P (sym e) some
 
   -- the auction was served and a door failed, or it was not served

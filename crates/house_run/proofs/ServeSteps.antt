@@ -27,14 +27,15 @@ use Rattle.house_serve.specs.Houses.{DoorRun, Joins}
 use Rattle.house_run.specs.Causes.{FailedAt}
 use Rattle.house_run.specs.ClockRuns.{BeginNew, ClockRun, IsJournalRun, LeavesJournal, NoneFailed}
 use Rattle.house_run.specs.Disks.{AreGivenBack, AreNotOpen, AreOpen, IsJournalBelow, IsNotOpened, KeepsMoments}
-use Rattle.house_run.specs.DoorsSeen.{DoorSeen, LinkSeen, door_seen, link_seen, links_seen}
+use Rattle.house_io.specs.NetsShown.{DoorShown, LinkShown, door_shown, link_shown, links_shown}
 use Rattle.house_run.specs.Frame.{RisesAmong}
 use Rattle.house_run.specs.Found.{told_first}
 use Rattle.house_run.specs.Hosting.{DoorsRan, DoorsServed, HostEnd, HostOutcome, IsHosted, IsSameNet, IsUnhosted, LeavesDisk, LeavesNet, ServedAnswer}
 use Rattle.house_run.specs.Journals.{IsFirstRefused, IsRefusal}
 use Rattle.house_run.specs.Needs.{first_journals, journal_name, with_names}
 use Rattle.command_line.specs.Parts.{Serving}
-use Rattle.house_run.specs.Nets.{NetSeen, NetView, IsNetUntouched, net_view}
+use Rattle.house_run.specs.Nets.{NetSeen, IsNetUntouched}
+use Rattle.house_io.specs.NetsShown.{NetView, net_view}
 use Rattle.house_run.specs.Seen.{ShelfSeen, content}
 use Rattle.house_run.specs.Serving.{DoorsServing, JournalsNotServed, JournalsServed, KeepsJournals, LeavesNetAt, NotServing, ServesAt, ServesJournals}
 use Rattle.house_run.specs.Status.{end_at}
@@ -51,25 +52,25 @@ use Rattle.house_run.proofs.RunsSeen.{all-seen, run_seen, told-by, turns-seen}
 -- the net, as a contract of a run sees it
 
 module _ {R L M : Type 0} (told : R → Option (DoorLinks M)) (faults : R → ℕ) (link_told : M → Option LinkBytes) (link_faults : M → ℕ) (dialled_told : L → Option LinkBytes) where
-  abbrev shown : R → Option (DoorLinks LinkSeen)
-  shown door = option_map (links_seen link_told link_faults) (told door)
+  abbrev shown : R → Option (DoorLinks LinkShown)
+  shown door = option_map (links_shown link_told link_faults) (told door)
 
-  views : (doors : List R) → map (λ (door : DoorSeen). door.told) (map (door_seen told faults link_told link_faults) doors) ≡ map shown doors
+  views : (doors : List R) → map (λ (door : DoorShown). door.told) (map (door_shown told faults link_told link_faults) doors) ≡ map shown doors
   views [] = refl
   views (d ∷ doors) = ap (λ l. shown d ∷ l) (views doors)
 
-  empty-view : (o : Option (DoorLinks M)) → IsEmptyDoor o → IfSome (option_map (links_seen link_told link_faults) o) (λ (d : DoorLinks LinkSeen). d.to_come ≡ [])
+  empty-view : (o : Option (DoorLinks M)) → IsEmptyDoor o → IfSome (option_map (links_shown link_told link_faults) o) (λ (d : DoorLinks LinkShown). d.to_come ≡ [])
   empty-view None empty = tt
-  empty-view (Some d) empty = ap (map (link_seen link_told link_faults)) empty
+  empty-view (Some d) empty = ap (map (link_shown link_told link_faults)) empty
 
-  empty-views : (doors : List R) → AllByRecursion (λ door. IsEmptyDoor (told door)) doors → AllByRecursion (λ (door : Option (DoorLinks LinkSeen)). IfSome door (λ (d : DoorLinks LinkSeen). d.to_come ≡ [])) (map shown doors)
+  empty-views : (doors : List R) → AllByRecursion (λ door. IsEmptyDoor (told door)) doors → AllByRecursion (λ (door : Option (DoorLinks LinkShown)). IfSome door (λ (d : DoorLinks LinkShown). d.to_come ≡ [])) (map shown doors)
   empty-views [] all = tt
   empty-views (d ∷ doors) all = (empty-view (told d) all.0, empty-views doors all.1)
 
-  pub serves-at : (count : ℕ) (given back : List R) (b a : NetLists R L) → DoorsServed told count given back b a
-      → ServesAt count (map (door_seen told faults link_told link_faults) given) (map (door_seen told faults link_told link_faults) back) (net_view told link_told link_faults dialled_told b) (net_view told link_told link_faults dialled_told a)
+  pub serves-at : (address : List ℕ) (count : ℕ) (given back : List R) (b a : NetLists R L) → DoorsServed told address count given back b a
+      → ServesAt address count (map (door_shown told faults link_told link_faults) given) (map (door_shown told faults link_told link_faults) back) (net_view told link_told link_faults dialled_told b) (net_view told link_told link_faults dialled_told a)
   unfolding net_view
-  serves-at count given back b a served = record {
+  serves-at address count given back b a served = record {
     empty = map shown served.empty;
     given_are = views given ∙ ap (map shown) served.given_are ∙ map-append shown (take count b.doors) served.empty ∙ ap (λ l. l ++ map shown served.empty) (sym (take-map shown count b.doors));
     are_empty = empty-views served.empty served.are_empty;
@@ -80,12 +81,16 @@ module _ {R L M : Type 0} (told : R → Option (DoorLinks M)) (faults : R → �
       hung_up = map dialled_told b.hung_up;
       door_places = b.door_places;
       link_places = b.link_places;
+      asked = b.asked ++ address ∷ [];
+      dialled = b.dialled;
     });
   }
 
-  pub leaves-at : (count : ℕ) (b a : NetLists R L) → LeavesNet told count b a → LeavesNetAt count (net_view told link_told link_faults dialled_told b) (net_view told link_told link_faults dialled_told a)
-  leaves-at count b a (inl same) = inl (ap (net_view told link_told link_faults dialled_told) same)
-  leaves-at count b a (inr (given, served)) = inr (map (door_seen told faults link_told link_faults) given, serves-at count given given b a served)
+  pub leaves-at : (address : List ℕ) (count : ℕ) (b a : NetLists R L) → LeavesNet told address count b a → LeavesNetAt address count (net_view told link_told link_faults dialled_told b) (net_view told link_told link_faults dialled_told a)
+  unfolding net_view
+  leaves-at address count b a (inl same) = inl (ap (net_view told link_told link_faults dialled_told) same)
+  leaves-at address count b a (inr (inl refused)) = inr (inl (ap (net_view told link_told link_faults dialled_told) refused))
+  leaves-at address count b a (inr (inr (given, served))) = inr (inr (map (door_shown told faults link_told link_faults) given, serves-at address count given given b a served))
 
   none-seen : (sessions : ℕ) (auction : Auction) (runs : List (DoorRun R M)) → NoneFailed runs → NoneFailed (map (run_seen told faults link_told link_faults auction sessions) runs)
   none-seen sessions auction [] all = tt
@@ -100,34 +105,34 @@ module _ {R L M : Type 0} (told : R → Option (DoorLinks M)) (faults : R → �
   answer-seen (Ok hosted) sessions auction clocks runs before now told_of = record {
     none_failed = none-seen sessions auction runs told_of.none_failed;
     histories_are = told_of.histories_are;
-    ends_are = told_of.ends_are ∙ sym (map-map (λ (d : DoorRun DoorSeen LinkSeen). d.log.ends.items) (run_seen told faults link_told link_faults auction sessions) runs);
+    ends_are = told_of.ends_are ∙ sym (map-map (λ (d : DoorRun DoorShown LinkShown). d.log.ends.items) (run_seen told faults link_told link_faults auction sessions) runs);
     steady = told_of.steady;
   }
   answer-seen (Err end) sessions auction clocks runs before now told_of = record { some_failed = λ none. told_of.some_failed (none-behind sessions auction runs none); cause = told_of.cause }
 
-  pub begin-seen : (sessions : ℕ) (auction : Auction) (terms : Terms) (digest : List ℕ) (clocks : List ClockRun) (runs : List (DoorRun R M)) → BeginNew terms digest clocks runs
-      → BeginNew terms digest clocks (map (run_seen told faults link_told link_faults auction sessions) runs)
-  begin-seen sessions auction terms digest clocks [] all = tt
-  begin-seen sessions auction terms digest clocks (r ∷ runs) all = (all.0, begin-seen sessions auction terms digest clocks runs all.1)
+  pub begin-seen : (sessions : ℕ) (auction : Auction) (clocks : List ClockRun) (runs : List (DoorRun R M)) → BeginNew clocks runs
+      → BeginNew clocks (map (run_seen told faults link_told link_faults auction sessions) runs)
+  begin-seen sessions auction clocks [] all = tt
+  begin-seen sessions auction clocks (r ∷ runs) all = (all.0, begin-seen sessions auction clocks runs all.1)
 
   pub doors-serving : (auction : Auction) (s : Serving) (runs : List (DoorRun R M)) (before after : Option (NetLists R L)) (counted_before counted : ℕ)
-      → DoorsRan {L = L} told faults link_told link_faults auction s.doors s.sessions runs before after
+      → DoorsRan {L = L} told faults link_told link_faults auction s.address s.doors s.sessions runs before after
       → DoorsServing auction s (record { told_before = option_map (net_view told link_told link_faults dialled_told) before; told = option_map (net_view told link_told link_faults dialled_told) after; faults_before = counted_before; faults = counted })
       (map (run_seen told faults link_told link_faults auction s.sessions) runs)
   doors-serving auction s runs before after counted_before counted ran =
       let seen = run_seen told faults link_told link_faults auction s.sessions in
-      let door = door_seen told faults link_told link_faults in
-      let given = map-map (λ (d : DoorRun DoorSeen LinkSeen). d.door) seen runs ∙ sym (map-map door (λ (r : DoorRun R M). r.door) runs) in
-      let back = map-map (λ (d : DoorRun DoorSeen LinkSeen). d.log.door) seen runs ∙ sym (map-map door (λ (r : DoorRun R M). r.log.door) runs) in
-      let V : List DoorSeen → List DoorSeen → Type 0 = λ gs bs. IfTold (option_map (net_view told link_told link_faults dialled_told) before) (option_map (net_view told link_told link_faults dialled_told) after) (ServesAt s.doors gs bs) in
+      let door = door_shown told faults link_told link_faults in
+      let given = map-map (λ (d : DoorRun DoorShown LinkShown). d.door) seen runs ∙ sym (map-map door (λ (r : DoorRun R M). r.door) runs) in
+      let back = map-map (λ (d : DoorRun DoorShown LinkShown). d.log.door) seen runs ∙ sym (map-map door (λ (r : DoorRun R M). r.log.door) runs) in
+      let V : List DoorShown → List DoorShown → Type 0 = λ gs bs. IfTold (option_map (net_view told link_told link_faults dialled_told) before) (option_map (net_view told link_told link_faults dialled_told) after) (ServesAt s.address s.doors gs bs) in
       let lists : V (map door (map (λ (r : DoorRun R M). r.door) runs)) (map door (map (λ (r : DoorRun R M). r.log.door) runs)) =
-      told-by (net_view told link_told link_faults dialled_told) (DoorsServed told s.doors (map (λ (r : DoorRun R M). r.door) runs) (map (λ (r : DoorRun R M). r.log.door) runs))
-      (ServesAt s.doors (map door (map (λ (r : DoorRun R M). r.door) runs)) (map door (map (λ (r : DoorRun R M). r.log.door) runs))) before after
-      (serves-at s.doors (map (λ (r : DoorRun R M). r.door) runs) (map (λ (r : DoorRun R M). r.log.door) runs)) ran.lists in
+      told-by (net_view told link_told link_faults dialled_told) (DoorsServed told s.address s.doors (map (λ (r : DoorRun R M). r.door) runs) (map (λ (r : DoorRun R M). r.log.door) runs))
+      (ServesAt s.address s.doors (map door (map (λ (r : DoorRun R M). r.door) runs)) (map door (map (λ (r : DoorRun R M). r.log.door) runs))) before after
+      (serves-at s.address s.doors (map (λ (r : DoorRun R M). r.door) runs) (map (λ (r : DoorRun R M). r.log.door) runs)) ran.lists in
       record {
         count_is = length-map runs seen ∙ ran.count_is;
         each = all-seen told faults link_told link_faults auction s.sessions runs ran.each;
-        lists = subst (λ gs. V gs (map (λ (d : DoorRun DoorSeen LinkSeen). d.log.door) (map seen runs))) (sym given) (subst (V (map door (map (λ (r : DoorRun R M). r.door) runs))) (sym back) lists);
+        lists = subst (λ gs. V gs (map (λ (d : DoorRun DoorShown LinkShown). d.log.door) (map seen runs))) (sym given) (subst (V (map door (map (λ (r : DoorRun R M). r.door) runs))) (sym back) lists);
       }
 
 -- the journals
@@ -182,7 +187,7 @@ none-served value journals s files counts names told counted = record {
   };
   not = record {
     left = same files;
-    net_is = told-same (LeavesNetAt s.doors) told (λ x. inl refl);
+    net_is = told-same (LeavesNetAt s.address s.doors) told (λ x. inl refl);
     cause = inr (inr (inr (record { end_is = refl; steady = refl })));
   };
 }
@@ -204,7 +209,7 @@ none-opened fault value journals s clock shelf told counted not = record {
   };
   not = record {
     left = left shelf.files_before shelf.files not.moments;
-    net_is = told-same (LeavesNetAt s.doors) told (λ x. inl refl);
+    net_is = told-same (LeavesNetAt s.address s.doors) told (λ x. inl refl);
     cause = cause fault not.cause;
   };
 }
@@ -331,7 +336,7 @@ module _ {D R L M : Type 0} (shown : D → DiskShown) (told : R → Option (Door
   seen-net before after counted_before counted = record { told_before = option_map (net_view told link_told link_faults dialled_told) before; told = option_map (net_view told link_told link_faults dialled_told) after; faults_before = counted_before; faults = counted }
 
   abbrev closed-on : Auction → Serving → List D → List D → Result Hosted Ended → Option (NetLists R L) → Option (NetLists R L) → ℕ → ℕ → Type 0
-  closed-on value s old disks answer before after counted_before counted = IsHosted {L = L} shown told faults link_told link_faults value s.doors s.sessions old disks answer before after counted_before counted
+  closed-on value s old disks answer before after counted_before counted = IsHosted {L = L} shown told faults link_told link_faults value s.address s.doors s.sessions old disks answer before after counted_before counted
 
   module _ (value : Auction) (journals : List ℕ) (s : Serving) (old disks : List D) (shelf : ShelfSeen) (files : Option (List NamedFile)) (counts : List ℕ → ℕ) (names : List (List ℕ)) (before after : Option (NetLists R L)) (counted_before counted : ℕ)
       (long : length old ≡ value.terms.bidders + 1)
@@ -361,7 +366,7 @@ module _ {D R L M : Type 0} (shown : D → DiskShown) (told : R → Option (Door
                   (λ k d below unclaimed. absurd (let claimed = is.claimed k d (let e = is.count_is in omega arith) in not-both unclaimed claimed))
                   (λ k d below told_now c. is.journals_are k c d (let e = is.count_is in omega arith) told_now));
             };
-            new = begin-seen told faults link_told link_faults dialled_told s.sessions value value.terms value.digest is.clocks is.runs is.new;
+            new = begin-seen told faults link_told link_faults dialled_told s.sessions value is.clocks is.runs is.new;
             serving = doors-serving told faults link_told link_faults dialled_told value s is.runs before after counted_before counted is.ran;
             joins = λ k c below.
                 subst (λ turns. Joins (get_or is.clocks k c).opening (get_or is.clocks k c).closed.history turns k) (sym (turns-seen told faults link_told link_faults value s.sessions is.runs)) (is.joins k c below);
@@ -401,7 +406,7 @@ module _ {D R L M : Type 0} (shown : D → DiskShown) (told : R → Option (Door
     why-not end (inr (inr cause)) = inr (inr cause)
 
     -- it was not
-    were-not-served : (end : Ended) → IsUnhosted {L = L} shown told faults link_told link_faults value s.doors s.sessions old disks end before after counted_before counted
+    were-not-served : (end : Ended) → IsUnhosted {L = L} shown told faults link_told link_faults value s.address s.doors s.sessions old disks end before after counted_before counted
         → JournalsNotServed value journals s shelf (seen-net before after counted_before counted) end
     were-not-served end is = record {
       keeps = keeps-journals shown journals old disks shelf files counts names (value.terms.bidders + 1) long is.disks_count are given;
@@ -412,12 +417,12 @@ module _ {D R L M : Type 0} (shown : D → DiskShown) (told : R → Option (Door
             (λ x y all k few. all k (omega arith))
             (journal-moments shown journals (λ k m n. LeavesJournal (owner_of value.terms k value.digest) m n) old disks shelf.files_before files shelf.files (IsJournalBelow journals (length disks)) are.same
             are.stand given.left is.disks_count given.others is.unclaimed (λ k d below told_now. leaves (owner_of value.terms k value.digest) (get_or old k d) (get_or disks k d) told_now (is.left k d below)));
-        net_is = told-by (net_view told link_told link_faults dialled_told) (LeavesNet told s.doors) (LeavesNetAt s.doors) before after (leaves-at told faults link_told link_faults dialled_told s.doors) is.net_is;
+        net_is = told-by (net_view told link_told link_faults dialled_told) (LeavesNet told s.address s.doors) (LeavesNetAt s.address s.doors) before after (leaves-at told faults link_told link_faults dialled_told s.address s.doors) is.net_is;
         cause = why-not end is.cause;
       };
     }
 
-    pub served-journals : (answer : Result Hosted Ended) → HostOutcome {L = L} shown told faults link_told link_faults value s.doors s.sessions old answer disks before after counted_before counted
+    pub served-journals : (answer : Result Hosted Ended) → HostOutcome {L = L} shown told faults link_told link_faults value s.address s.doors s.sessions old answer disks before after counted_before counted
         → ServesJournals value journals s shelf (seen-net before after counted_before counted) answer
     served-journals (Ok hosted) is = were-served (Ok hosted) is
     served-journals (Err end) (inl is) = inl (were-served (Err end) is)

@@ -28,7 +28,7 @@ pub record BidDone (auction values : List ℕ) (b : Bidding) (shelf : ShelfSeen)
   pub part : Part
   pub plays : PlaysIn shelf auction values b part
   pub seen : Seen
-  pub talks : TalksOn net part (Ok seen)
+  pub talks : TalksOn net b.address part (Ok seen)
   pub text_is : text ≡ flat_map look_line seen.looks.items
 
 -- How a command ends whose agent talked so: with the end of an agent that stopped; or the part was played to its end, and the text was made or
@@ -37,16 +37,16 @@ abbrev pub TalkedSo : Result Seen AgentEnd → Ended → Type 0
 TalkedSo (Ok seen) end = (end ≡ how.Done) ⊎ (end ≡ how.NoMemory)
 TalkedSo (Err stop) end = end ≡ ended_by stop
 
--- A link was dialled, the part was played over it, and it was hung up.
+-- The address that the command names was dialled, the part was played over the link, and the link was hung up.
 pub record Talked (auction values : List ℕ) (b : Bidding) (end : Ended) (shelf : ShelfSeen) (net : NetSeen) : Type 0 where
   pub part : Part
   pub plays : PlaysIn shelf auction values b part
   pub answer : Result Seen AgentEnd
-  pub talks : TalksOn net part answer
+  pub talks : TalksOn net b.address part answer
   pub so : TalkedSo answer end
 
--- A bid that ended so opened what it needs, in order, changed no file, and passed over no fault that its end does not tell. It dialled no link,
+-- A bid that ended so opened what it needs, in order, changed no file, and passed over no fault that its end does not tell. It had no link,
 -- or it talked over one.
 pub record BidFrame (auction values : List ℕ) (b : Bidding) (end : Ended) (seen : Outside) (net : NetSeen) : Type 0 where
   pub frame : Frame (bid_needs auction values b) end seen
-  pub talked : IsUndialled net ⊎ Talked auction values b end seen.shelf net
+  pub talked : IsUndialled net b.address ⊎ Talked auction values b end seen.shelf net

@@ -1,8 +1,7 @@
 -- What a house that was served comes to at one clock, and at its journal.
-use Rattle.std.specs.Prelude.{◌≡◌, ◌<◌, ◌⊎◌, ℕ, List, [], false, length, map, slice_index_or, IfSome}
+use Rattle.std.specs.Prelude.{◌≡◌, ◌<◌, ◌⊎◌, ℕ, List, [], false, length, map, slice_index_or, IfSome, Some}
 use Rattle.std.specs.List.{AllByRecursion}
 use Rattle.house_io.specs.Moments.{Leaves, Moments, synced_at}
-use Rattle.lot_base.specs.declared.auction_terms.Terms.{Terms}
 use Rattle.recovery.specs.Journaled.{Owner, owner_of}
 use Rattle.clock_book.specs.Books.{BookState}
 use Rattle.clock_book.specs.DeskHistories.{IsInDoubt, reports_in}
@@ -12,7 +11,6 @@ use Rattle.clock_book.specs.Past.{IsEither, IsNext, KeepsPast, owner_in}
 use Rattle.clock_book.specs.declared.entries.Entry.{Entry}
 use Rattle.clock_book.specs.declared.entries.Entry.TheVariants.{Offered}
 use Rattle.clock_book.specs.declared.origins.Origin.{Origin}
-use Rattle.clock_family.specs.Turns.{IsOf}
 use Rattle.turn_desk.specs.Passes.{Known}
 use Rattle.house_serve.specs.Houses.{DoorRun}
 
@@ -33,20 +31,20 @@ pub record IsClockRun (owner : Owner) (run : ClockRun) : Type 0 where
   pub next : IfSome run.closed.pending (IsNext run.closed.clock)
   pub doubt : IfSome run.closed.pending (IsInDoubt run.closed.history)
 
--- A new pass of the clock's desk: it is of a book of this owner, has seen the history at the opening, and has made nothing.
-pub record IsNewPassAt (owner : Owner) (run : ClockRun) (pass : Known Entry Origin) : Type 0 where
-  pub of : IsOf owner pass
+-- A new pass of the clock's desk: it is of the clock's book, has seen the history at the opening, and has made nothing.
+pub record IsNewPassAt (run : ClockRun) (pass : Known Entry Origin) : Type 0 where
+  pub origin : pass.origin ≡ Some run.origin
   pub seen : pass.seen ≡ run.opening
   pub own : pass.own ≡ []
 
 -- one of each clock, in order
-pub record AreNewPasses (terms : Terms) (digest : List ℕ) (clocks : List ClockRun) (passes : List (Known Entry Origin)) : Type 0 where
+pub record AreNewPasses (clocks : List ClockRun) (passes : List (Known Entry Origin)) : Type 0 where
   pub count : length passes ≡ length clocks
-  pub each : (k : ℕ) (c : ClockRun) (p : Known Entry Origin) → k < length clocks → IsNewPassAt (owner_of terms k digest) (slice_index_or clocks k c) (slice_index_or passes k p)
+  pub each : (k : ℕ) (c : ClockRun) (p : Known Entry Origin) → k < length clocks → IsNewPassAt (slice_index_or clocks k c) (slice_index_or passes k p)
 
 -- each door began with such passes
-abbrev pub BeginNew : {R L : Type 0} → Terms → List ℕ → List ClockRun → List (DoorRun R L) → Type 0
-BeginNew {R = R} {L = L} terms digest clocks doors = AllByRecursion (λ (d : DoorRun R L). AreNewPasses terms digest clocks d.before.passes) doors
+abbrev pub BeginNew : {R L : Type 0} → List ClockRun → List (DoorRun R L) → Type 0
+BeginNew {R = R} {L = L} clocks doors = AllByRecursion (λ (d : DoorRun R L). AreNewPasses clocks d.before.passes) doors
 
 -- no door failed
 abbrev pub NoneFailed : {R L : Type 0} → List (DoorRun R L) → Type 0

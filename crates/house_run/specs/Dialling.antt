@@ -14,7 +14,8 @@ use Rattle.bidder_agent.specs.declared.agents.AgentEnd.TheVariants as agent
 use Rattle.bidder_agent.specs.declared.agents.Seen.{Seen}
 use Rattle.house_run.specs.Markets.{IsMarketAt, market_bidders}
 use Rattle.command_line.specs.Parts.{Bidding}
-use Rattle.house_run.specs.Nets.{NetSeen, NetView}
+use Rattle.house_run.specs.Nets.{NetSeen}
+use Rattle.house_io.specs.NetsShown.{NetView}
 use Rattle.house_run.specs.Seen.{ShelfSeen, IsAuctionAt}
 use Rattle.house_run.specs.declared.ends.Ended.{Ended}
 use Rattle.house_run.specs.declared.ends.Ended.TheVariants as how
@@ -38,22 +39,25 @@ pub record PlaysIn (shelf : ShelfSeen) (auction values : List ℕ) (b : Bidding)
   pub bidder_is : IsRange 1 terms.bidders b.bidder
   pub part_is : p ≡ part_in terms valuations b
 
--- The link was the first of those to come, or one without bytes, where none was; and it is the last of those that were hung up.
-abbrev pub IsDialled : Option LinkBytes → Option LinkBytes → NetView → NetView → Type 0
-IsDialled before after b a =
+-- The address was dialled. The link was the first of those to come, or one without bytes, where none was; and it is the last of those that were
+-- hung up.
+abbrev pub IsDialled : List ℕ → Option LinkBytes → Option LinkBytes → NetView → NetView → Type 0
+IsDialled address before after b a =
     ((b.links ≡ before ∷ a.links) ⊎ ((b.links ≡ []) × (a.links ≡ []) × IsEmptyLink before))
-    × (a ≡ record b { links = a.links; hung_up = b.hung_up ++ after ∷ [] })
+    × (a ≡ record b { links = a.links; hung_up = b.hung_up ++ after ∷ []; dialled = b.dialled ++ address ∷ [] })
 
--- A link was dialled, the part was played over it with this answer, and it was hung up. The link is seen as it came and as it was hung up.
-pub record TalksOn (net : NetSeen) (p : Part) (answer : Result Seen AgentEnd) : Type 0 where
+-- The address was dialled, the part was played over the link with this answer, and the link was hung up. It is seen as it came and as it was
+-- hung up.
+pub record TalksOn (net : NetSeen) (address : List ℕ) (p : Part) (answer : Result Seen AgentEnd) : Type 0 where
   pub before : Option LinkBytes
   pub after : Option LinkBytes
   pub agrees : Agrees p before after answer
-  pub lists : IfTold net.told_before net.told (IsDialled before after)
+  pub lists : IfTold net.told_before net.told (IsDialled address before after)
 
--- no link was dialled
-abbrev pub IsUndialled : NetSeen → Type 0
-IsUndialled net = IfTold net.told_before net.told (λ before after. after ≡ before)
+-- no link came: nothing was dialled, or the net refused this address
+abbrev pub IsUndialled : NetSeen → List ℕ → Type 0
+IsUndialled net address =
+    IfTold net.told_before net.told (λ before after. (after ≡ before) ⊎ (after ≡ record before { dialled = before.dialled ++ address ∷ [] }))
 
 -- how a command ends whose agent stopped
 abbrev pub ended_by : AgentEnd → Ended
@@ -64,8 +68,8 @@ ended_by (agent.LooksSpent clock) = how.LooksSpent clock
 ended_by agent.NoMemory = how.NoMemory
 
 -- what a talk that gave no looks leaves of the net, where the command ends so
-abbrev pub LeavesTalk : NetSeen → Part → Ended → Type 0
-LeavesTalk net p end = IsUndialled net ⊎ ((stop : AgentEnd) × TalksOn net p (Err stop) × (end ≡ ended_by stop))
+abbrev pub LeavesTalk : NetSeen → List ℕ → Part → Ended → Type 0
+LeavesTalk net address p end = IsUndialled net address ⊎ ((stop : AgentEnd) × TalksOn net address p (Err stop) × (end ≡ ended_by stop))
 
 -- the auction that was read has no bidder of this number
 pub record IsNoBidder (shelf : ShelfSeen) (auction : List ℕ) (b : Bidding) (bidder : ℕ) : Type 0 where

@@ -1,5 +1,5 @@
 -- What a house comes to that is opened on the disks of its journals, served at doors on a net, and closed.
-use Rattle.std.specs.Prelude.{◌≡◌, ◌≤◌, ◌<◌, ◌⊎◌, ◌++◌, ◌-◌, ◌^◌, min, ℕ, Bool, false, List, length, map, take, drop, slice_index_or, IsTrue, Option, Result, Ok, Err, vec_capacity}
+use Rattle.std.specs.Prelude.{◌≡◌, ◌≤◌, ◌<◌, ◌⊎◌, ◌++◌, ◌∷◌, [], ◌-◌, ◌^◌, min, ℕ, Bool, false, List, length, map, take, drop, slice_index_or, IsTrue, Option, Result, Ok, Err, vec_capacity}
 use Rattle.house_io.specs.Disks.{DiskShown, is_told, told_moments}
 use Rattle.std.specs.List.{AllByRecursion, flat_map}
 use Rattle.house_io.specs.Doors.{DoorLinks, IsEmptyDoor}
@@ -31,12 +31,13 @@ use Rattle.house_serve.specs.declared.houses.DoorLog.{DoorLog}
 use Rattle.house_io.specs.declared.shelves.Refusal.{Refusal}
 use Rattle.house_io.specs.declared.shelves.Refusal.TheVariants as refusal
 
--- The first doors to come were given, and, in place of those that are missing, doors without links. These were given back, in order.
-pub record DoorsServed {R L M : Type 0} (told : R → Option (DoorLinks M)) (count : ℕ) (given back : List R) (before after : NetLists R L) : Type 0 where
+-- At this address the first doors to come were given, and, in place of those that are missing, doors without links. These were given back, in
+-- order.
+pub record DoorsServed {R L M : Type 0} (told : R → Option (DoorLinks M)) (address : List ℕ) (count : ℕ) (given back : List R) (before after : NetLists R L) : Type 0 where
   pub empty : List R
   pub given_are : given ≡ take count before.doors ++ empty
   pub are_empty : AllByRecursion (λ door. IsEmptyDoor (told door)) empty
-  pub after_is : after ≡ record before { doors = drop count before.doors; closed = before.closed ++ back }
+  pub after_is : after ≡ record before { doors = drop count before.doors; closed = before.closed ++ back; asked = before.asked ++ address ∷ [] }
 
 -- the books of a house, whose desks these were, once it was closed, and their disks
 pub record BooksBack {D : Type 0} (shown : D → DiskShown) (desks : List (Opened (BookOf D))) (books : List (BookOf D)) (disks : List D) : Type 0 where
@@ -45,12 +46,12 @@ pub record BooksBack {D : Type 0} (shown : D → DiskShown) (desks : List (Opene
   pub disks_are : disks ≡ map (λ (b : BookOf D). b.disk) books
   pub kept : AllByRecursion (λ (b : BookOf D). IsKept shown b) books
 
-module _ {R L M : Type 0} (told : R → Option (DoorLinks M)) (faults : R → ℕ) (link_told : M → Option LinkBytes) (link_faults : M → ℕ) (auction : Auction) (count sessions : ℕ) where
+module _ {R L M : Type 0} (told : R → Option (DoorLinks M)) (faults : R → ℕ) (link_told : M → Option LinkBytes) (link_faults : M → ℕ) (auction : Auction) (address : List ℕ) (count sessions : ℕ) where
   -- So many doors of a net served so many sessions each, or failed before.
   pub record DoorsRan (runs : List (DoorRun R M)) (told_before told_after : Option (NetLists R L)) : Type 0 where
     pub count_is : length runs ≡ count
     pub each : AllByRecursion (IsRun told faults link_told link_faults auction sessions) runs
-    pub lists : IfTold told_before told_after (DoorsServed told count (map (λ (r : DoorRun R M). r.door) runs) (map (λ (r : DoorRun R M). r.log.door) runs))
+    pub lists : IfTold told_before told_after (DoorsServed told address count (map (λ (r : DoorRun R M). r.door) runs) (map (λ (r : DoorRun R M). r.log.door) runs))
 
 -- the net failed, and its count rose
 pub record IsNetEnd (before now : ℕ) (end : Ended) : Type 0 where
@@ -67,9 +68,12 @@ pub record IsMemoryEnd (before now : ℕ) (end : Ended) : Type 0 where
 abbrev pub HouseEnd : ℕ → ℕ → Ended → Type 0
 HouseEnd before now end = IsNetEnd before now end ⊎ IsMemoryEnd before now end
 
--- The net is as it was, or the doors that it gave went back as they came.
-abbrev pub LeavesNet : {R L M : Type 0} → (R → Option (DoorLinks M)) → ℕ → NetLists R L → NetLists R L → Type 0
-LeavesNet {R = R} told count before after = (after ≡ before) ⊎ ((given : List R) × DoorsServed told count given given before after)
+-- The net is as it was, or it was asked for doors at this address: it refused them, or the doors that it gave went back as they came.
+abbrev pub LeavesNet : {R L M : Type 0} → (R → Option (DoorLinks M)) → List ℕ → ℕ → NetLists R L → NetLists R L → Type 0
+LeavesNet {R = R} told address count before after =
+    (after ≡ before)
+    ⊎ ((after ≡ record before { asked = before.asked ++ address ∷ [] })
+    ⊎ ((given : List R) × DoorsServed told address count given given before after))
 
 -- the books of a house, whose desks these were, once it was closed unused, and their disks
 pub record HouseUnused {D : Type 0} (shown : D → DiskShown) (desks : List (Opened (BookOf D))) (disks : List D) : Type 0 where
@@ -93,14 +97,14 @@ abbrev pub ServedAnswer : {R L : Type 0} → List ClockHistory → List (DoorRun
 ServedAnswer clocks doors (Ok hosted) before now = TellsServed clocks doors hosted before now
 ServedAnswer clocks doors (Err end) before now = TellsFailed doors end before now
 
-module _ {D R L M : Type 0} (shown : D → DiskShown) (told : R → Option (DoorLinks M)) (faults : R → ℕ) (link_told : M → Option LinkBytes) (link_faults : M → ℕ) (auction : Auction) (count sessions : ℕ) where
+module _ {D R L M : Type 0} (shown : D → DiskShown) (told : R → Option (DoorLinks M)) (faults : R → ℕ) (link_told : M → Option LinkBytes) (link_faults : M → ℕ) (auction : Auction) (address : List ℕ) (count sessions : ℕ) where
   -- a house of these desks was served with these passes at doors of the net, and closed
   pub record HouseServed (desks : List (Opened (BookOf D))) (passes : List HousePassOf) (disks : List D) (answer : Result Hosted Ended) (told_before told_after : Option (NetLists R L)) (counted_before counted : ℕ) : Type 0 where
     pub books : List (BookOf D)
     pub back : BooksBack shown desks books disks
     pub runs : List (DoorRun R M)
     pub passes_are : passes ≡ map (λ (r : DoorRun R M). r.before) runs
-    pub ran : DoorsRan {L = L} told faults link_told link_faults auction count sessions runs told_before told_after
+    pub ran : DoorsRan {L = L} told faults link_told link_faults auction address count sessions runs told_before told_after
     pub joins : (k : ℕ) (d : Opened (BookOf D)) (b : BookOf D) → k < length desks
         → Joins (slice_index_or desks k d).book.state.history (slice_index_or books k b).state.history (flat_map turns_of runs) k
     pub answer_is : ServedAnswer (map (λ (b : BookOf D). b.state.clock) books) runs answer counted_before counted
@@ -108,7 +112,7 @@ module _ {D R L M : Type 0} (shown : D → DiskShown) (told : R → Option (Door
   -- a house of these desks was closed unused
   pub record HouseNotServed (desks : List (Opened (BookOf D))) (disks : List D) (end : Ended) (told_before told_after : Option (NetLists R L)) (counted_before counted : ℕ) : Type 0 where
     pub closed : HouseUnused shown desks disks
-    pub net_is : IfTold told_before told_after (LeavesNet told count)
+    pub net_is : IfTold told_before told_after (LeavesNet told address count)
     pub cause : HouseEnd counted_before counted end
 
   abbrev pub HouseOutcome : List (Opened (BookOf D)) → List HousePassOf → Result Hosted Ended → List D → Option (NetLists R L) → Option (NetLists R L) → ℕ → ℕ → Type 0
@@ -133,7 +137,7 @@ LogsOutcome {D = D} {R = R} books logs (Ok hosted) =
     × (map (λ ends. ends.items) hosted.ends.items ≡ map (λ (log : DoorLog R). log.ends.items) logs)
 LogsOutcome {D = D} {R = R} books logs (Err end) = (end ≡ how.NetFault) × (AllByRecursion (λ (log : DoorLog R). log.failed ≡ false) logs → ⊥)
 
--- how a command ends whose doors the net refuses
+-- how a command ends to which the net refuses its doors, or its link
 abbrev pub net_end : Refusal → Ended
 net_end refusal.Failed = how.NetFault
 net_end refusal.NoMemory = how.NoMemory
@@ -150,7 +154,7 @@ pub record IsSameNet {N : Type 0} (told_before told_after : Option N) (counted_b
   pub told_same : told_after ≡ told_before
   pub counted_same : counted ≡ counted_before
 
-module _ {D R L M : Type 0} (shown : D → DiskShown) (told : R → Option (DoorLinks M)) (faults : R → ℕ) (link_told : M → Option LinkBytes) (link_faults : M → ℕ) (auction : Auction) (count sessions : ℕ) where
+module _ {D R L M : Type 0} (shown : D → DiskShown) (told : R → Option (DoorLinks M)) (faults : R → ℕ) (link_told : M → Option LinkBytes) (link_faults : M → ℕ) (auction : Auction) (address : List ℕ) (count sessions : ℕ) where
   -- A house was opened on these disks, one for each clock, served at doors of the net, and closed. The disks came back in order.
   pub record IsHosted (old disks : List D) (answer : Result Hosted Ended) (told_before told_after : Option (NetLists R L)) (counted_before counted : ℕ) : Type 0 where
     pub disks_count : length disks ≡ length old
@@ -162,8 +166,8 @@ module _ {D R L M : Type 0} (shown : D → DiskShown) (told : R → Option (Door
     pub claimed : (k : ℕ) (d : D) → k < length clocks → IsTrue (shown (slice_index_or disks k d)).claimed
     pub marks : (k : ℕ) (c : ClockRun) (d : D) → k < length clocks → min (marks_in (slice_index_or clocks k c).closed.history) (2 ^ 64 - 1) ≤ (shown (slice_index_or disks k d)).faults
     pub runs : List (DoorRun R M)
-    pub new : BeginNew auction.terms auction.digest clocks runs
-    pub ran : DoorsRan {L = L} told faults link_told link_faults auction count sessions runs told_before told_after
+    pub new : BeginNew clocks runs
+    pub ran : DoorsRan {L = L} told faults link_told link_faults auction address count sessions runs told_before told_after
     pub joins : (k : ℕ) (c : ClockRun) → k < length clocks
         → Joins (slice_index_or clocks k c).opening (slice_index_or clocks k c).closed.history (flat_map turns_of runs) k
     pub answer_is : ServedAnswer (map (λ (c : ClockRun). c.closed.clock) clocks) runs answer counted_before counted
@@ -189,18 +193,18 @@ module _ {D N : Type 0} (shown : D → DiskShown) (terms : Terms) (digest : List
   abbrev pub HostEnd : Type 0
   HostEnd = IsDiskEnd ⊎ (IsRefusedEnd ⊎ HouseEnd counted_before counted end)
 
-module _ {D R L M : Type 0} (shown : D → DiskShown) (told : R → Option (DoorLinks M)) (faults : R → ℕ) (link_told : M → Option LinkBytes) (link_faults : M → ℕ) (auction : Auction) (count sessions : ℕ) where
+module _ {D R L M : Type 0} (shown : D → DiskShown) (told : R → Option (DoorLinks M)) (faults : R → ℕ) (link_told : M → Option LinkBytes) (link_faults : M → ℕ) (auction : Auction) (address : List ℕ) (count sessions : ℕ) where
   -- no house was served on these disks: not all books were opened, or a house of them was closed unused
   pub record IsUnhosted (old disks : List D) (end : Ended) (told_before told_after : Option (NetLists R L)) (counted_before counted : ℕ) : Type 0 where
     pub disks_count : length disks ≡ length old
     pub left : (k : ℕ) (d : D) → k < length old → LeavesDisk shown (owner_of auction.terms k auction.digest) (slice_index_or old k d) (slice_index_or disks k d)
     pub unclaimed : (k : ℕ) (d : D) → k < length old → IsLeftUnlessClaimed (shown (slice_index_or old k d)) (shown (slice_index_or disks k d))
-    pub net_is : IfTold told_before told_after (LeavesNet told count)
+    pub net_is : IfTold told_before told_after (LeavesNet told address count)
     pub cause : HostEnd shown auction.terms auction.digest old disks told_before told_after counted_before counted end
 
   abbrev pub HostOutcome : List D → Result Hosted Ended → List D → Option (NetLists R L) → Option (NetLists R L) → ℕ → ℕ → Type 0
   HostOutcome old (Ok hosted) disks told_before told_after counted_before counted =
-      IsHosted shown told faults link_told link_faults auction count sessions old disks (Ok hosted) told_before told_after counted_before counted
+      IsHosted shown told faults link_told link_faults auction address count sessions old disks (Ok hosted) told_before told_after counted_before counted
   HostOutcome old (Err end) disks told_before told_after counted_before counted =
-      IsHosted shown told faults link_told link_faults auction count sessions old disks (Err end) told_before told_after counted_before counted
+      IsHosted shown told faults link_told link_faults auction address count sessions old disks (Err end) told_before told_after counted_before counted
       ⊎ IsUnhosted old disks end told_before told_after counted_before counted

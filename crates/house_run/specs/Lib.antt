@@ -18,7 +18,6 @@ pub mod Frame
 pub mod Steps
 pub mod Disks
 pub mod ClockRuns
-pub mod DoorsSeen
 pub mod GivingBack
 pub mod Hosting
 pub mod Found

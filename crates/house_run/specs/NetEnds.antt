@@ -22,7 +22,7 @@ NeedsNet needs = Has needs.bid (λ b. ⊤) ⊎ Has needs.serve (λ s. ⊤)
 pub record TalkEnds (shelf : ShelfSeen) (net : NetSeen) (auction values : List ℕ) (b : Bidding) (end : AgentEnd) : Type 0 where
   pub part : Part
   pub plays : PlaysIn shelf auction values b part
-  pub talks : TalksOn net part (Err end)
+  pub talks : TalksOn net b.address part (Err end)
 
 abbrev pub EndsTalking : Needs → ShelfSeen → NetSeen → AgentEnd → Type 0
 EndsTalking needs shelf net end = Has needs.auction (λ auction. Has needs.values (λ values. Has needs.bid (λ b. TalkEnds shelf net auction values b end)))

@@ -1,6 +1,8 @@
 -- What a contract sees of the outside in one call, and what was read of it.
 use Rattle.std.specs.Prelude.{◌≡◌, ◌≤◌, ◌<◌, ℕ, List, [], length, Option, Ok, unwrap_or}
 use Rattle.house_io.specs.Shelves.{NamedFile, IfTells, bytes_of}
+use Rattle.house_io.specs.declared.shelves.Shelf as shelves
+use Rattle.house_io.specs.declared.sinks.Sink as sinks
 use Rattle.auction_file.specs.AuctionFile.{Listing, auction_of}
 use Rattle.report_log.specs.Logs.{AreBytes}
 
@@ -14,22 +16,22 @@ pub record ShelfSeen : Type 0 where
   pub opened_before : List (List ℕ)
   pub opened : List (List ℕ)
 
-abbrev pub shelf_seen : {H : Type 0} → (H → Option (List NamedFile)) → (H → List ℕ → ℕ) → (H → List (List ℕ)) → H → H → ShelfSeen
-shelf_seen files faults opened before after = record {
-  files_before = files before;
-  files = files after;
-  faults_before = faults before;
-  faults = faults after;
-  opened_before = opened before;
-  opened = opened after;
+abbrev pub shelf_seen : {H S D : Type 0} → shelves.Ghosts H S D → H → H → ShelfSeen
+shelf_seen shelf before after = record {
+  files_before = shelf.files before;
+  files = shelf.files after;
+  faults_before = shelf.faults before;
+  faults = shelf.faults after;
+  opened_before = shelf.opened before;
+  opened = shelf.opened after;
 }
 
 -- all of the outside that a command can reach, but for the sink
 pub record Outside : Type 0 where
   pub shelf : ShelfSeen
 
-abbrev pub outside : {H : Type 0} → (H → Option (List NamedFile)) → (H → List ℕ → ℕ) → (H → List (List ℕ)) → H → H → Outside
-outside files faults opened before after = record { shelf = shelf_seen files faults opened before after }
+abbrev pub outside : {H S D : Type 0} → shelves.Ghosts H S D → H → H → Outside
+outside shelf before after = record { shelf = shelf_seen shelf before after }
 
 -- the sink of a call: the bytes written, where they are told, and the count of its faults, as the call began and as it ended
 pub record SinkSeen : Type 0 where
@@ -38,12 +40,12 @@ pub record SinkSeen : Type 0 where
   pub faults_before : ℕ
   pub faults : ℕ
 
-abbrev pub sink_seen : {S : Type 0} → (S → Option (List ℕ)) → (S → ℕ) → S → S → SinkSeen
-sink_seen written faults before after = record {
-  written_before = written before;
-  written = written after;
-  faults_before = faults before;
-  faults = faults after;
+abbrev pub sink_seen : {S : Type 0} → sinks.Ghosts S → S → S → SinkSeen
+sink_seen sink before after = record {
+  written_before = sink.written before;
+  written = sink.written after;
+  faults_before = sink.faults before;
+  faults = sink.faults after;
 }
 
 -- the greatest number of bytes of an auction file

@@ -7,7 +7,7 @@ use Rattle.house_serve.specs.Houses.{DoorRun}
 use Rattle.house_run.specs.Causes.{Tells}
 use Rattle.house_run.specs.ClockRuns.{ClockRun, NoneFailed}
 use Rattle.house_run.specs.Disks.{KeepsOthers}
-use Rattle.house_run.specs.DoorsSeen.{DoorSeen, LinkSeen}
+use Rattle.house_io.specs.NetsShown.{DoorShown, LinkShown}
 use Rattle.house_run.specs.Found.{found}
 use Rattle.house_run.specs.Frame.{OpensInOrder, RisesAmong}
 use Rattle.house_run.specs.Needs.{IsJournal, Needs, nothing_needed}
@@ -28,13 +28,13 @@ pub record ServeDone (auction journals : List ℕ) (s : Serving) (shelf : ShelfS
   pub value : Auction
   pub auction_is : IsAuctionAt (found shelf) auction (listing_of value)
   pub clocks : List ClockRun
-  pub doors : List (DoorRun DoorSeen LinkSeen)
+  pub doors : List (DoorRun DoorShown LinkShown)
   pub served : AuctionServed value journals s shelf net clocks doors
   pub none_failed : NoneFailed doors
-  pub text_is : text ≡ serve_text (map (λ (d : DoorRun DoorSeen LinkSeen). d.log.ends.items) doors) (map (λ (c : ClockRun). c.closed.clock) clocks)
+  pub text_is : text ≡ serve_text (map (λ (d : DoorRun DoorShown LinkShown). d.log.ends.items) doors) (map (λ (c : ClockRun). c.closed.clock) clocks)
 
 -- Whether a door failed, by the end of a command that served. Once it has served it ends in no other way.
-abbrev pub FailedSo : Ended → List (DoorRun DoorSeen LinkSeen) → Type 0
+abbrev pub FailedSo : Ended → List (DoorRun DoorShown LinkShown) → Type 0
 FailedSo how.Done doors = NoneFailed doors
 FailedSo how.NoMemory doors = NoneFailed doors
 FailedSo how.NetFault doors = NoneFailed doors → ⊥
@@ -43,7 +43,7 @@ FailedSo end doors = ⊥
 -- The auction was served, though the command may have ended so.
 pub record ServedThen (value : Auction) (journals : List ℕ) (s : Serving) (end : Ended) (shelf : ShelfSeen) (net : NetSeen) : Type 0 where
   pub clocks : List ClockRun
-  pub doors : List (DoorRun DoorSeen LinkSeen)
+  pub doors : List (DoorRun DoorShown LinkShown)
   pub served : AuctionServed value journals s shelf net clocks doors
   pub failed : FailedSo end doors
 

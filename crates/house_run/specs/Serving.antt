@@ -1,5 +1,5 @@
 -- What serving an auction leaves of its journals and of the net.
-use Rattle.std.specs.Prelude.{◌≡◌, ◌≤◌, ◌<◌, ◌⊎◌, ◌+◌, ◌++◌, ℕ, List, length, map, take, drop, slice_index_or, Option, Result, Ok, Err, IfSome, []}
+use Rattle.std.specs.Prelude.{◌≡◌, ◌≤◌, ◌<◌, ◌⊎◌, ◌+◌, ◌++◌, ◌∷◌, ℕ, List, length, map, take, drop, slice_index_or, Option, Result, Ok, Err, IfSome, []}
 use Rattle.std.specs.List.{AllByRecursion, flat_map}
 use Rattle.house_io.specs.Doors.{DoorLinks}
 use Rattle.house_io.specs.Faults.{raised_by}
@@ -13,29 +13,34 @@ use Rattle.house_serve.specs.Houses.{DoorRun, IsRun, Joins, turns_of}
 use Rattle.house_run.specs.Causes.{FailedAt}
 use Rattle.house_run.specs.ClockRuns.{BeginNew, ClockRun, IsClockRun, IsJournalRun, LeavesJournal}
 use Rattle.house_run.specs.Disks.{IsJournalBelow, KeepsOthers}
-use Rattle.house_run.specs.DoorsSeen.{DoorSeen, LinkSeen}
+use Rattle.house_io.specs.NetsShown.{DoorShown, LinkShown}
 use Rattle.house_run.specs.Found.{told_first}
 use Rattle.house_run.specs.Frame.{RisesAmong}
 use Rattle.house_run.specs.Hosting.{HouseEnd, ServedAnswer}
 use Rattle.house_run.specs.Journals.{IsFirstRefused}
 use Rattle.house_run.specs.Needs.{first_journals, journal_name, with_names}
 use Rattle.command_line.specs.Parts.{Serving}
-use Rattle.house_run.specs.Nets.{NetSeen, NetView, IsNetUntouched}
+use Rattle.house_run.specs.Nets.{NetSeen, IsNetUntouched}
+use Rattle.house_io.specs.NetsShown.{NetView}
 use Rattle.house_run.specs.Seen.{ShelfSeen}
 use Rattle.house_run.specs.declared.ends.Ended.{Ended}
 use Rattle.house_run.specs.declared.ends.Ended.TheVariants as how
 use Rattle.house_run.specs.declared.hosting.Hosted.{Hosted}
 
--- The first doors to come were given, and, in place of those that are missing, doors without links. Each was given back, in order.
-pub record ServesAt (count : ℕ) (given back : List DoorSeen) (before after : NetView) : Type 0 where
-  pub empty : List (Option (DoorLinks LinkSeen))
-  pub given_are : map (λ (door : DoorSeen). door.told) given ≡ take count before.doors ++ empty
-  pub are_empty : AllByRecursion (λ (door : Option (DoorLinks LinkSeen)). IfSome door (λ (d : DoorLinks LinkSeen). d.to_come ≡ [])) empty
-  pub after_is : after ≡ record before { doors = drop count before.doors; closed = before.closed ++ map (λ (door : DoorSeen). door.told) back }
+-- At this address the first doors to come were given, and, in place of those that are missing, doors without links. Each was given back, in
+-- order.
+pub record ServesAt (address : List ℕ) (count : ℕ) (given back : List DoorShown) (before after : NetView) : Type 0 where
+  pub empty : List (Option (DoorLinks LinkShown))
+  pub given_are : map (λ (door : DoorShown). door.told) given ≡ take count before.doors ++ empty
+  pub are_empty : AllByRecursion (λ (door : Option (DoorLinks LinkShown)). IfSome door (λ (d : DoorLinks LinkShown). d.to_come ≡ [])) empty
+  pub after_is : after ≡ record before { doors = drop count before.doors; closed = before.closed ++ map (λ (door : DoorShown). door.told) back; asked = before.asked ++ address ∷ [] }
 
--- The net is as it was, or the doors that it gave went back as they came.
-abbrev pub LeavesNetAt : ℕ → NetView → NetView → Type 0
-LeavesNetAt count before after = (after ≡ before) ⊎ ((given : List DoorSeen) × ServesAt count given given before after)
+-- The net is as it was, or it was asked for doors at this address: it refused them, or the doors that it gave went back as they came.
+abbrev pub LeavesNetAt : List ℕ → ℕ → NetView → NetView → Type 0
+LeavesNetAt address count before after =
+    (after ≡ before)
+    ⊎ ((after ≡ record before { asked = before.asked ++ address ∷ [] })
+    ⊎ ((given : List DoorShown) × ServesAt address count given given before after))
 
 -- The clocks of an auction came to these runs, and their journals to what these say. For each mark a fault was added to the count of the journal.
 pub record ClocksRan (value : Auction) (journals : List ℕ) (shelf : ShelfSeen) (clocks : List ClockRun) : Type 0 where
@@ -45,20 +50,20 @@ pub record ClocksRan (value : Auction) (journals : List ℕ) (shelf : ShelfSeen)
   pub journals_are : IfTells shelf.files (λ after. IfWasTold shelf.files_before (λ before. (k : ℕ) (c : ClockRun) → k < length clocks
       → IsJournalRun (owner_of value.terms k value.digest) (slice_index_or clocks k c) (moments_at before (journal_name journals k)) (moments_at after (journal_name journals k))))
 
--- So many doors of the net served so many sessions each, or failed before.
-pub record DoorsServing (value : Auction) (s : Serving) (net : NetSeen) (doors : List (DoorRun DoorSeen LinkSeen)) : Type 0 where
+-- So many doors of the net at the address that the command names served so many sessions each, or failed before.
+pub record DoorsServing (value : Auction) (s : Serving) (net : NetSeen) (doors : List (DoorRun DoorShown LinkShown)) : Type 0 where
   pub count_is : length doors ≡ s.doors
-  pub each : AllByRecursion (IsRun (λ (d : DoorSeen). d.told) (λ (d : DoorSeen). d.faults) (λ (l : LinkSeen). l.told) (λ (l : LinkSeen). l.faults) value s.sessions) doors
-  pub lists : IfTold net.told_before net.told (ServesAt s.doors (map (λ (d : DoorRun DoorSeen LinkSeen). d.door) doors) (map (λ (d : DoorRun DoorSeen LinkSeen). d.log.door) doors))
+  pub each : AllByRecursion (IsRun (λ (d : DoorShown). d.told) (λ (d : DoorShown). d.faults) (λ (l : LinkShown). l.told) (λ (l : LinkShown). l.faults) value s.sessions) doors
+  pub lists : IfTold net.told_before net.told (ServesAt s.address s.doors (map (λ (d : DoorRun DoorShown LinkShown). d.door) doors) (map (λ (d : DoorRun DoorShown LinkShown). d.log.door) doors))
 
 -- what the turns at all doors come to at each clock
-abbrev pub JoinAll : List (DoorRun DoorSeen LinkSeen) → List ClockRun → Type 0
+abbrev pub JoinAll : List (DoorRun DoorShown LinkShown) → List ClockRun → Type 0
 JoinAll doors clocks = (k : ℕ) (c : ClockRun) → k < length clocks → Joins (slice_index_or clocks k c).opening (slice_index_or clocks k c).closed.history (flat_map turns_of doors) k
 
 -- An auction was served: its clocks came to these runs, and its doors to these, each of which began with new passes of the clocks.
-pub record AuctionServed (value : Auction) (journals : List ℕ) (s : Serving) (shelf : ShelfSeen) (net : NetSeen) (clocks : List ClockRun) (doors : List (DoorRun DoorSeen LinkSeen)) : Type 0 where
+pub record AuctionServed (value : Auction) (journals : List ℕ) (s : Serving) (shelf : ShelfSeen) (net : NetSeen) (clocks : List ClockRun) (doors : List (DoorRun DoorShown LinkShown)) : Type 0 where
   pub ran : ClocksRan value journals shelf clocks
-  pub new : BeginNew value.terms value.digest clocks doors
+  pub new : BeginNew clocks doors
   pub serving : DoorsServing value s net doors
   pub joins : JoinAll doors clocks
 
@@ -74,7 +79,7 @@ pub record KeepsJournals (journals : List ℕ) (count : ℕ) (shelf : ShelfSeen)
 pub record JournalsServed (value : Auction) (journals : List ℕ) (s : Serving) (shelf : ShelfSeen) (net : NetSeen) (answer : Result Hosted Ended) : Type 0 where
   pub keeps : KeepsJournals journals (value.terms.bidders + 1) shelf
   pub clocks : List ClockRun
-  pub doors : List (DoorRun DoorSeen LinkSeen)
+  pub doors : List (DoorRun DoorShown LinkShown)
   pub served : AuctionServed value journals s shelf net clocks doors
   pub answer_is : ServedAnswer (map (λ (c : ClockRun). c.closed.clock) clocks) doors answer net.faults_before net.faults
 
@@ -107,7 +112,7 @@ NotServing value journals shelf net end = JournalFails value journals shelf net 
 -- no auction was served
 pub record AuctionNotServed (value : Auction) (journals : List ℕ) (s : Serving) (shelf : ShelfSeen) (net : NetSeen) (end : Ended) : Type 0 where
   pub left : LeavesAll value journals shelf
-  pub net_is : IfTold net.told_before net.told (LeavesNetAt s.doors)
+  pub net_is : IfTold net.told_before net.told (LeavesNetAt s.address s.doors)
   pub cause : NotServing value journals shelf net end
 
 pub record JournalsNotServed (value : Auction) (journals : List ℕ) (s : Serving) (shelf : ShelfSeen) (net : NetSeen) (end : Ended) : Type 0 where

@@ -147,13 +147,13 @@ pub record StopsBidding (auction values : List ℕ) (b : Bidding) (seen : Outsid
   pub frame : Frame (bid_needs auction values b) end seen
 
 -- why the talk of an agent gives no looks
-abbrev pub IsTalkEnd : NetSeen → Part → Ended → Type 0
-IsTalkEnd net p how.NoMemory = ⊤
-IsTalkEnd net p how.NetFault = Rose net.faults_before net.faults
-IsTalkEnd net p (how.Refused code detail value) = TalksOn net p (Err (agent.Refused code detail value))
-IsTalkEnd net p (how.LooksSpent clock) = TalksOn net p (Err (agent.LooksSpent clock))
-IsTalkEnd net p how.BadReply = TalksOn net p (Err agent.BadReply)
-IsTalkEnd net p end = ⊥
+abbrev pub IsTalkEnd : NetSeen → List ℕ → Part → Ended → Type 0
+IsTalkEnd net address p how.NoMemory = ⊤
+IsTalkEnd net address p how.NetFault = Rose net.faults_before net.faults
+IsTalkEnd net address p (how.Refused code detail value) = TalksOn net address p (Err (agent.Refused code detail value))
+IsTalkEnd net address p (how.LooksSpent clock) = TalksOn net address p (Err (agent.LooksSpent clock))
+IsTalkEnd net address p how.BadReply = TalksOn net address p (Err agent.BadReply)
+IsTalkEnd net address p end = ⊥
 
 abbrev pub talk_end : Result Seen Ended → Ended
 talk_end (Ok seen) = how.Done

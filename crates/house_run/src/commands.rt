@@ -33,9 +33,10 @@ pub(crate) fn job<T: Threads + Wait + Sync, H: Shelf, N: Net>(
     net: &mut N,
 ) -> Result<Vec<u8>, Ended>
     requires { IsReady (command_as command.now) }
-    ensures answer { JobAnswer (command_as command.now) (outside H.files H.faults H.opened shelf.old shelf.new) (net_seen N.told N.Door.told N.Door.Link.told N.Door.Link.faults N.Link.told N.faults net.old net.new) result }
-    ensures frame { CommandFrame (command_as command.now) (end_of result) (outside H.files H.faults H.opened shelf.old shelf.new) (net_seen N.told N.Door.told N.Door.Link.told N.Door.Link.faults N.Link.told N.faults net.old net.new) }
-    ensures net_frame { NetFrame (needs_of (command_as command.now)) (end_of result) (net_seen N.told N.Door.told N.Door.Link.told N.Door.Link.faults N.Link.told N.faults net.old net.new) }
+    ensures answer { JobAnswer (command_as command.now) (outside H.Shelf shelf.old shelf.new) (net_seen N.Net net.old net.new) result }
+    ensures frame { CommandFrame (command_as command.now) (end_of result) (outside H.Shelf shelf.old shelf.new)
+        (net_seen N.Net net.old net.new) }
+    ensures net_frame { NetFrame (needs_of (command_as command.now)) (end_of result) (net_seen N.Net net.old net.new) }
 {
     match command {
         CommandWords::Fold { terms, log } => fold::job(alloc, terms, log, shelf),

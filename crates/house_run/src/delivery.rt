@@ -18,7 +18,7 @@ use valuation::ValuesFault;
 
 /// Writes the text of a job that ended so.
 pub(crate) fn deliver<S: Sink>(out: &mut S, text: &[u8], ended: Ended) -> Ended
-    ensures { Wrote (sink_seen S.written S.faults out.old out.new) ended text.now result }
+    ensures { Wrote (sink_seen S.Sink out.old out.new) ended text.now result }
 {
     match write_whole(out, text) {
         Ok(()) => ended,
@@ -28,14 +28,14 @@ pub(crate) fn deliver<S: Sink>(out: &mut S, text: &[u8], ended: Ended) -> Ended
 
 /// Answers words that are no command. It takes no memory.
 pub fn answer_usage<S: Sink>(out: &mut S) -> Ended
-    ensures { Wrote (sink_seen S.written S.faults out.old out.new) how.Usage (line_of how.Usage) result }
+    ensures { Wrote (sink_seen S.Sink out.old out.new) how.Usage (line_of how.Usage) result }
 {
     deliver(out, b"usage\n", Ended::Usage)
 }
 
 /// Writes the line of a job that was not done. One without a number takes no memory.
 pub(crate) fn deliver_line<S: Sink>(alloc: Global, out: &mut S, ended: Ended) -> Ended
-    ensures { WroteLine (sink_seen S.written S.faults out.old out.new) ended result }
+    ensures { WroteLine (sink_seen S.Sink out.old out.new) ended result }
 {
     match plain_line(&ended) {
         Some(line) => deliver(out, line, ended),
@@ -202,7 +202,7 @@ fn not_prefix_line(alloc: Global, clock: u8, number: u32) -> Result<String, Allo
     Ok(line)
 }
 
-fn target_full_line(alloc: Global, clock: u8, needed: u64) -> Result<String, AllocError>
+fn target_full_line(alloc: Global, clock: u8, needed: u32) -> Result<String, AllocError>
     ensures { IfOk result (λ line. string_bytes line ≡ line_of (how.TargetFull clock needed)) }
 {
     let line = format!(in alloc; "target full clock {clock} needed {needed}\n")?;

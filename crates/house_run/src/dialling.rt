@@ -9,10 +9,11 @@ ghost use Rattle.house_run.specs.Nets.{net_seen};
 ghost use Rattle.house_run.specs.Steps.{IsTalkEnd, NetCounts, talk_end};
 
 use crate::ends::Ended;
+use crate::hosting::net_end;
 use crate::markets::Bidders;
 use bidder_agent::{AgentEnd, Seen, Wants, agree};
 use command_line::Bidding;
-use house_io::{Link, Net, Refusal};
+use house_io::{Link, Net};
 use std::alloc::Global;
 
 /// Dials a link, takes the bidder's part over it, and hangs it up.
@@ -25,15 +26,17 @@ pub(crate) fn talk<N: Net>(
     requires playable { IsPlayable (bidding_as bidding.now) }
     requires bidder { bidding.now.bidder ≤ market.now.auction.terms.bidders }
     requires valuations { AreValuationsOf market.now.auction.terms market.now.valuations.items }
-    ensures talks { IfOk result (λ seen. TalksOn (net_seen N.told N.Door.told N.Door.Link.told N.Door.Link.faults N.Link.told N.faults net.old net.new) (part_in market.now.auction.terms market.now.valuations.items (bidding_as bidding.now)) (Ok seen)) }
-    ensures ends { IfErr result (IsTalkEnd (net_seen N.told N.Door.told N.Door.Link.told N.Door.Link.faults N.Link.told N.faults net.old net.new) (part_in market.now.auction.terms market.now.valuations.items (bidding_as bidding.now))) }
-    ensures left { IfErr result (LeavesTalk (net_seen N.told N.Door.told N.Door.Link.told N.Door.Link.faults N.Link.told N.faults net.old net.new) (part_in market.now.auction.terms market.now.valuations.items (bidding_as bidding.now))) }
-    ensures counts { NetCounts (talk_end result) (net_seen N.told N.Door.told N.Door.Link.told N.Door.Link.faults N.Link.told N.faults net.old net.new) }
+    ensures talks { IfOk result (λ seen. TalksOn (net_seen N.Net net.old net.new) (bidding_as bidding.now).address
+        (part_in market.now.auction.terms market.now.valuations.items (bidding_as bidding.now)) (Ok seen)) }
+    ensures ends { IfErr result (IsTalkEnd (net_seen N.Net net.old net.new) (bidding_as bidding.now).address
+        (part_in market.now.auction.terms market.now.valuations.items (bidding_as bidding.now))) }
+    ensures left { IfErr result (LeavesTalk (net_seen N.Net net.old net.new) (bidding_as bidding.now).address
+        (part_in market.now.auction.terms market.now.valuations.items (bidding_as bidding.now))) }
+    ensures counts { NetCounts (talk_end result) (net_seen N.Net net.old net.new) }
 {
     let mut link = match net.dial(alloc, bidding.address) {
         Ok(link) => link,
-        Err(Refusal::Failed) => return Err(Ended::NetFault),
-        Err(Refusal::NoMemory) => return Err(Ended::NoMemory),
+        Err(refusal) => return Err(net_end(refusal)),
     };
     let answer = play(alloc, market, bidding, &mut link);
     net.hang_up(link);
@@ -53,7 +56,8 @@ fn play<L: Link>(
     requires playable { IsPlayable (bidding_as bidding.now) }
     requires bidder { bidding.now.bidder ≤ market.now.auction.terms.bidders }
     requires valuations { AreValuationsOf market.now.auction.terms market.now.valuations.items }
-    ensures talk { Agrees (part_in market.now.auction.terms market.now.valuations.items (bidding_as bidding.now)) (L.told link.old) (L.told link.new) result }
+    ensures talk { Agrees (part_in market.now.auction.terms market.now.valuations.items (bidding_as bidding.now)) (L.told link.old)
+        (L.told link.new) result }
     ensures cause { HasCauseOf (L.faults link.old) (L.faults link.new) result }
 {
     let auction = &market.auction;

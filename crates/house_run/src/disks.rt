@@ -36,9 +36,9 @@ pub(crate) fn open_journals<H: Shelf>(
     ensures count { IfOk result (λ disks. length disks.items ≡ length names.now) }
     ensures opened { IfOk result (λ _. AreOpened names.now (H.opened shelf.new)) }
     ensures open { IfOk result (λ disks. (journals : List ℕ) → AreNames journals names.now
-        → AreOpen H.Disk.Disk.shown journals disks.items (shelf_seen H.files H.faults H.opened shelf.old shelf.new)) }
+        → AreOpen H.Disk.Disk.shown journals disks.items (shelf_seen H.Shelf shelf.old shelf.new)) }
     ensures refused { IfErr result (λ unread. (journals : List ℕ) → AreNames journals names.now
-        → AreNotOpen journals (length names.now) unread.clock unread.fault (shelf_seen H.files H.faults H.opened shelf.old shelf.new)) }
+        → AreNotOpen journals (length names.now) unread.clock unread.fault (shelf_seen H.Shelf shelf.old shelf.new)) }
 {
     let Ok(mut disks) = Vec::with_capacity(alloc, names.len()) else {
         return Err(Unread {
@@ -77,7 +77,7 @@ pub(crate) fn close_journals<H: Shelf>(shelf: &mut H, names: &[String], disks: V
     requires few { length names.now ≤ 13 }
     requires opened { AreOpened names.now (H.opened shelf.old) }
     ensures { (journals : List ℕ) → AreNames journals names.now
-        → AreGivenBack H.Disk.Disk.shown journals disks.items (shelf_seen H.files H.faults H.opened shelf.old shelf.new) }
+        → AreGivenBack H.Disk.Disk.shown journals disks.items (shelf_seen H.Shelf shelf.old shelf.new) }
 {
     let mut rest = disks;
     rest.reverse();

@@ -1,7 +1,8 @@
 //! How a run ends.
 ghost use Rattle.std.specs.Prelude.{◌≡◌};
-ghost use Rattle.house_run.specs.Status.{cause_number, number_of, record_of, refusal_number, status_of, values_number};
+ghost use Rattle.house_run.specs.Status.{cause_number, end_at, number_of, record_of, refusal_number, status_of, values_number};
 
+use crate::journals::Unread;
 use auction_file::AuctionFault;
 use clock_book::OpenFault;
 use lot_base::Bundle;
@@ -95,7 +96,7 @@ pub enum Ended {
     /// The next record of this clock's target would end at `needed`, behind 67,108,864.
     TargetFull {
         clock: u8,
-        needed: u64,
+        needed: u32,
     },
     /// This clock's target is refused for this fault, the first one that is.
     BadTarget {
@@ -187,6 +188,20 @@ pub(crate) fn record_of(fault: &OpenFault) -> u32
         OpenFault::Broken(broken) => broken.number,
         OpenFault::NotAcceptable { number, .. } => *number,
         OpenFault::DiskFault | OpenFault::NoMemory => 0,
+    }
+}
+
+/// How a command ends that can't read all journals.
+pub(crate) fn end_at(unread: Unread) -> Ended
+    ensures { result ≡ end_at unread.clock unread.fault }
+{
+    match unread.fault {
+        OpenFault::DiskFault => Ended::DiskFault(unread.clock),
+        OpenFault::NoMemory => Ended::NoMemory,
+        fault => Ended::BadJournal {
+            clock: unread.clock,
+            fault,
+        },
     }
 }
 

@@ -35,7 +35,7 @@ pub(crate) fn read_file<H: Shelf>(
     ensures short { IfOk result (λ v. length v.items ≤ limit) }
     ensures failed { result ≡ Err ReadWhole.Failed → Rose (H.faults shelf.old name.now) (H.faults shelf.new name.now) }
     ensures quiet { (result ≡ Err ReadWhole.Failed → ⊥) → (other : List ℕ) → H.faults shelf.new other ≡ H.faults shelf.old other }
-    ensures reads { OnlyReads name.now (shelf_seen H.files H.faults H.opened shelf.old shelf.new) }
+    ensures reads { OnlyReads name.now (shelf_seen H.Shelf shelf.old shelf.new) }
     ensures opened { OnOk result (H.opened shelf.new ≡ with_name name.now (H.opened shelf.old)) }
     ensures long { result ≡ Err ReadWhole.TooLong → IfTells (H.files shelf.new) (λ files. limit < length (content files name.now)) }
 {
@@ -55,11 +55,11 @@ pub(crate) fn read_auction<H: Shelf>(
     shelf: &mut H,
     name: &str,
 ) -> Result<Auction, Ended>
-    ensures read { IfOk result (λ auction. IsAuctionAt (shelf_seen H.files H.faults H.opened shelf.old shelf.new) name.now (listing_of auction)) }
-    ensures steady { IfOk result (λ _. IsSteady (shelf_seen H.files H.faults H.opened shelf.old shelf.new)) }
-    ensures refused { IfErr result (λ end. EndsAtAuction name.now (outside H.files H.faults H.opened shelf.old shelf.new) end) }
+    ensures read { IfOk result (λ auction. IsAuctionAt (shelf_seen H.Shelf shelf.old shelf.new) name.now (listing_of auction)) }
+    ensures steady { IfOk result (λ _. IsSteady (shelf_seen H.Shelf shelf.old shelf.new)) }
+    ensures refused { IfErr result (λ end. EndsAtAuction name.now (outside H.Shelf shelf.old shelf.new) end) }
     ensures opened { OnOk result (H.opened shelf.new ≡ with_name name.now (H.opened shelf.old)) }
-    ensures reads { OnlyReads name.now (shelf_seen H.files H.faults H.opened shelf.old shelf.new) }
+    ensures reads { OnlyReads name.now (shelf_seen H.Shelf shelf.old shelf.new) }
 {
     let bytes = match read_file(alloc, shelf, name, AUCTION_LIMIT) {
         Ok(bytes) => bytes,
@@ -90,12 +90,12 @@ pub(crate) fn read_values<H: Shelf>(
     name: &str,
     terms: &Terms,
 ) -> Result<Vec<Valuation>, Ended>
-    ensures read { IfOk result (λ v. HasValues (shelf_seen H.files H.faults H.opened shelf.old shelf.new) terms.now name.now v.items) }
+    ensures read { IfOk result (λ v. HasValues (shelf_seen H.Shelf shelf.old shelf.new) terms.now name.now v.items) }
     ensures valuations { IfOk result (λ v. AreValuationsOf terms.now v.items) }
-    ensures steady { IfOk result (λ _. IsSteady (shelf_seen H.files H.faults H.opened shelf.old shelf.new)) }
-    ensures refused { IfErr result (EndsAtValues terms.now name.now (shelf_seen H.files H.faults H.opened shelf.old shelf.new)) }
+    ensures steady { IfOk result (λ _. IsSteady (shelf_seen H.Shelf shelf.old shelf.new)) }
+    ensures refused { IfErr result (EndsAtValues terms.now name.now (shelf_seen H.Shelf shelf.old shelf.new)) }
     ensures opened { OnOk result (H.opened shelf.new ≡ with_name name.now (H.opened shelf.old)) }
-    ensures reads { OnlyReads name.now (shelf_seen H.files H.faults H.opened shelf.old shelf.new) }
+    ensures reads { OnlyReads name.now (shelf_seen H.Shelf shelf.old shelf.new) }
 {
     let bytes = match read_file(alloc, shelf, name, VALUES_LIMIT) {
         Ok(bytes) => bytes,
@@ -114,7 +114,8 @@ pub(crate) fn read_values<H: Shelf>(
 fn values_in(alloc: Global, terms: &Terms, bytes: &[u8]) -> Result<Vec<Valuation>, ValuesFault>
     ensures says { IfOk result (λ v. values_of terms.now.goods terms.now.bidders terms.now.ceiling bytes.now ≡ Ok v.items) }
     ensures valuations { IfOk result (λ v. AreValuationsOf terms.now v.items) }
-    ensures refused { IfErr result (λ fault. fault ≢ ValuesFault.NoMemory → values_of terms.now.goods terms.now.bidders terms.now.ceiling bytes.now ≡ Err fault) }
+    ensures refused { IfErr result (λ fault. fault ≢ ValuesFault.NoMemory
+        → values_of terms.now.goods terms.now.bidders terms.now.ceiling bytes.now ≡ Err fault) }
     ensures bytes { AreBytes bytes.now }
 {
     valuation::read(alloc, terms, bytes)

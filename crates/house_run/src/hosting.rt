@@ -9,9 +9,8 @@ ghost use Rattle.house_io.specs.Nets.{GivesDoors};
 ghost use Rattle.house_run.specs.GivingBack.{TakesAll, raised_by_all};
 ghost use Rattle.house_run.specs.Hosting.{HostOutcome, HouseOutcome, HouseUnused, IsRoom, LogsOutcome, net_end};
 
-use crate::ends::Ended;
+use crate::ends::{Ended, end_at};
 use crate::giving_back::{close_doors, close_logs, has_failed, take_apart};
-use crate::house::end_at;
 use crate::journals::Unread;
 use auction_file::Auction;
 use clock::Clock;
@@ -57,8 +56,8 @@ fn reserve<D>(alloc: Global, clocks: usize, doors: usize) -> Result<Room<D>, NoM
     })
 }
 
-/// How a command ends whose doors the net refuses.
-fn net_end(refusal: Refusal) -> Ended
+/// How a command ends to which the net refuses its doors, or its link.
+pub(crate) fn net_end(refusal: Refusal) -> Ended
     ensures { result ≡ net_end refusal }
 {
     match refusal {
@@ -129,8 +128,11 @@ fn host_doors<T: Threads + Wait + Sync, D: Disk + Send, N: Net>(
     requires doors { (length doors.items ≡ length passes.items) × AllByRecursion (λ door. N.Door.Door.faults door ≡ 0) doors.items }
     requires sessions { (1 ≤ sessions) × (sessions ≤ 10000) }
     requires room { IsRoom (length house.desks) (length doors.items) room }
-    ensures { (before : _) → IfTold before (N.told net.old) (GivesDoors N.Door.Door.told (length doors.items) doors.items)
-        → HouseOutcome D.shown N.Door.Door.told N.Door.Door.faults N.Door.Link.Link.told N.Door.Link.Link.faults auction.now (length doors.items) sessions house.desks passes.items result.0 result.1.items before (N.told net.new) (N.faults net.old) (N.faults net.new) }
+    ensures { (before : _) (address : _)
+        → IfTold before (N.told net.old) (GivesDoors N.Door.Door.told address (length doors.items) doors.items)
+        → HouseOutcome D.shown N.Door.Door.told N.Door.Door.faults N.Door.Link.Link.told N.Door.Link.Link.faults auction.now address
+        (length doors.items) sessions house.desks passes.items result.0 result.1.items before (N.told net.new) (N.faults net.old)
+        (N.faults net.new) }
 {
     match serve(rt, alloc, auction, house, passes, doors, sessions) {
         Ok(served) => {
@@ -168,7 +170,9 @@ fn host_house<T: Threads + Wait + Sync, D: Disk + Send, N: Net>(
     requires doors { length passes.items ≡ doors }
     requires sessions { (1 ≤ sessions) × (sessions ≤ 10000) }
     requires room { IsRoom (length house.desks) doors room }
-    ensures { HouseOutcome D.shown N.Door.Door.told N.Door.Door.faults N.Door.Link.Link.told N.Door.Link.Link.faults auction.now doors sessions house.desks passes.items result.0 result.1.items (N.told net.old) (N.told net.new) (N.faults net.old) (N.faults net.new) }
+    ensures { HouseOutcome D.shown N.Door.Door.told N.Door.Door.faults N.Door.Link.Link.told N.Door.Link.Link.faults auction.now address.now
+        doors sessions house.desks passes.items result.0 result.1.items (N.told net.old) (N.told net.new) (N.faults net.old)
+        (N.faults net.new) }
 {
     match net.doors(alloc, address, doors) {
         Ok(doors) => host_doors(
@@ -192,7 +196,8 @@ pub(crate) fn host<T: Threads + Wait + Sync, D: Disk + Send, N: Net>(
     requires disks { length disks.items ≡ auction.now.terms.bidders + 1 }
     requires doors { (1 ≤ doors) × (doors ≤ 64) }
     requires sessions { (1 ≤ sessions) × (sessions ≤ 10000) }
-    ensures { HostOutcome D.shown N.Door.Door.told N.Door.Door.faults N.Door.Link.Link.told N.Door.Link.Link.faults auction.now doors sessions disks.items result.0 result.1.items (N.told net.old) (N.told net.new) (N.faults net.old) (N.faults net.new) }
+    ensures { HostOutcome D.shown N.Door.Door.told N.Door.Door.faults N.Door.Link.Link.told N.Door.Link.Link.faults auction.now address.now
+        doors sessions disks.items result.0 result.1.items (N.told net.old) (N.told net.new) (N.faults net.old) (N.faults net.new) }
 {
     let Ok(room) = reserve(alloc, disks.len(), doors as usize) else {
         return (Err(Ended::NoMemory), disks);

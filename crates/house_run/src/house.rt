@@ -3,21 +3,19 @@ ghost use Rattle.std.specs.Prelude.{◌≡◌, IfOk, IfErr};
 ghost use Rattle.clock.specs.Reports.{histories};
 ghost use Rattle.house_run.specs.Journals.{AreHistories};
 ghost use Rattle.house_run.specs.Seen.{outside, shelf_seen};
-ghost use Rattle.house_run.specs.Status.{end_at};
 ghost use Rattle.house_run.specs.Steps.{EndsAtJournals, ReadsJournals};
 
-use crate::ends::Ended;
+use crate::ends::{Ended, end_at};
 use crate::files::read_auction;
-use crate::journals::{Unread, read_clocks};
+use crate::journals::read_clocks;
 use clock::Clock;
-use clock_book::OpenFault;
 use house_io::Shelf;
 use lot_base::Terms;
 use std::alloc::Global;
 
 /// What the file of an auction and the journals of its clocks say.
 #[derive(Drop)]
-pub(crate) struct House {
+pub(crate) struct AuctionClocks {
     /// Those of the file.
     pub terms: Terms,
     /// The clocks in the order of their numbers.
@@ -30,34 +28,21 @@ pub(crate) fn read_house<H: Shelf>(
     shelf: &mut H,
     auction: &str,
     journals: &str,
-) -> Result<House, Ended>
-    ensures read { IfOk result (λ house. AreHistories (shelf_seen H.files H.faults H.opened shelf.old shelf.new) auction.now journals.now house.terms (histories house.clocks.items)) }
-    ensures frame { IfOk result (λ _. ReadsJournals auction.now journals.now (outside H.files H.faults H.opened shelf.old shelf.new)) }
-    ensures ends { IfErr result (EndsAtJournals auction.now journals.now (outside H.files H.faults H.opened shelf.old shelf.new)) }
+) -> Result<AuctionClocks, Ended>
+    ensures read { IfOk result (λ house. AreHistories (shelf_seen H.Shelf shelf.old shelf.new) auction.now journals.now house.terms
+        (histories house.clocks.items)) }
+    ensures frame { IfOk result (λ _. ReadsJournals auction.now journals.now (outside H.Shelf shelf.old shelf.new)) }
+    ensures ends { IfErr result (EndsAtJournals auction.now journals.now (outside H.Shelf shelf.old shelf.new)) }
 {
     let auction = match read_auction(alloc, shelf, auction) {
         Ok(auction) => auction,
         Err(ended) => return Err(ended),
     };
     match read_clocks(alloc, shelf, journals, &auction.terms, &auction.digest) {
-        Ok(clocks) => Ok(House {
+        Ok(clocks) => Ok(AuctionClocks {
             terms: auction.terms,
             clocks,
         }),
         Err(unread) => Err(end_at(unread)),
-    }
-}
-
-/// How a command ends that can't read all journals.
-pub(crate) fn end_at(unread: Unread) -> Ended
-    ensures { result ≡ end_at unread.clock unread.fault }
-{
-    match unread.fault {
-        OpenFault::DiskFault => Ended::DiskFault(unread.clock),
-        OpenFault::NoMemory => Ended::NoMemory,
-        fault => Ended::BadJournal {
-            clock: unread.clock,
-            fault,
-        },
     }
 }

@@ -30,12 +30,14 @@ pub(crate) fn read_clocks<H: Shelf>(
     terms: &Terms,
     digest: &[u8; 32],
 ) -> Result<Vec<Clock>, Unread>
-    ensures read { IfOk result (λ clocks. AreFromJournals (H.files shelf.new) terms.now digest.now journals.now (terms.now.bidders + 1) (histories clocks.items)) }
-    ensures done { IfOk result (λ _. SyncsFirst journals.now (terms.now.bidders + 1) (shelf_seen H.files H.faults H.opened shelf.old shelf.new)) }
-    ensures steady { IfOk result (λ _. IsSteady (shelf_seen H.files H.faults H.opened shelf.old shelf.new)) }
+    ensures read { IfOk result (λ clocks. AreFromJournals (H.files shelf.new) terms.now digest.now journals.now (terms.now.bidders + 1)
+        (histories clocks.items)) }
+    ensures done { IfOk result (λ _. SyncsFirst journals.now (terms.now.bidders + 1) (shelf_seen H.Shelf shelf.old shelf.new)) }
+    ensures steady { IfOk result (λ _. IsSteady (shelf_seen H.Shelf shelf.old shelf.new)) }
     ensures clock { IfErr result (λ unread. unread.clock ≤ terms.now.bidders) }
-    ensures ends { IfErr result (λ unread. EndsAtJournal (shelf_seen H.files H.faults H.opened shelf.old shelf.new) terms.now digest.now journals.now unread.clock unread.fault) }
-    ensures synced { IfErr result (λ _. SyncsJournals journals.now (terms.now.bidders + 1) (shelf_seen H.files H.faults H.opened shelf.old shelf.new)) }
+    ensures ends { IfErr result (λ unread. EndsAtJournal (shelf_seen H.Shelf shelf.old shelf.new) terms.now digest.now journals.now
+        unread.clock unread.fault) }
+    ensures synced { IfErr result (λ _. SyncsJournals journals.now (terms.now.bidders + 1) (shelf_seen H.Shelf shelf.old shelf.new)) }
 {
     let count = terms.bidders + 1;
     let mut clocks = Vec::new(alloc);
@@ -68,10 +70,11 @@ fn read_journal<H: Shelf>(
 ) -> Result<Clock, OpenFault>
     requires { clock ≤ terms.now.bidders }
     ensures read { IfOk result (λ c. IsReadAt (H.files shelf.new) terms.now digest.now (journal_name journals.now clock) clock c.history) }
-    ensures step { OnlySyncs (journal_name journals.now clock) (shelf_seen H.files H.faults H.opened shelf.old shelf.new) }
+    ensures step { OnlySyncs (journal_name journals.now clock) (shelf_seen H.Shelf shelf.old shelf.new) }
     ensures opened { OnOk result (H.opened shelf.new ≡ with_name (journal_name journals.now clock) (H.opened shelf.old)) }
-    ensures steady { OnOk result (IsSteady (shelf_seen H.files H.faults H.opened shelf.old shelf.new)) }
-    ensures refused { IfErr result (IsUnread (shelf_seen H.files H.faults H.opened shelf.old shelf.new) terms.now digest.now (journal_name journals.now clock) clock) }
+    ensures steady { OnOk result (IsSteady (shelf_seen H.Shelf shelf.old shelf.new)) }
+    ensures refused { IfErr result (IsUnread (shelf_seen H.Shelf shelf.old shelf.new) terms.now digest.now (journal_name journals.now clock)
+        clock) }
 {
     let name = match name_of(alloc, journals, clock) {
         Ok(name) => name,
@@ -101,10 +104,10 @@ fn read_named<H: Shelf>(
 ) -> Result<Clock, OpenFault>
     requires { clock ≤ terms.now.bidders }
     ensures read { IfOk result (λ c. IsReadAt (H.files shelf.new) terms.now digest.now name.now clock c.history) }
-    ensures step { OnlySyncs name.now (shelf_seen H.files H.faults H.opened shelf.old shelf.new) }
+    ensures step { OnlySyncs name.now (shelf_seen H.Shelf shelf.old shelf.new) }
     ensures opened { OnOk result (H.opened shelf.new ≡ with_name name.now (H.opened shelf.old)) }
-    ensures steady { OnOk result (IsSteady (shelf_seen H.files H.faults H.opened shelf.old shelf.new)) }
-    ensures refused { IfErr result (IsUnread (shelf_seen H.files H.faults H.opened shelf.old shelf.new) terms.now digest.now name.now clock) }
+    ensures steady { OnOk result (IsSteady (shelf_seen H.Shelf shelf.old shelf.new)) }
+    ensures refused { IfErr result (IsUnread (shelf_seen H.Shelf shelf.old shelf.new) terms.now digest.now name.now clock) }
 {
     let mut disk = match shelf.disk(alloc, name) {
         Ok(disk) => disk,

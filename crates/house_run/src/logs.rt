@@ -19,10 +19,10 @@ pub(crate) fn read_log<H: Shelf>(
     shelf: &mut H,
     name: &str,
 ) -> Result<Clock, LogFault>
-    ensures read { ReadsLogAt terms.now result (shelf_seen H.files H.faults H.opened shelf.old shelf.new) name.now }
+    ensures read { ReadsLogAt terms.now result (shelf_seen H.Shelf shelf.old shelf.new) name.now }
     ensures failed { result ≡ Err LogFault.Failed → Rose (H.faults shelf.old name.now) (H.faults shelf.new name.now) }
     ensures quiet { (result ≡ Err LogFault.Failed → ⊥) → (other : List ℕ) → H.faults shelf.new other ≡ H.faults shelf.old other }
-    ensures reads { OnlyReads name.now (shelf_seen H.files H.faults H.opened shelf.old shelf.new) }
+    ensures reads { OnlyReads name.now (shelf_seen H.Shelf shelf.old shelf.new) }
     ensures opened { OnOk result (H.opened shelf.new ≡ with_name name.now (H.opened shelf.old)) }
 {
     let mut source = match shelf.source(alloc, name) {

@@ -39,10 +39,10 @@ pub(crate) fn read_market<H: Shelf>(
     auction: &str,
     values: &str,
 ) -> Result<Market, Ended>
-    ensures read { IfOk result (λ m. IsMarketAt (shelf_seen H.files H.faults H.opened shelf.old shelf.new) auction.now values.now m.terms m.valuations.items) }
+    ensures read { IfOk result (λ m. IsMarketAt (shelf_seen H.Shelf shelf.old shelf.new) auction.now values.now m.terms m.valuations.items) }
     ensures valuations { IfOk result (λ m. AreValuationsOf m.terms m.valuations.items) }
-    ensures frame { IfOk result (λ _. (end : End) → Frame (trial_needs auction.now values.now) end (outside H.files H.faults H.opened shelf.old shelf.new)) }
-    ensures ends { IfErr result (LeavesSo (trial_needs auction.now values.now) (outside H.files H.faults H.opened shelf.old shelf.new)) }
+    ensures frame { IfOk result (λ _. (end : End) → Frame (trial_needs auction.now values.now) end (outside H.Shelf shelf.old shelf.new)) }
+    ensures ends { IfErr result (LeavesSo (trial_needs auction.now values.now) (outside H.Shelf shelf.old shelf.new)) }
 {
     let auction = match read_auction(alloc, shelf, auction) {
         Ok(auction) => auction,
@@ -74,11 +74,14 @@ pub(crate) fn read_bidders<H: Shelf>(
     values: &str,
     bidder: u8,
 ) -> Result<Bidders, Ended>
-    ensures read { IfOk result (λ m. IsMarketAt (shelf_seen H.files H.faults H.opened shelf.old shelf.new) auction.now values.now m.auction.terms m.valuations.items) }
+    ensures read { IfOk result (λ m. IsMarketAt (shelf_seen H.Shelf shelf.old shelf.new) auction.now values.now m.auction.terms
+        m.valuations.items) }
     ensures valuations { IfOk result (λ m. AreValuationsOf m.auction.terms m.valuations.items) }
     ensures bidder { IfOk result (λ m. bidder ≤ m.auction.terms.bidders) }
-    ensures frame { IfOk result (λ _. (b : Bidding) (end : End) → Frame (bid_needs auction.now values.now b) end (outside H.files H.faults H.opened shelf.old shelf.new)) }
-    ensures ends { IfErr result (λ end. (b : Bidding) → b.bidder ≡ bidder → StopsBidding auction.now values.now b (outside H.files H.faults H.opened shelf.old shelf.new) end) }
+    ensures frame { IfOk result (λ _. (b : Bidding) (end : End)
+        → Frame (bid_needs auction.now values.now b) end (outside H.Shelf shelf.old shelf.new)) }
+    ensures ends { IfErr result (λ end. (b : Bidding) → b.bidder ≡ bidder
+        → StopsBidding auction.now values.now b (outside H.Shelf shelf.old shelf.new) end) }
 {
     let auction = match read_auction(alloc, shelf, auction) {
         Ok(auction) => auction,

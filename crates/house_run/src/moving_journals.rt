@@ -6,8 +6,7 @@ ghost use Rattle.house_run.specs.MovingJournals.{MovesJournals, move_end, target
 ghost use Rattle.house_run.specs.Seen.{shelf_seen};
 
 use crate::disks::{close_journals, journal_names, open_journals};
-use crate::ends::Ended;
-use crate::house::end_at;
+use crate::ends::{Ended, end_at};
 use auction_file::Auction;
 use clock::Clock;
 use clock_book::OpenFault;
@@ -24,7 +23,7 @@ pub(crate) fn move_to<H: Shelf>(
     shelf: &mut H,
 ) -> Result<(), Ended>
     requires clocks { AreClocksAs auction.now.terms (histories clocks.now) }
-    ensures { MovesJournals auction.now (histories clocks.now) target.now (shelf_seen H.files H.faults H.opened shelf.old shelf.new) result }
+    ensures { MovesJournals auction.now (histories clocks.now) target.now (shelf_seen H.Shelf shelf.old shelf.new) result }
 {
     let Ok(names) = journal_names(alloc, target, auction.terms.bidders + 1) else {
         return Err(Ended::NoMemory);

@@ -31,11 +31,14 @@ pub fn run<T: Threads + Wait + Sync, H: Shelf, S: Sink, N: Net>(
     out: &mut S,
     net: &mut N,
 ) -> Ended
-    ensures ends { RunEnds (words_of words.now) (outside H.files H.faults H.opened shelf.old shelf.new) (net_seen N.told N.Door.told N.Door.Link.told N.Door.Link.faults N.Link.told N.faults net.old net.new) (sink_seen S.written S.faults out.old out.new) result }
+    ensures ends { RunEnds (words_of words.now) (outside H.Shelf shelf.old shelf.new) (net_seen N.Net net.old net.new)
+        (sink_seen S.Sink out.old out.new) result }
 
     // A command over good files is done where no call on them, on the sink or on the net fails and nobody on the net ends it, or memory runs out.
-    ensures complete { (command : Command) (files : List NamedFile) → Spells command (words_of words.now) → (as_seen command (outside H.files H.faults H.opened shelf.old shelf.new)).shelf.files ≡ Some files → AreGood (needs_of command) files
-        → NothingFailed (needs_of command) files (as_seen command (outside H.files H.faults H.opened shelf.old shelf.new)) (net_seen N.told N.Door.told N.Door.Link.told N.Door.Link.faults N.Link.told N.faults net.old net.new) (sink_seen S.written S.faults out.old out.new) → IsDoneOrNoMemory result }
+    ensures complete { (command : Command) (files : List NamedFile) → Spells command (words_of words.now)
+        → (as_seen command (outside H.Shelf shelf.old shelf.new)).shelf.files ≡ Some files → AreGood (needs_of command) files
+        → NothingFailed (needs_of command) files (as_seen command (outside H.Shelf shelf.old shelf.new)) (net_seen N.Net net.old net.new)
+        (sink_seen S.Sink out.old out.new) → IsDoneOrNoMemory result }
 {
     run_words(rt, alloc, words, shelf, out, net)
 }
@@ -49,7 +52,8 @@ fn run_words<T: Threads + Wait + Sync, H: Shelf, S: Sink, N: Net>(
     out: &mut S,
     net: &mut N,
 ) -> Ended
-    ensures { RunEnds (words_of words.now) (outside H.files H.faults H.opened shelf.old shelf.new) (net_seen N.told N.Door.told N.Door.Link.told N.Door.Link.faults N.Link.told N.faults net.old net.new) (sink_seen S.written S.faults out.old out.new) result }
+    ensures { RunEnds (words_of words.now) (outside H.Shelf shelf.old shelf.new) (net_seen N.Net net.old net.new)
+        (sink_seen S.Sink out.old out.new) result }
 {
     match join_words(alloc, words) {
         Ok(Some(joined)) => run_joined(rt, alloc, &joined, shelf, out, net),
@@ -68,7 +72,8 @@ fn run_joined<T: Threads + Wait + Sync, H: Shelf, S: Sink, N: Net>(
     net: &mut N,
 ) -> Ended
     requires joined { (words : List (List ℕ)) × IsJoined words joined.now.name.now (words_of joined.now.words.items) }
-    ensures { (words : List (List ℕ)) → IsJoined words joined.now.name.now (words_of joined.now.words.items) → RunEnds words (outside H.files H.faults H.opened shelf.old shelf.new) (net_seen N.told N.Door.told N.Door.Link.told N.Door.Link.faults N.Link.told N.faults net.old net.new) (sink_seen S.written S.faults out.old out.new) result }
+    ensures { (words : List (List ℕ)) → IsJoined words joined.now.name.now (words_of joined.now.words.items)
+        → RunEnds words (outside H.Shelf shelf.old shelf.new) (net_seen N.Net net.old net.new) (sink_seen S.Sink out.old out.new) result }
 {
     match part_words(alloc, joined) {
         Ok(parted) => run_parted(rt, alloc, &parted, shelf, out, net),
@@ -86,8 +91,10 @@ fn run_parted<T: Threads + Wait + Sync, H: Shelf, S: Sink, N: Net>(
     net: &mut N,
 ) -> Ended
     requires plain { All (λ word. IsPlainWord word.now) parted.now.plain.items }
-    requires some { (words : List (List ℕ)) × IsParted words parted.now.name.now (texts parted.now.plain.items) (texts parted.now.options.items) }
-    ensures { (words : List (List ℕ)) → IsParted words parted.now.name.now (texts parted.now.plain.items) (texts parted.now.options.items) → RunEnds words (outside H.files H.faults H.opened shelf.old shelf.new) (net_seen N.told N.Door.told N.Door.Link.told N.Door.Link.faults N.Link.told N.faults net.old net.new) (sink_seen S.written S.faults out.old out.new) result }
+    requires some { (words : List (List ℕ)) × IsParted words parted.now.name.now (texts parted.now.plain.items)
+        (texts parted.now.options.items) }
+    ensures { (words : List (List ℕ)) → IsParted words parted.now.name.now (texts parted.now.plain.items) (texts parted.now.options.items)
+        → RunEnds words (outside H.Shelf shelf.old shelf.new) (net_seen N.Net net.old net.new) (sink_seen S.Sink out.old out.new) result }
 {
     match read_words(alloc, parted) {
         Ok(Some(command)) => run_command(rt, alloc, &command, shelf, out, net),
@@ -106,7 +113,8 @@ fn run_command<T: Threads + Wait + Sync, H: Shelf, S: Sink, N: Net>(
     net: &mut N,
 ) -> Ended
     requires ready { IsReady (command_as command.now) }
-    ensures { CommandEnds (command_as command.now) (outside H.files H.faults H.opened shelf.old shelf.new) (net_seen N.told N.Door.told N.Door.Link.told N.Door.Link.faults N.Link.told N.faults net.old net.new) (sink_seen S.written S.faults out.old out.new) result }
+    ensures { CommandEnds (command_as command.now) (outside H.Shelf shelf.old shelf.new) (net_seen N.Net net.old net.new)
+        (sink_seen S.Sink out.old out.new) result }
 {
     match job(rt, alloc, command, shelf, net) {
         Ok(text) => deliver(out, &text, Ended::Done),

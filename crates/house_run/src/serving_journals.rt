@@ -7,9 +7,8 @@ ghost use Rattle.command_line.specs.Parts.{IsServable};
 ghost use Rattle.house_run.specs.Serving.{ServesJournals};
 
 use crate::disks::{close_journals, journal_names, open_journals};
-use crate::ends::Ended;
+use crate::ends::{Ended, end_at};
 use crate::hosting::{Hosted, host};
-use crate::house::end_at;
 use auction_file::Auction;
 use command_line::Serving;
 use house_io::{Net, Shelf};
@@ -28,7 +27,8 @@ pub(crate) fn serve_journals<T: Threads + Wait + Sync, H: Shelf, N: Net>(
     net: &mut N,
 ) -> Result<Hosted, Ended>
     requires { IsServable (serving_as serving.now) }
-    ensures { ServesJournals auction.now journals.now (serving_as serving.now) (shelf_seen H.files H.faults H.opened shelf.old shelf.new) (net_seen N.told N.Door.told N.Door.Link.told N.Door.Link.faults N.Link.told N.faults net.old net.new) result }
+    ensures { ServesJournals auction.now journals.now (serving_as serving.now) (shelf_seen H.Shelf shelf.old shelf.new)
+        (net_seen N.Net net.old net.new) result }
 {
     let Ok(names) = journal_names(alloc, journals, auction.terms.bidders + 1) else {
         return Err(Ended::NoMemory);

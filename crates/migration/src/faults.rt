@@ -10,7 +10,7 @@ pub enum MoveFault {
     /// too many.
     NotFront { clock: u8, number: u32 },
     /// The next record of this clock's target would end at this offset, past the greatest.
-    Full { clock: u8, needed: u64 },
+    Full { clock: u8, needed: u32 },
     /// A call on the disk of this clock's target failed while its reports were offered.
     DiskFault(u8),
     /// Memory ran out.
@@ -21,7 +21,7 @@ pub enum MoveFault {
 #[derive(Clone, Copy, Debug)]
 pub(crate) enum Stopped {
     /// The next record would end at this offset, past the greatest.
-    Full(u64),
+    Full(u32),
     /// A call on the target's disk failed.
     DiskFault,
     /// Memory ran out.

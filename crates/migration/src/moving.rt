@@ -54,9 +54,11 @@ fn move_reports<D: Disk>(
 ) -> Result<(), Stopped>
     requires { HasFirst source.now.history (length book.old.state.clock.reports) book.old }
     ensures goes_on { GoesOn D.shown source.now.history book.old book.new }
-    ensures whole { OnOk result (IsTrue (is_told (D.shown book.new.disk)) → Leaves (StandsForReports (owner_in book.old.origin) source.now.history.reports) (told_moments (D.shown book.new.disk)).now) }
+    ensures whole { OnOk result (IsTrue (is_told (D.shown book.new.disk))
+        → Leaves (StandsForReports (owner_in book.old.origin) source.now.history.reports) (told_moments (D.shown book.new.disk)).now) }
     ensures steady { OnOk result ((D.shown book.new.disk).faults ≡ (D.shown book.old.disk).faults) }
-    ensures err { IfErr result (StopsFor (D.shown book.old.disk).faults (D.shown book.new.disk).faults (owner_in book.old.origin) source.now.history.reports) }
+    ensures err { IfErr result (StopsFor (D.shown book.old.disk).faults (D.shown book.new.disk).faults (owner_in book.old.origin)
+        source.now.history.reports) }
 {
     let found = book.clock().count();
     for place in found..source.count() {
@@ -81,7 +83,8 @@ fn offer_next<D: Disk>(
     ensures goes_on { GoesOn D.shown source.now.history book.old book.new }
     ensures first { OnOk result (HasFirst source.now.history (place + 1) book.new) }
     ensures steady { OnOk result ((D.shown book.new.disk).faults ≡ (D.shown book.old.disk).faults) }
-    ensures err { IfErr result (StopsFor (D.shown book.old.disk).faults (D.shown book.new.disk).faults (owner_in book.old.origin) source.now.history.reports) }
+    ensures err { IfErr result (StopsFor (D.shown book.old.disk).faults (D.shown book.new.disk).faults (owner_in book.old.origin)
+        source.now.history.reports) }
 {
     let _legal = source.number();
     let _most = source.count();
@@ -92,7 +95,7 @@ fn offer_next<D: Disk>(
     };
     match book.offer(alloc, report.bidder, report.round, report.demand) {
         Offered::Taken => Ok(()),
-        Offered::Full(needed) => Err(Stopped::Full(needed as u64)),
+        Offered::Full(needed) => Err(Stopped::Full(needed)),
         Offered::DiskFault => Err(Stopped::DiskFault),
         Offered::Again | Offered::Refused(_) | Offered::NoMemory => unreachable!(),
     }

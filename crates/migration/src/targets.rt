@@ -38,7 +38,8 @@ pub(crate) fn open_books<D: Disk>(
     ensures ok { IfOk result (λ o. AreOpen D.shown terms.now digest.now disks.items o.books.items) }
     ensures count { IfOk result (λ o. length o.books.items ≡ length disks.items) }
     ensures room { IfOk result (λ o. (length o.room.items ≡ 0) × (length disks.items ≤ vec_capacity o.room)) }
-    ensures err { IfErr result (λ e. (clocks : List ClockHistory) → Moves D.shown terms.now digest.now clocks disks.items e.disks.items (Err e.fault)) }
+    ensures err { IfErr result (λ e. (clocks : List ClockHistory)
+        → Moves D.shown terms.now digest.now clocks disks.items e.disks.items (Err e.fault)) }
 {
     let Ok(mut books) = Vec::with_capacity(alloc, disks.len()) else {
         return Err(GivenBack {

@@ -1,17 +1,19 @@
 //! Doors and a net in memory of which chosen calls fail.
-ghost use Rattle.std.specs.Prelude.{◌≡◌, ◌≤◌, ◌<◌, ◌+◌, ◌↔◌, [], ◌∷◌, ℕ, List, length, map, take, drop, vec_len, vec_capacity, Some, IfOk, IfErr, OnOk, OnErr, MatchResult, IsErr, IsTrue, if◌then◌else◌, ◌⊎◌};
+ghost use Rattle.std.specs.Prelude.{◌≡◌, refl, ◌≤◌, ◌<◌, ◌+◌, ◌↔◌, [], ◌∷◌, ℕ, List, length, map, take, drop, vec_len, vec_capacity, Some, IfOk, IfErr, OnOk, OnErr, MatchResult, IsErr, IsTrue, if◌then◌else◌, ◌⊎◌};
 ghost use Rattle.std.specs.List.{AllByRecursion};
 ghost use Rattle.house_io.specs.Faults.{faults_after, raised_by};
 ghost use Rattle.house_io.specs.Doors.{HangsUp};
 ghost use Rattle.house_io.specs.Nets.{TakesDoor, TakesLink};
+ghost use Rattle.house_io.specs.NetsShown.{net_shown};
 ghost use Rattle.house_io.specs.ListForms.{IsToFail, counted};
 ghost use Rattle.house_io.specs.ListShelves.{plan_after};
-ghost use Rattle.house_io.specs.LinkForms.{ListedLink, ListedDoor, ListedNet, AreFirstDoors, FailsBy, IsFirstDialled, IsFirstLink, IsReady, fresh_list_door, fresh_list_net, net_faults_after, ready_door, unfailed_link};
+ghost use Rattle.house_io.specs.LinkForms.{ListedLink, ListedDoor, ListedNet, FailsBy, IsFirstLink, IsReady, ListsDoors, ListsLink, fresh_list_door, fresh_list_net, net_faults_after, ready_door, unfailed_link};
 
+use crate::memory::addresses::Addresses;
 use crate::memory::failing::FailingCalls;
 use crate::memory::places::Places;
 use crate::memory::rows::first_of;
-use crate::{Door, Failed, ListLink, Net, Refusal};
+use crate::{Door, Failed, Link, ListLink, Net, Refusal};
 use lot_base::NoMemory;
 use std::alloc::{AllocError, Global};
 use std::collections::VecDeque;
@@ -138,6 +140,10 @@ pub struct ListNet {
     closed: Places<ListDoor>,
     /// The dialled links that were given back, in order. A place is reserved for each link that is given.
     hung_up: Places<ListLink>,
+    /// The addresses at which doors were asked for, in order.
+    asked: Addresses,
+    /// The addresses that were dialled, in order.
+    dialled: Addresses,
     /// Which calls fail, of those that open doors and those that dial.
     plan: FailingCalls,
     /// How often it has failed, with the faults of what was given back.
@@ -155,12 +161,15 @@ impl Model for ListNet {
         hung_up = net.hung_up.kept;
         door_places = net.closed.free;
         link_places = net.hung_up.free;
+        asked = net.asked;
+        dialled = net.dialled;
       };
       plan = net.plan;
       faults = net.faults;
     } };
 
-    ghost invariant = { λ net. AllByRecursion IsReady net.doors.items × AllByRecursion (λ (link : ListedLink). link.faults ≡ 0) net.links.items };
+    ghost invariant = { λ net. AllByRecursion IsReady net.doors.items
+        × AllByRecursion (λ (link : ListedLink). link.faults ≡ 0) net.links.items };
 }
 
 impl ListNet {
@@ -181,6 +190,8 @@ impl ListNet {
             links: VecDeque::from(links),
             closed: Places::none(alloc),
             hung_up: Places::none(alloc),
+            asked: Addresses::none(alloc),
+            dialled: Addresses::none(alloc),
             plan: FailingCalls::new(failing),
             faults: 0,
         })
@@ -235,8 +246,13 @@ impl Net for ListNet {
 
     ghost faults = { λ net. net.faults };
 
-    fn doors(&mut self, alloc: Global, _address: &str, count: u32) -> Result<Vec<ListDoor>, Refusal>
-        ensures lists { MatchResult result (λ doors. AreFirstDoors count doors.items self.old.lists self.new.lists) (λ _. self.new.lists ≡ self.old.lists) }
+    ghost shown = { λ net. net_shown (λ (n : ListedNet). Some n.lists) ⟦<ListDoor as Door>⟧.told
+        ⟦<ListLink as Link>⟧.told ⟦<ListLink as Link>⟧.faults ⟦<ListLink as Link>⟧.told (λ (n : ListedNet). n.faults) net };
+
+    ghost shows = { λ net. refl };
+
+    fn doors(&mut self, alloc: Global, address: &str, count: u32) -> Result<Vec<ListDoor>, Refusal>
+        ensures lists { ListsDoors address.now count result self.old.lists self.new.lists }
         ensures ready { IfOk result (λ doors. AllByRecursion IsReady doors.items) }
         ensures failed { FailsBy (length self.old.lists.doors < count) self.old.plan result }
         ensures plan { self.new.plan ≡ plan_after result self.old.plan }
@@ -249,6 +265,10 @@ impl Net for ListNet {
             Err(_) => return Err(Refusal::NoMemory),
         };
         if let Err(NoMemory) = self.closed.reserve(count) {
+            return Err(Refusal::NoMemory);
+        }
+        if let Err(NoMemory) = self.asked.note(alloc, address) {
+            self.closed.release(count);
             return Err(Refusal::NoMemory);
         }
         let missing = self.doors.len() < count;
@@ -269,14 +289,18 @@ impl Net for ListNet {
         self.closed.place(door);
     }
 
-    fn dial(&mut self, _alloc: Global, _address: &str) -> Result<ListLink, Refusal>
-        ensures lists { MatchResult result (λ link. IsFirstDialled link self.old.lists self.new.lists) (λ _. self.new.lists ≡ self.old.lists) }
+    fn dial(&mut self, alloc: Global, address: &str) -> Result<ListLink, Refusal>
+        ensures lists { ListsLink address.now result self.old.lists self.new.lists }
         ensures fresh { IfOk result (λ link. link.faults ≡ 0) }
         ensures failed { FailsBy (length self.old.lists.links ≡ 0) self.old.plan result }
         ensures plan { self.new.plan ≡ plan_after result self.old.plan }
         ensures faults { self.new.faults ≡ net_faults_after result self.old.faults }
     {
         if let Err(NoMemory) = self.hung_up.reserve(1) {
+            return Err(Refusal::NoMemory);
+        }
+        if let Err(NoMemory) = self.dialled.note(alloc, address) {
+            self.hung_up.release(1);
             return Err(Refusal::NoMemory);
         }
         let missing = self.links.is_empty();

@@ -80,7 +80,8 @@ impl ListShelf {
 
     /// The bytes of a file.
     pub fn file(&self, name: &str) -> Option<&[u8]>
-        ensures { MatchOption result (shelved_file self.now.files name.now ≡ None) (λ bytes. option_map (λ file. (shown_file file).moments.now.read) (shelved_file self.now.files name.now) ≡ Some bytes.now) }
+        ensures { MatchOption result (shelved_file self.now.files name.now ≡ None)
+            (λ bytes. option_map (λ file. (shown_file file).moments.now.read) (shelved_file self.now.files name.now) ≡ Some bytes.now) }
     {
         Some(file_named(&self.files.there, name)?.bytes())
     }
@@ -108,7 +109,8 @@ fn source_named(
     name: &str,
 ) -> Result<Option<ListSource>, AllocError>
     ensures source { IfOk result (λ source. source ≡ option_map source_on (shelved_file files.now name.now)) }
-    ensures bytes { IfOk result (λ source. MatchOption source (bytes_of (shown_files files.now) name.now ≡ None) (λ source. bytes_of (shown_files files.now) name.now ≡ Some source.left)) }
+    ensures bytes { IfOk result (λ source. MatchOption source (bytes_of (shown_files files.now) name.now ≡ None)
+        (λ source. bytes_of (shown_files files.now) name.now ≡ Some source.left)) }
 {
     let file = match file_named(files, name) {
         Some(file) => file,
@@ -172,7 +174,8 @@ impl Shelf for ListShelf {
         ensures fresh { IfOk result (λ disk. (disk.claimed ≡ false) × (disk.faults ≡ 0)) }
         ensures opening { IsOpening result name.now (listed_state self.old) (listed_state self.new) }
         // And so, of what the shelf tells:
-        ensures stands { IfOk result (λ disk. IsTrue disk.file.told × (moments_of disk.file ≡ moments_at (shown_files self.old.files) name.now)) }
+        ensures stands { IfOk result (λ disk. IsTrue disk.file.told
+            × (moments_of disk.file ≡ moments_at (shown_files self.old.files) name.now)) }
         ensures same { (self.new.told ≡ self.old.told) × (self.new.files ≡ self.old.files) }
     {
         let names = self.tallies.len();

@@ -66,7 +66,8 @@ pub struct RecordedFile {
     ghost settled: { IsTrue told → synced.items ≡ (replay calls.items written.items (opened start.items)).now.synced },
     ghost since: { IsTrue told → latest_first ranges.items [] ≡ (replay calls.items written.items (opened start.items)).now.ranges },
     // What a read gives is one of the images.
-    ghost readable: { IsImage (replay calls.items written.items (opened start.items)).now (replay calls.items written.items (opened start.items)).now.read },
+    ghost readable: { IsImage (replay calls.items written.items (opened start.items)).now
+        (replay calls.items written.items (opened start.items)).now.read },
     // Each list has the capacity that the room may yet ask of it, so no call takes memory.
     ghost bytes_room: { vec_len bytes + room ≤ vec_capacity bytes },
     ghost written_room: { vec_len written + room ≤ vec_capacity written },
@@ -235,7 +236,8 @@ fn wide_copy<T: Copy>(alloc: Global, items: &[T], capacity: usize) -> Result<Vec
 
 /// The file with this byte throughout these ranges.
 fn filled(alloc: Global, bytes: &[u8], ranges: &[Range], byte: u8) -> Result<Vec<u8>, NoMemory>
-    ensures image { IfOk result (λ image. (m : Moment) → IsImage m bytes.now → latest_first ranges.now [] ≡ m.ranges → IsImage m image.items) }
+    ensures image { IfOk result (λ image. (m : Moment) → IsImage m bytes.now → latest_first ranges.now [] ≡ m.ranges
+        → IsImage m image.items) }
     ensures filled { IfOk result (λ image. image.items ≡ filled_with byte (latest_first ranges.now []) bytes.now) }
 {
     let mut image = copy_of(alloc, bytes)?;

@@ -182,7 +182,8 @@ pub(crate) fn file_named<'a, D: MemoryDisk>(
     name: &str,
 ) -> Option<&'a Entry<D>>
     ensures found { MatchOption result (shelved_file files.now name.now ≡ None) (λ file. shelved_file files.now name.now ≡ Some file.now) }
-    ensures shown { MatchOption result (bytes_of (shown_files files.now) name.now ≡ None) (λ file. bytes_of (shown_files files.now) name.now ≡ Some (shown_file file.now).moments.now.read) }
+    ensures shown { MatchOption result (bytes_of (shown_files files.now) name.now ≡ None)
+        (λ file. bytes_of (shown_files files.now) name.now ≡ Some (shown_file file.now).moments.now.read) }
 {
     match place_of(files, name) {
         Some(place) => Some(&files[place]),
@@ -266,9 +267,12 @@ pub(crate) fn keep<D: MemoryDisk>(
 ) -> bool
     requires { D.is_fresh disk }
     ensures placed { IsTrue result ↔ (IsTrue is_claimed → IsSome (place_for files.old.there.items files.old.reserved.items name.now)) }
-    ensures kept { shelved_file files.new.there.items name.now ≡ option_map (with_closed (D.stands disk)) (keeper is_claimed files.old.there.items files.old.reserved.items name.now) }
-    ensures others { (other : List ℕ) → (other ≡ name.now → ⊥) → shelved_file files.new.there.items other ≡ shelved_file files.old.there.items other }
-    ensures reserved { (other : List ℕ) → (other ≡ name.now → ⊥) → shelved_file files.new.reserved.items other ≡ shelved_file files.old.reserved.items other }
+    ensures kept { shelved_file files.new.there.items name.now ≡ option_map (with_closed (D.stands disk))
+        (keeper is_claimed files.old.there.items files.old.reserved.items name.now) }
+    ensures others { (other : List ℕ) → (other ≡ name.now → ⊥)
+        → shelved_file files.new.there.items other ≡ shelved_file files.old.there.items other }
+    ensures reserved { (other : List ℕ) → (other ≡ name.now → ⊥)
+        → shelved_file files.new.reserved.items other ≡ shelved_file files.old.reserved.items other }
     ensures spared { is_claimed ≡ false → files.new.reserved.items ≡ files.old.reserved.items }
 {
     match place_of(&files.there, name) {
@@ -290,9 +294,12 @@ fn make<D: MemoryDisk>(files: &mut Files<D>, name: &str, disk: D) -> bool
     requires fresh { D.is_fresh disk }
     requires absent { shelved_file files.old.there.items name.now ≡ None }
     ensures placed { IsTrue result ↔ IsSome (shelved_file files.old.reserved.items name.now) }
-    ensures kept { shelved_file files.new.there.items name.now ≡ option_map (with_closed (D.stands disk)) (shelved_file files.old.reserved.items name.now) }
-    ensures others { (other : List ℕ) → (other ≡ name.now → ⊥) → shelved_file files.new.there.items other ≡ shelved_file files.old.there.items other }
-    ensures reserved { (other : List ℕ) → (other ≡ name.now → ⊥) → shelved_file files.new.reserved.items other ≡ shelved_file files.old.reserved.items other }
+    ensures kept { shelved_file files.new.there.items name.now ≡ option_map (with_closed (D.stands disk))
+        (shelved_file files.old.reserved.items name.now) }
+    ensures others { (other : List ℕ) → (other ≡ name.now → ⊥)
+        → shelved_file files.new.there.items other ≡ shelved_file files.old.there.items other }
+    ensures reserved { (other : List ℕ) → (other ≡ name.now → ⊥)
+        → shelved_file files.new.reserved.items other ≡ shelved_file files.old.reserved.items other }
 {
     match place_of(&files.reserved, name) {
         Some(place) => {

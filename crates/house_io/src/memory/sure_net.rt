@@ -1,14 +1,16 @@
 //! Doors and a net in memory that never fail.
-ghost use Rattle.std.specs.Prelude.{◌≡◌, ◌≤◌, ◌<◌, ◌+◌, ◌++◌, [], ℕ, List, length, map, max, take, drop, vec_len, vec_capacity, Some, IsOk, IfOk, IfErr};
+ghost use Rattle.std.specs.Prelude.{◌≡◌, refl, ◌≤◌, ◌<◌, ◌+◌, ◌++◌, [], ℕ, List, length, map, max, take, drop, vec_len, vec_capacity, Some, IsOk, IfOk, IfErr, string_bytes};
 ghost use Rattle.std.specs.List.{AllByRecursion};
 ghost use Rattle.house_io.specs.Doors.{DoorLinks, HasPlaces, fresh_door};
 ghost use Rattle.house_io.specs.Nets.{NetLists};
+ghost use Rattle.house_io.specs.NetsShown.{net_shown};
 ghost use Rattle.house_io.specs.LinkForms.{SuredLink, fresh_net, with_places};
 ghost use Rattle.house_io.specs.declared.shelves.Refusal.TheVariants as why;
 
+use crate::memory::addresses::Addresses;
 use crate::memory::places::Places;
 use crate::memory::rows::first_of;
-use crate::{Door, Failed, Net, Refusal, SureLink};
+use crate::{Door, Failed, Link, Net, Refusal, SureLink};
 use lot_base::NoMemory;
 use std::alloc::{AllocError, Global};
 use std::collections::VecDeque;
@@ -108,6 +110,10 @@ pub struct SureNet {
     closed: Places<SureDoor>,
     /// The dialled links that were given back, in order. A place is reserved for each link that is given.
     hung_up: Places<SureLink>,
+    /// The addresses at which doors were asked for, in order.
+    asked: Addresses,
+    /// The addresses that were dialled, in order.
+    dialled: Addresses,
 }
 
 impl Model for SureNet {
@@ -120,6 +126,8 @@ impl Model for SureNet {
       hung_up = net.hung_up.kept;
       door_places = net.closed.free;
       link_places = net.hung_up.free;
+      asked = net.asked;
+      dialled = net.dialled;
     } };
 
     ghost invariant = { λ net. AllByRecursion (λ (door : DoorLinks SuredLink). HasPlaces (Some door)) net.doors.items };
@@ -140,6 +148,8 @@ impl SureNet {
             links: VecDeque::from(links),
             closed: Places::none(alloc),
             hung_up: Places::none(alloc),
+            asked: Addresses::none(alloc),
+            dialled: Addresses::none(alloc),
         })
     }
 
@@ -155,6 +165,20 @@ impl SureNet {
         ensures { result.now ≡ self.now.closed }
     {
         self.closed.kept()
+    }
+
+    /// The addresses at which doors were asked for, in order.
+    pub fn asked(&self) -> &[String]
+        ensures { map (λ address. string_bytes address) result.now ≡ self.now.asked }
+    {
+        self.asked.list()
+    }
+
+    /// The addresses that were dialled, in order.
+    pub fn dialled(&self) -> &[String]
+        ensures { map (λ address. string_bytes address) result.now ≡ self.now.dialled }
+    {
+        self.dialled.list()
     }
 }
 
@@ -173,7 +197,8 @@ fn placed_doors(alloc: Global, doors: Vec<SureDoor>) -> Result<Vec<SureDoor>, No
 fn fill_up(alloc: Global, doors: &mut Vec<SureDoor>, count: usize)
     requires room { count ≤ vec_capacity doors.old }
     requires few { vec_len doors.old ≤ count }
-    ensures filled { (empty : List (DoorLinks SuredLink)) × (doors.new.items ≡ doors.old.items ++ empty) × AllByRecursion (λ (door : DoorLinks SuredLink). door ≡ fresh_door []) empty }
+    ensures filled { (empty : List (DoorLinks SuredLink)) × (doors.new.items ≡ doors.old.items ++ empty)
+        × AllByRecursion (λ (door : DoorLinks SuredLink). door ≡ fresh_door []) empty }
     ensures count { vec_len doors.new ≡ count }
 {
     'fills: while doors.len() < count {
@@ -190,10 +215,15 @@ impl Net for SureNet {
 
     ghost faults = { λ _. 0 };
 
+    ghost shown = { λ net. net_shown (λ (n : NetLists (DoorLinks SuredLink) SuredLink). Some n) ⟦<SureDoor as Door>⟧.told
+        ⟦<SureLink as Link>⟧.told ⟦<SureLink as Link>⟧.faults ⟦<SureLink as Link>⟧.told (λ _. 0) net };
+
+    ghost shows = { λ net. refl };
+
     fn doors(
         &mut self,
         alloc: Global,
-        _address: &str,
+        address: &str,
         count: u32,
     ) -> Result<Vec<SureDoor>, Refusal> {
         let count = count as usize;
@@ -202,6 +232,10 @@ impl Net for SureNet {
             Err(_) => return Err(Refusal::NoMemory),
         };
         if let Err(NoMemory) = self.closed.reserve(count) {
+            return Err(Refusal::NoMemory);
+        }
+        if let Err(NoMemory) = self.asked.note(alloc, address) {
+            self.closed.release(count);
             return Err(Refusal::NoMemory);
         }
         first_of(&mut self.doors, count, &mut doors);
@@ -213,8 +247,12 @@ impl Net for SureNet {
         self.closed.place(door);
     }
 
-    fn dial(&mut self, alloc: Global, _address: &str) -> Result<SureLink, Refusal> {
+    fn dial(&mut self, alloc: Global, address: &str) -> Result<SureLink, Refusal> {
         if let Err(NoMemory) = self.hung_up.reserve(1) {
+            return Err(Refusal::NoMemory);
+        }
+        if let Err(NoMemory) = self.dialled.note(alloc, address) {
+            self.hung_up.release(1);
             return Err(Refusal::NoMemory);
         }
         match self.links.pop_front() {

@@ -68,7 +68,8 @@ impl SureShelf {
 
     /// The bytes of a file.
     pub fn file(&self, name: &str) -> Option<&[u8]>
-        ensures { MatchOption result (bytes_of (shown_files self.now.files) name.now ≡ None) (λ bytes. bytes_of (shown_files self.now.files) name.now ≡ Some bytes.now) }
+        ensures { MatchOption result (bytes_of (shown_files self.now.files) name.now ≡ None)
+            (λ bytes. bytes_of (shown_files self.now.files) name.now ≡ Some bytes.now) }
     {
         Some(file_named(&self.files.there, name)?.bytes())
     }
@@ -134,7 +135,8 @@ impl Shelf for SureShelf {
         ensures opening { IsOpening result name.now (sure_state self.old) (sure_state self.new) }
         ensures fresh { IfOk result (λ disk. disk.claimed ≡ false) }
         // And so, of what the shelf tells:
-        ensures stands { IfOk result (λ disk. IsTrue disk.file.told × (moments_of disk.file ≡ moments_at (shown_files self.old.files) name.now)) }
+        ensures stands { IfOk result (λ disk. IsTrue disk.file.told
+            × (moments_of disk.file ≡ moments_at (shown_files self.old.files) name.now)) }
         ensures same { (self.new.told ≡ self.old.told) × (self.new.files ≡ self.old.files) }
     {
         let names = self.tallies.len();

@@ -180,7 +180,8 @@ where
 
     fn write_at(&mut self, at: u64, from: &[u8]) -> Result<(), Failed>
         requires { IsTrue self.old.claimed }
-        ensures writes { OnOk result (0 < length from.now → WritesFile R.File.stream_position R.File.contents at from.now self.old.file self.new.file) }
+        ensures writes { OnOk result (0 < length from.now
+            → WritesFile R.File.stream_position R.File.contents at from.now self.old.file self.new.file) }
         ensures claimed { self.new.claimed ≡ self.old.claimed }
         ensures faults { self.new.faults ≡ faults_after result self.old.faults }
         ensures cause { HasCause self.old.faults self.new.faults result }

@@ -1,5 +1,5 @@
 //! Links, doors and a net over TCP. They count their faults, say them on standard error, and tell no content.
-ghost use Rattle.std.specs.Prelude.{◌≡◌, ◌≤◌, ◌+◌, [], ℕ, List, None, length, vec_capacity, IfOk, OnOk};
+ghost use Rattle.std.specs.Prelude.{◌≡◌, refl, ◌≤◌, ◌+◌, [], ℕ, List, None, length, vec_capacity, IfOk, OnOk};
 ghost use Rattle.std.specs.List.{AllByRecursion};
 ghost use Rattle.std.specs.Io.KnownBytes.{ReadConsumes, WriteAppends};
 ghost use Rattle.house_io.specs.Faults.{HasCause, faults_after, raised_by};
@@ -320,6 +320,10 @@ where
     ghost told = { λ _. None };
 
     ghost faults = { λ net. net };
+
+    ghost shown = { λ net. record { told = None; faults = net } };
+
+    ghost shows = { λ net. refl };
 
     fn doors(
         &mut self,

@@ -30,9 +30,12 @@ pub(crate) fn job<H: Shelf, N: Net>(
     net: &mut N,
 ) -> Result<Vec<u8>, Ended>
     requires { IsPlayable (bidding_as bidding.now) }
-    ensures answer { JobAnswer (Bid auction.now values.now (bidding_as bidding.now)) (outside H.files H.faults H.opened shelf.old shelf.new) (net_seen N.told N.Door.told N.Door.Link.told N.Door.Link.faults N.Link.told N.faults net.old net.new) result }
-    ensures frame { BidFrame auction.now values.now (bidding_as bidding.now) (end_of result) (outside H.files H.faults H.opened shelf.old shelf.new) (net_seen N.told N.Door.told N.Door.Link.told N.Door.Link.faults N.Link.told N.faults net.old net.new) }
-    ensures net_frame { NetFrame (bid_needs auction.now values.now (bidding_as bidding.now)) (end_of result) (net_seen N.told N.Door.told N.Door.Link.told N.Door.Link.faults N.Link.told N.faults net.old net.new) }
+    ensures answer { JobAnswer (Bid auction.now values.now (bidding_as bidding.now)) (outside H.Shelf shelf.old shelf.new)
+        (net_seen N.Net net.old net.new) result }
+    ensures frame { BidFrame auction.now values.now (bidding_as bidding.now) (end_of result) (outside H.Shelf shelf.old shelf.new)
+        (net_seen N.Net net.old net.new) }
+    ensures net_frame { NetFrame (bid_needs auction.now values.now (bidding_as bidding.now)) (end_of result)
+        (net_seen N.Net net.old net.new) }
 {
     let market = match read_bidders(alloc, shelf, auction, values, bidding.bidder) {
         Ok(market) => market,

@@ -12,8 +12,8 @@ use std::alloc::Global;
 
 /// The text of the auction that a file says, or why there is none.
 pub(crate) fn job<H: Shelf>(alloc: Global, auction: &str, shelf: &mut H) -> Result<Vec<u8>, Ended>
-    ensures answer { ShelfAnswer (CheckDone auction.now) (check_needs auction.now) (outside H.files H.faults H.opened shelf.old shelf.new) result }
-    ensures frame { Frame (check_needs auction.now) (end_of result) (outside H.files H.faults H.opened shelf.old shelf.new) }
+    ensures answer { ShelfAnswer (CheckDone auction.now) (check_needs auction.now) (outside H.Shelf shelf.old shelf.new) result }
+    ensures frame { Frame (check_needs auction.now) (end_of result) (outside H.Shelf shelf.old shelf.new) }
 {
     let auction = match read_auction(alloc, shelf, auction) {
         Ok(auction) => auction,

@@ -20,8 +20,8 @@ pub(crate) fn job<H: Shelf>(
     log: &str,
     shelf: &mut H,
 ) -> Result<Vec<u8>, Ended>
-    ensures answer { ShelfAnswer (FoldDone terms.now log.now) (fold_needs terms.now log.now) (outside H.files H.faults H.opened shelf.old shelf.new) result }
-    ensures frame { Frame (fold_needs terms.now log.now) (end_of result) (outside H.files H.faults H.opened shelf.old shelf.new) }
+    ensures answer { ShelfAnswer (FoldDone terms.now log.now) (fold_needs terms.now log.now) (outside H.Shelf shelf.old shelf.new) result }
+    ensures frame { Frame (fold_needs terms.now log.now) (end_of result) (outside H.Shelf shelf.old shelf.new) }
 {
     let clock = match read_log(alloc, terms, shelf, log) {
         Ok(clock) => clock,

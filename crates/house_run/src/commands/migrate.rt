@@ -9,9 +9,8 @@ ghost use Rattle.house_run.specs.MoveSteps.{AreFilesRead, IsMoveRead, StopsMovin
 ghost use Rattle.house_run.specs.Nets.{NetSeen};
 ghost use Rattle.house_run.specs.Seen.{outside, shelf_seen};
 
-use crate::ends::Ended;
+use crate::ends::{Ended, end_at};
 use crate::files::read_auction;
-use crate::house::end_at;
 use crate::journals::read_clocks;
 use crate::moving_journals::move_to;
 use auction_file::Auction;
@@ -49,8 +48,9 @@ pub(crate) fn job<H: Shelf>(
     shelf: &mut H,
 ) -> Result<Vec<u8>, Ended>
     requires { journals.now ≢ target.now }
-    ensures answer { (net : NetSeen) → JobAnswer (Migrate old.now journals.now new.now target.now) (outside H.files H.faults H.opened shelf.old shelf.new) net result }
-    ensures frame { MigrateFrame old.now journals.now new.now target.now (end_of result) (outside H.files H.faults H.opened shelf.old shelf.new) }
+    ensures answer { (net : NetSeen) → JobAnswer (Migrate old.now journals.now new.now target.now) (outside H.Shelf shelf.old shelf.new) net
+        result }
+    ensures frame { MigrateFrame old.now journals.now new.now target.now (end_of result) (outside H.Shelf shelf.old shelf.new) }
 {
     let found = match read_move(alloc, old, journals, new, shelf) {
         Ok(found) => found,
@@ -74,8 +74,10 @@ fn read_move<H: Shelf>(
     new: &str,
     shelf: &mut H,
 ) -> Result<Move, Ended>
-    ensures read { IfOk result (λ m. IsMoveRead old.now journals.now new.now m.auction (histories m.clocks.items) (shelf_seen H.files H.faults H.opened shelf.old shelf.new)) }
-    ensures stops { IfErr result (λ end. (target : List ℕ) → StopsMoving old.now journals.now new.now target (outside H.files H.faults H.opened shelf.old shelf.new) end) }
+    ensures read { IfOk result (λ m. IsMoveRead old.now journals.now new.now m.auction (histories m.clocks.items)
+        (shelf_seen H.Shelf shelf.old shelf.new)) }
+    ensures stops { IfErr result (λ end. (target : List ℕ)
+        → StopsMoving old.now journals.now new.now target (outside H.Shelf shelf.old shelf.new) end) }
 {
     let files = match read_files(alloc, old, new, shelf) {
         Ok(files) => files,
@@ -92,8 +94,9 @@ fn read_move<H: Shelf>(
 
 /// Reads both files, or says how the command ends.
 fn read_files<H: Shelf>(alloc: Global, old: &str, new: &str, shelf: &mut H) -> Result<Files, Ended>
-    ensures read { IfOk result (λ files. AreFilesRead old.now new.now files.old files.new (shelf_seen H.files H.faults H.opened shelf.old shelf.new)) }
-    ensures stops { IfErr result (λ end. (journals target : List ℕ) → StopsMoving old.now journals new.now target (outside H.files H.faults H.opened shelf.old shelf.new) end) }
+    ensures read { IfOk result (λ files. AreFilesRead old.now new.now files.old files.new (shelf_seen H.Shelf shelf.old shelf.new)) }
+    ensures stops { IfErr result (λ end. (journals target : List ℕ)
+        → StopsMoving old.now journals new.now target (outside H.Shelf shelf.old shelf.new) end) }
 {
     let first = match read_auction(alloc, shelf, old) {
         Ok(first) => first,

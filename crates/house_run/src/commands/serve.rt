@@ -30,9 +30,12 @@ pub(crate) fn job<T: Threads + Wait + Sync, H: Shelf, N: Net>(
     net: &mut N,
 ) -> Result<Vec<u8>, Ended>
     requires { IsServable (serving_as serving.now) }
-    ensures answer { JobAnswer (Serve auction.now journals.now (serving_as serving.now)) (outside H.files H.faults H.opened shelf.old shelf.new) (net_seen N.told N.Door.told N.Door.Link.told N.Door.Link.faults N.Link.told N.faults net.old net.new) result }
-    ensures frame { CommandFrame (Serve auction.now journals.now (serving_as serving.now)) (end_of result) (outside H.files H.faults H.opened shelf.old shelf.new) (net_seen N.told N.Door.told N.Door.Link.told N.Door.Link.faults N.Link.told N.faults net.old net.new) }
-    ensures net_frame { NetFrame (serve_needs auction.now journals.now (serving_as serving.now)) (end_of result) (net_seen N.told N.Door.told N.Door.Link.told N.Door.Link.faults N.Link.told N.faults net.old net.new) }
+    ensures answer { JobAnswer (Serve auction.now journals.now (serving_as serving.now)) (outside H.Shelf shelf.old shelf.new)
+        (net_seen N.Net net.old net.new) result }
+    ensures frame { CommandFrame (Serve auction.now journals.now (serving_as serving.now)) (end_of result)
+        (outside H.Shelf shelf.old shelf.new) (net_seen N.Net net.old net.new) }
+    ensures net_frame { NetFrame (serve_needs auction.now journals.now (serving_as serving.now)) (end_of result)
+        (net_seen N.Net net.old net.new) }
 {
     let auction = match read_auction(alloc, shelf, auction) {
         Ok(auction) => auction,

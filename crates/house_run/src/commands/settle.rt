@@ -10,7 +10,7 @@ ghost use Rattle.house_run.specs.Seen.{outside};
 ghost use Rattle.house_run.specs.SettleCommand.{SettleDone, settle_needs};
 
 use crate::ends::Ended;
-use crate::house::{House, read_house};
+use crate::house::{AuctionClocks, read_house};
 use house_io::Shelf;
 use lot_base::NoMemory;
 use outcome_text::{write_json, write_plain};
@@ -25,8 +25,9 @@ pub(crate) fn job<H: Shelf>(
     json: bool,
     shelf: &mut H,
 ) -> Result<Vec<u8>, Ended>
-    ensures answer { ShelfAnswer (SettleDone auction.now journals.now json) (settle_needs auction.now journals.now) (outside H.files H.faults H.opened shelf.old shelf.new) result }
-    ensures frame { Frame (settle_needs auction.now journals.now) (end_of result) (outside H.files H.faults H.opened shelf.old shelf.new) }
+    ensures answer { ShelfAnswer (SettleDone auction.now journals.now json) (settle_needs auction.now journals.now)
+        (outside H.Shelf shelf.old shelf.new) result }
+    ensures frame { Frame (settle_needs auction.now journals.now) (end_of result) (outside H.Shelf shelf.old shelf.new) }
 {
     let house = match read_house(alloc, shelf, auction, journals) {
         Ok(house) => house,
@@ -36,7 +37,7 @@ pub(crate) fn job<H: Shelf>(
 }
 
 /// The text of what the clocks settle, or how they stand where they settle nothing.
-fn settled_text(alloc: Global, house: &House, json: bool) -> Result<Vec<u8>, Ended>
+fn settled_text(alloc: Global, house: &AuctionClocks, json: bool) -> Result<Vec<u8>, Ended>
     requires { AreClocksOf house.now.terms (histories house.now.clocks.items) }
     ensures text { IfOk result (λ text. IsSettledText house.now.terms (histories house.now.clocks.items) json text.items) }
     ensures ends { IfErr result (IsSettledEnd house.now.terms (histories house.now.clocks.items)) }

@@ -23,8 +23,9 @@ pub(crate) fn job<H: Shelf>(
     journals: &str,
     shelf: &mut H,
 ) -> Result<Vec<u8>, Ended>
-    ensures answer { ShelfAnswer (StandingDone auction.now journals.now) (standing_needs auction.now journals.now) (outside H.files H.faults H.opened shelf.old shelf.new) result }
-    ensures frame { Frame (standing_needs auction.now journals.now) (end_of result) (outside H.files H.faults H.opened shelf.old shelf.new) }
+    ensures answer { ShelfAnswer (StandingDone auction.now journals.now) (standing_needs auction.now journals.now)
+        (outside H.Shelf shelf.old shelf.new) result }
+    ensures frame { Frame (standing_needs auction.now journals.now) (end_of result) (outside H.Shelf shelf.old shelf.new) }
 {
     let house = match read_house(alloc, shelf, auction, journals) {
         Ok(house) => house,

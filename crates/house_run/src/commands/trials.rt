@@ -23,8 +23,9 @@ pub(crate) fn job<T: Threads + Sync, H: Shelf>(
     shelf: &mut H,
 ) -> Result<Vec<u8>, Ended>
     requires { IsRange 1 64 workers }
-    ensures answer { ShelfAnswer (TrialDone auction.now values.now) (trial_needs auction.now values.now) (outside H.files H.faults H.opened shelf.old shelf.new) result }
-    ensures frame { Frame (trial_needs auction.now values.now) (end_of result) (outside H.files H.faults H.opened shelf.old shelf.new) }
+    ensures answer { ShelfAnswer (TrialDone auction.now values.now) (trial_needs auction.now values.now)
+        (outside H.Shelf shelf.old shelf.new) result }
+    ensures frame { Frame (trial_needs auction.now values.now) (end_of result) (outside H.Shelf shelf.old shelf.new) }
 {
     let market = match read_market(alloc, shelf, auction, values) {
         Ok(market) => market,

@@ -10,11 +10,13 @@ use std::thread::Threads;
 use worked_auctions::talks::{ALL, HELLO, LOOKS, ONCE, REFUSED, REPLIES};
 use worked_auctions::valuations::TIE;
 
-const BID: &[&str] = &["bid", "a", "v", "1", "abc", "house:1"];
+const ADDRESS: &str = "house:1";
 
-const ONE_LOOK: &[&str] = &["bid", "a", "v", "1", "abc", "house:1", "--looks", "1"];
+const BID: &[&str] = &["bid", "a", "v", "1", "abc", ADDRESS];
 
-const THIRD: &[&str] = &["bid", "a", "v", "3", "abc", "house:1"];
+const ONE_LOOK: &[&str] = &["bid", "a", "v", "1", "abc", ADDRESS, "--looks", "1"];
+
+const THIRD: &[&str] = &["bid", "a", "v", "3", "abc", ADDRESS];
 
 const BOTH: &str = "clock 0 round 1 ended prices 0\nclock 2 round 1 ended prices 0\n";
 
@@ -36,11 +38,12 @@ fn ends_with<N: Net>(
     ends_so(rt, alloc, words, &mut shelf, net, status, text)
 }
 
-/// Whether these bytes went over the one link that was hung up. Where there is none, none should have gone.
+/// Whether these bytes went over the one link that was hung up, whose address alone was dialled. Where there is none, none should have
+/// gone, and nothing was dialled.
 fn has_written(net: &SureNet, bytes: &[u8]) -> bool {
-    match net.hung_up() {
-        [link] => link.written() == bytes,
-        [] => bytes.is_empty(),
+    match (net.hung_up(), net.dialled()) {
+        ([link], [address]) => link.written() == bytes && address.as_str() == ADDRESS,
+        ([], []) => bytes.is_empty(),
         _ => false,
     }
 }

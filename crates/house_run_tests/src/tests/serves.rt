@@ -26,7 +26,9 @@ const TO_ADA: &[&[u8]] = &[WELCOME, TAKEN_0, TAKEN_2, BYE];
 
 const TO_BOB: &[&[u8]] = &[WELCOME, TAKEN_0, TAKEN_1, BYE];
 
-const SERVE: &[&str] = &["serve", "a", "j", "house:1", "--doors", "2", "--sessions=1"];
+const ADDRESS: &str = "house:1";
+
+const SERVE: &[&str] = &["serve", "a", "j", ADDRESS, "--doors", "2", "--sessions=1"];
 
 pub(super) const SETTLE: &[&str] = &["settle", "a", "j"];
 
@@ -64,8 +66,19 @@ fn was_told(alloc: Global, door: &SureDoor, replies: &[&[u8]]) -> Option<bool> {
     Some(written_at(door)? == bytes.as_slice())
 }
 
-/// Whether both bidders were told what they should be, at the two doors that were closed.
+/// Whether doors were asked for at this address, once, and at no other.
+fn was_asked(net: &SureNet, address: &str) -> bool {
+    match net.asked() {
+        [one] => one.as_str() == address,
+        _ => false,
+    }
+}
+
+/// Whether both bidders were told what they should be, at the two doors that were closed, and the doors were asked for at one address.
 fn were_told(alloc: Global, net: &SureNet) -> Option<bool> {
+    if !was_asked(net, ADDRESS) {
+        return Some(false);
+    }
     match net.closed() {
         [first, second] => {
             Some(was_told(alloc, first, TO_ADA)? && was_told(alloc, second, TO_BOB)?)

@@ -8,6 +8,6 @@ use Rattle.house_run.proofs.commands.job.Goals as goal
 
 pub returns-in-Migrate-clause-answer : goal.returns-in-Migrate-clause-answer
 returns-in-Migrate-clause-answer g c =
-    let seen = outside g.H.Shelf.files g.H.Shelf.faults g.H.Shelf.opened c.args.shelf.now c.job-in-Migrate.new.shelf in
-    let net = net_seen g.N.Net.told g.N.Door.Door.told g.N.Door.Link.Link.told g.N.Door.Link.Link.faults g.N.Link.Link.told g.N.Net.faults c.args.net.now c.args.net.now in
+    let seen = outside g.H.Shelf c.args.shelf.now c.job-in-Migrate.new.shelf in
+    let net = net_seen g.N.Net c.args.net.now c.args.net.now in
     subst (λ (words : CommandWords). JobAnswer (command_as words) seen net c.job-in-Migrate.result) (sym c.in-Migrate.is) (c.job-in-Migrate.ensures.answer net)

@@ -39,7 +39,7 @@ loop-name-preserved g c =
       left = let e = ap length is ∙ length_push c.pop.new.self.items disk in let l = i.left in omega arith;
       same = c.close_disk.ensures.names ∙ i.same;
       given = λ journals are.
-          given-more g.H.Disk.Disk.shown journals i.front disk c.deref.result.now (shelf_seen g.H.Shelf.files g.H.Shelf.faults g.H.Shelf.opened c.args.shelf.now c.close_disk.new.self)
+          given-more g.H.Disk.Disk.shown journals i.front disk c.deref.result.now (shelf_seen g.H.Shelf c.args.shelf.now c.close_disk.new.self)
           (g.H.Shelf.files c.loop-name.shelf) (g.H.Shelf.faults c.loop-name.shelf) (g.H.Shelf.opened c.loop-name.shelf) (let k = i.count in let f = c.requires.few in omega arith)
           (c.deref.ensures ∙ ap (λ s. string_bytes s) c.name-item.is ∙ name-at journals c.args.names.now c.loop-name.name-index c.name-item.result are below ∙ ap (journal_name journals) (sym i.count))
           (i.given journals are) c.close_disk.ensures.counts c.close_disk.ensures.left c.close_disk.ensures.others c.close_disk.ensures.names;

@@ -22,7 +22,7 @@ returns-in-Err-clause-refused g c = λ journals are.
     let clock = c.loop-clock.clock in
     let below : clock < length names = c.loop-clock-test.true in
     let i = c.loop-clock.invariant.opening in
-    let shelf = shelf_seen g.H.Shelf.files g.H.Shelf.faults g.H.Shelf.opened c.args.shelf.now c.close_journals.new.shelf in
+    let shelf = shelf_seen g.H.Shelf c.args.shelf.now c.close_journals.new.shelf in
     let is = c.deref.ensures ∙ ap (λ s. string_bytes s) c.index-names-clock.is ∙ name-at journals names clock c.index-names-clock.result are below ∙ ap (journal_name journals) (sym i.count) in
     let here : AreNotOpen journals (length names) (length c.loop-clock.disks.items) (fault_of c.in-Err.refusal) shelf =
     not-open g.H.Disk.Disk.shown journals c.in-Err.refusal c.loop-clock.disks.items c.deref.result.now (length names) shelf
@@ -39,7 +39,7 @@ loop-clock-preserved g c =
     let below : clock < length names = c.loop-clock-test.true in
     let i = c.loop-clock.invariant.opening in
     let disk = c.in-Ok-disk.disk in
-    let shelf = shelf_seen g.H.Shelf.files g.H.Shelf.faults g.H.Shelf.opened c.args.shelf.now c.disk.new.self in
+    let shelf = shelf_seen g.H.Shelf c.args.shelf.now c.disk.new.self in
     let n = c.index-names-clock.result in
     let Holds : List ℕ → Type 0 = λ name. Contains (g.H.Shelf.opened c.disk.new.self) name in
     record {

@@ -6,6 +6,6 @@ use Rattle.house_run.proofs.disks.open_journals.Given as goal
 -- the journals of the clocks before this one are open
 abbrev pub invariant-loop-clock : goal.invariant-loop-clock
 invariant-loop-clock g l = record {
-  opening : Opening g.H.Disk.Disk.shown l.names l.clock l.disks.items (shelf_seen g.H.Shelf.files g.H.Shelf.faults g.H.Shelf.opened l.initial.shelf l.shelf);
+  opening : Opening g.H.Disk.Disk.shown l.names l.clock l.disks.items (shelf_seen g.H.Shelf l.initial.shelf l.shelf);
   room : length l.names ≤ vec_capacity l.disks;
 }

@@ -10,14 +10,14 @@ use Rattle.house_run.proofs.house.read_house.Goals as goal
 
 pub returns-in-Err-clause-ends : goal.returns-in-Err-clause-ends
 returns-in-Err-clause-ends g c = λ needs a l j.
-    let seen = outside g.H.Shelf.files g.H.Shelf.faults g.H.Shelf.opened c.args.shelf.now c.read_auction.new.shelf in
+    let seen = outside g.H.Shelf c.args.shelf.now c.read_auction.new.shelf in
     let ends = c.in-Err.ensures.refused needs a in
     record { cause = ends.cause; frame = refused-frame needs c.args.auction.now c.in-Err.ended seen (sources-are needs c.args.auction.now a l) c.read_auction.ensures.reads ends.counts }
 
 pub returns-in-Ok-read_clocks-clause-read : goal.returns-in-Ok-read_clocks-clause-read
 returns-in-Ok-read_clocks-clause-read g c =
-    let first = shelf_seen g.H.Shelf.files g.H.Shelf.faults g.H.Shelf.opened c.args.shelf.now c.read_auction.new.shelf in
-    let seen = outside g.H.Shelf.files g.H.Shelf.faults g.H.Shelf.opened c.args.shelf.now c.read_clocks.new.shelf in
+    let first = shelf_seen g.H.Shelf c.args.shelf.now c.read_auction.new.shelf in
+    let seen = outside g.H.Shelf c.args.shelf.now c.read_clocks.new.shelf in
     let auction = c.in-Ok.auction in
     let opened = opened-by c.args.auction.now c.args.journals.now first seen auction.terms auction.digest (listing_of auction) (g.H.Shelf.faults c.read_auction.new.shelf) (g.H.Shelf.opened c.read_auction.new.shelf) c.in-Ok.ensures.read c.in-Ok-read_clocks.ensures.done.files (terms-of auction) refl
     c.read_auction.ensures.reads.unchanged c.in-Ok.ensures.opened c.in-Ok.ensures.steady in
@@ -25,8 +25,8 @@ returns-in-Ok-read_clocks-clause-read g c =
 
 pub returns-in-Ok-read_clocks-clause-frame : goal.returns-in-Ok-read_clocks-clause-frame
 returns-in-Ok-read_clocks-clause-frame g c =
-    let first = shelf_seen g.H.Shelf.files g.H.Shelf.faults g.H.Shelf.opened c.args.shelf.now c.read_auction.new.shelf in
-    let seen = outside g.H.Shelf.files g.H.Shelf.faults g.H.Shelf.opened c.args.shelf.now c.read_clocks.new.shelf in
+    let first = shelf_seen g.H.Shelf c.args.shelf.now c.read_auction.new.shelf in
+    let seen = outside g.H.Shelf c.args.shelf.now c.read_clocks.new.shelf in
     let auction = c.in-Ok.auction in
     let opened = opened-by c.args.auction.now c.args.journals.now first seen auction.terms auction.digest (listing_of auction) (g.H.Shelf.faults c.read_auction.new.shelf) (g.H.Shelf.opened c.read_auction.new.shelf) c.in-Ok.ensures.read c.in-Ok-read_clocks.ensures.done.files (terms-of auction) refl
     c.read_auction.ensures.reads.unchanged c.in-Ok.ensures.opened c.in-Ok.ensures.steady in
@@ -34,8 +34,8 @@ returns-in-Ok-read_clocks-clause-frame g c =
 
 pub returns-clause-ends : goal.returns-clause-ends
 returns-clause-ends g c = λ needs a l j.
-    let first = shelf_seen g.H.Shelf.files g.H.Shelf.faults g.H.Shelf.opened c.args.shelf.now c.read_auction.new.shelf in
-    let seen = outside g.H.Shelf.files g.H.Shelf.faults g.H.Shelf.opened c.args.shelf.now c.read_clocks.new.shelf in
+    let first = shelf_seen g.H.Shelf c.args.shelf.now c.read_auction.new.shelf in
+    let seen = outside g.H.Shelf c.args.shelf.now c.read_clocks.new.shelf in
     let auction = c.in-Ok.auction in
     let unread = c.in-Err-read_clocks.unread in
     let opened = opened-by c.args.auction.now c.args.journals.now first seen auction.terms auction.digest (listing_of auction) (g.H.Shelf.faults c.read_auction.new.shelf) (g.H.Shelf.opened c.read_auction.new.shelf) c.in-Ok.ensures.read c.in-Err-read_clocks.ensures.synced.synced.files (terms-of auction) refl

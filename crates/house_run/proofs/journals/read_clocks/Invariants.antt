@@ -5,4 +5,4 @@ use Rattle.house_run.proofs.journals.read_clocks.Given as goal
 
 -- the journals of the clocks before this one were read, and no count rose
 abbrev pub invariant-clocks : goal.invariant-clocks
-invariant-clocks g l = Reading (shelf_seen g.H.Shelf.files g.H.Shelf.faults g.H.Shelf.opened l.initial.shelf l.shelf) l.terms l.digest l.journals l.clock (histories l.clocks.items)
+invariant-clocks g l = Reading (shelf_seen g.H.Shelf l.initial.shelf l.shelf) l.terms l.digest l.journals l.clock (histories l.clocks.items)

@@ -11,7 +11,7 @@ use Rattle.house_run.proofs.markets.read_bidders.Goals as goal
 
 pub returns-in-Err-clause-ends : goal.returns-in-Err-clause-ends
 returns-in-Err-clause-ends g c = λ b same.
-    let seen = outside g.H.Shelf.files g.H.Shelf.faults g.H.Shelf.opened c.args.shelf.now c.read_auction.new.shelf in
+    let seen = outside g.H.Shelf c.args.shelf.now c.read_auction.new.shelf in
     let auction = c.args.auction.now in
     let values = c.args.values.now in
     let leaves = auction-ends (bid_needs auction values b) auction values seen c.in-Err.ended (bid-two auction values b) c.read_auction.ensures.reads (c.in-Err.ensures.refused (bid_needs auction values b) refl) in
@@ -19,13 +19,13 @@ returns-in-Err-clause-ends g c = λ b same.
 
 pub returns-then-auction-bidder-clause-ends : goal.returns-then-auction-bidder-clause-ends
 returns-then-auction-bidder-clause-ends g c = λ b same.
-    let seen = outside g.H.Shelf.files g.H.Shelf.faults g.H.Shelf.opened c.args.shelf.now c.read_auction.new.shelf in
+    let seen = outside g.H.Shelf c.args.shelf.now c.read_auction.new.shelf in
     let auction = c.in-Ok.auction in
     no-bidder c.args.auction.now c.args.values.now b seen c.args.bidder auction.terms (listing_of auction) same c.read_auction.ensures.reads c.in-Ok.ensures.steady c.in-Ok.ensures.read (terms-of auction) (omega arith)
 
 pub returns-in-Ok-read_values-clause-read : goal.returns-in-Ok-read_values-clause-read
 returns-in-Ok-read_values-clause-read g c =
-    let seen = outside g.H.Shelf.files g.H.Shelf.faults g.H.Shelf.opened c.args.shelf.now c.read_values.new.shelf in
+    let seen = outside g.H.Shelf c.args.shelf.now c.read_values.new.shelf in
     let auction = c.in-Ok.auction in
     let files = g.H.Shelf.files c.read_auction.new.shelf in
     let faults = g.H.Shelf.faults c.read_auction.new.shelf in
@@ -35,19 +35,19 @@ returns-in-Ok-read_values-clause-read g c =
 
 pub returns-in-Ok-read_values-clause-frame : goal.returns-in-Ok-read_values-clause-frame
 returns-in-Ok-read_values-clause-frame g c = λ b end.
-    let seen = outside g.H.Shelf.files g.H.Shelf.faults g.H.Shelf.opened c.args.shelf.now c.read_values.new.shelf in
+    let seen = outside g.H.Shelf c.args.shelf.now c.read_values.new.shelf in
     let auction = c.in-Ok.auction in
     let files = g.H.Shelf.files c.read_auction.new.shelf in
     let faults = g.H.Shelf.faults c.read_auction.new.shelf in
     let names = g.H.Shelf.opened c.read_auction.new.shelf in
     let known = known-by c.args.auction.now seen auction.terms (listing_of auction) files faults names c.in-Ok.ensures.read (terms-of auction) c.read_auction.ensures.reads.unchanged c.in-Ok.ensures.opened c.in-Ok.ensures.steady in
-    let second = shelf_seen g.H.Shelf.files g.H.Shelf.faults g.H.Shelf.opened c.read_auction.new.shelf c.read_values.new.shelf in
+    let second = shelf_seen g.H.Shelf c.read_auction.new.shelf c.read_values.new.shelf in
     let needs = bid_needs c.args.auction.now c.args.values.now b in
     market-frame needs c.args.auction.now c.args.values.now seen auction.terms files faults names end (bid-two c.args.auction.now c.args.values.now b) known c.read_values.ensures.reads (steady-counts (Tells needs end) second c.in-Ok-read_values.ensures.steady)
 
 pub returns-in-Err-read_values-clause-ends : goal.returns-in-Err-read_values-clause-ends
 returns-in-Err-read_values-clause-ends g c = λ b same.
-    let seen = outside g.H.Shelf.files g.H.Shelf.faults g.H.Shelf.opened c.args.shelf.now c.read_values.new.shelf in
+    let seen = outside g.H.Shelf c.args.shelf.now c.read_values.new.shelf in
     let auction = c.in-Ok.auction in
     let files = g.H.Shelf.files c.read_auction.new.shelf in
     let faults = g.H.Shelf.faults c.read_auction.new.shelf in

@@ -12,12 +12,12 @@ use Rattle.house_run.proofs.markets.read_market.Goals as goal
 
 pub returns-in-Err-clause-ends : goal.returns-in-Err-clause-ends
 returns-in-Err-clause-ends g c =
-    let seen = outside g.H.Shelf.files g.H.Shelf.faults g.H.Shelf.opened c.args.shelf.now c.read_auction.new.shelf in
+    let seen = outside g.H.Shelf c.args.shelf.now c.read_auction.new.shelf in
     auction-ends (trial_needs c.args.auction.now c.args.values.now) c.args.auction.now c.args.values.now seen c.in-Err.ended (trial-two c.args.auction.now c.args.values.now) c.read_auction.ensures.reads (c.in-Err.ensures.refused (trial_needs c.args.auction.now c.args.values.now) refl)
 
 pub returns-in-Ok-read_values-clause-read : goal.returns-in-Ok-read_values-clause-read
 returns-in-Ok-read_values-clause-read g c =
-    let seen = outside g.H.Shelf.files g.H.Shelf.faults g.H.Shelf.opened c.args.shelf.now c.read_values.new.shelf in
+    let seen = outside g.H.Shelf c.args.shelf.now c.read_values.new.shelf in
     let auction = c.in-Ok.auction in
     let files = g.H.Shelf.files c.read_auction.new.shelf in
     let faults = g.H.Shelf.faults c.read_auction.new.shelf in
@@ -27,18 +27,18 @@ returns-in-Ok-read_values-clause-read g c =
 
 pub returns-in-Ok-read_values-clause-frame : goal.returns-in-Ok-read_values-clause-frame
 returns-in-Ok-read_values-clause-frame g c = λ end.
-    let seen = outside g.H.Shelf.files g.H.Shelf.faults g.H.Shelf.opened c.args.shelf.now c.read_values.new.shelf in
+    let seen = outside g.H.Shelf c.args.shelf.now c.read_values.new.shelf in
     let auction = c.in-Ok.auction in
     let files = g.H.Shelf.files c.read_auction.new.shelf in
     let faults = g.H.Shelf.faults c.read_auction.new.shelf in
     let names = g.H.Shelf.opened c.read_auction.new.shelf in
     let known = known-by c.args.auction.now seen auction.terms (listing_of auction) files faults names c.in-Ok.ensures.read (terms-of auction) c.read_auction.ensures.reads.unchanged c.in-Ok.ensures.opened c.in-Ok.ensures.steady in
-    let second = shelf_seen g.H.Shelf.files g.H.Shelf.faults g.H.Shelf.opened c.read_auction.new.shelf c.read_values.new.shelf in
+    let second = shelf_seen g.H.Shelf c.read_auction.new.shelf c.read_values.new.shelf in
     market-frame (trial_needs c.args.auction.now c.args.values.now) c.args.auction.now c.args.values.now seen auction.terms files faults names end (trial-two c.args.auction.now c.args.values.now) known c.read_values.ensures.reads (steady-counts (Tells (trial_needs c.args.auction.now c.args.values.now) end) second c.in-Ok-read_values.ensures.steady)
 
 pub returns-clause-ends : goal.returns-clause-ends
 returns-clause-ends g c =
-    let seen = outside g.H.Shelf.files g.H.Shelf.faults g.H.Shelf.opened c.args.shelf.now c.read_values.new.shelf in
+    let seen = outside g.H.Shelf c.args.shelf.now c.read_values.new.shelf in
     let auction = c.in-Ok.auction in
     let files = g.H.Shelf.files c.read_auction.new.shelf in
     let faults = g.H.Shelf.faults c.read_auction.new.shelf in

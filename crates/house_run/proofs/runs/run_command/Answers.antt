@@ -7,12 +7,12 @@ use Rattle.house_run.proofs.runs.run_command.Goals as goal
 
 pub returns-in-Ok : goal.returns-in-Ok
 returns-in-Ok g c =
-    let seen = outside g.H.Shelf.files g.H.Shelf.faults g.H.Shelf.opened c.args.shelf.now c.job.new.shelf in
-    let net = net_seen g.N.Net.told g.N.Door.Door.told g.N.Door.Link.Link.told g.N.Door.Link.Link.faults g.N.Link.Link.told g.N.Net.faults c.args.net.now c.job.new.net in
+    let seen = outside g.H.Shelf c.args.shelf.now c.job.new.shelf in
+    let net = net_seen g.N.Net c.args.net.now c.job.new.net in
     job-done (command_as c.args.command.now) seen net _ _ _ _ c.in-Ok.ensures.answer c.in-Ok.ensures.frame c.in-Ok.ensures.net_frame c.deref.ensures.value c.deliver.ensures
 
 pub returns-in-Err : goal.returns-in-Err
 returns-in-Err g c =
-    let seen = outside g.H.Shelf.files g.H.Shelf.faults g.H.Shelf.opened c.args.shelf.now c.job.new.shelf in
-    let net = net_seen g.N.Net.told g.N.Door.Door.told g.N.Door.Link.Link.told g.N.Door.Link.Link.faults g.N.Link.Link.told g.N.Net.faults c.args.net.now c.job.new.net in
+    let seen = outside g.H.Shelf c.args.shelf.now c.job.new.shelf in
+    let net = net_seen g.N.Net c.args.net.now c.job.new.net in
     job-ends (command_as c.args.command.now) seen net _ c.in-Err.ended _ c.in-Err.ensures.answer c.in-Err.ensures.frame c.in-Err.ensures.net_frame c.deliver_line.ensures

@@ -1,10 +1,11 @@
 -- The files are read, and then the part is played over a link.
-use Rattle.std.proofs.Common.{◌≡◌, ◌∙◌, Ok, ap, inl, inr, refl}
+use Rattle.std.proofs.Common.{◌≡◌, ◌∙◌, ◌⊎◌, ◌++◌, ◌∷◌, [], Ok, ap, inl, inr, refl}
 use Rattle.std.specs.List.{flat_map}
 use Rattle.house_run.specs.BidCommand.{look_line}
 use Rattle.command_line.specs.CommandView.{bidding_as}
 use Rattle.house_run.specs.Dialling.{PlaysIn, part_in}
-use Rattle.house_run.specs.Nets.{NetView, net_seen}
+use Rattle.house_run.specs.Nets.{net_seen}
+use Rattle.house_io.specs.NetsShown.{NetView}
 use Rattle.house_run.specs.Seen.{outside}
 use Rattle.house_run.specs.declared.ends.Ended.TheVariants as how
 use Rattle.house_run.proofs.GivingSteps.{told-same}
@@ -13,21 +14,22 @@ use Rattle.house_run.proofs.commands.bid.job.Goals as goal
 
 pub returns-in-Err-clause-answer : goal.returns-in-Err-clause-answer
 returns-in-Err-clause-answer g c =
-    let net = net_seen g.N.Net.told g.N.Door.Door.told g.N.Door.Link.Link.told g.N.Door.Link.Link.faults g.N.Link.Link.told g.N.Net.faults c.args.net.now c.args.net.now in
+    let net = net_seen g.N.Net c.args.net.now c.args.net.now in
     (c.in-Err.ensures.ends (bidding_as c.args.bidding.now) refl).cause net
 
 pub returns-in-Err-clause-frame : goal.returns-in-Err-clause-frame
 returns-in-Err-clause-frame g c =
-    let net = net_seen g.N.Net.told g.N.Door.Door.told g.N.Door.Link.Link.told g.N.Door.Link.Link.faults g.N.Link.Link.told g.N.Net.faults c.args.net.now c.args.net.now in
-    record { frame = (c.in-Err.ensures.ends (bidding_as c.args.bidding.now) refl).frame; talked = inl (told-same (λ (b a : NetView). a ≡ b) net.told (λ x. refl)) }
+    let net = net_seen g.N.Net c.args.net.now c.args.net.now in
+    let address = (bidding_as c.args.bidding.now).address in
+    record { frame = (c.in-Err.ensures.ends (bidding_as c.args.bidding.now) refl).frame; talked = inl (told-same (λ (b a : NetView). (a ≡ b) ⊎ (a ≡ record b { dialled = b.dialled ++ address ∷ [] })) net.told (λ x. inl refl)) }
 
 pub returns-in-Err-clause-net_frame : goal.returns-in-Err-clause-net_frame
 returns-in-Err-clause-net_frame g c = bid-leaves c.args.auction.now c.args.values.now (bidding_as c.args.bidding.now) _ _ (quiet-counts _ _ refl)
 
 pub returns-in-Err-talk-clause-answer : goal.returns-in-Err-talk-clause-answer
 returns-in-Err-talk-clause-answer g c =
-    let seen = outside g.H.Shelf.files g.H.Shelf.faults g.H.Shelf.opened c.args.shelf.now c.read_bidders.new.shelf in
-    let net = net_seen g.N.Net.told g.N.Door.Door.told g.N.Door.Link.Link.told g.N.Door.Link.Link.faults g.N.Link.Link.told g.N.Net.faults c.args.net.now c.talk.new.net in
+    let seen = outside g.H.Shelf c.args.shelf.now c.read_bidders.new.shelf in
+    let net = net_seen g.N.Net c.args.net.now c.talk.new.net in
     let b = bidding_as c.args.bidding.now in
     let market = c.in-Ok.market in
     let part = part_in market.auction.terms market.valuations.items b in
@@ -42,8 +44,8 @@ returns-in-Err-talk-clause-answer g c =
 
 pub returns-in-Err-talk-clause-frame : goal.returns-in-Err-talk-clause-frame
 returns-in-Err-talk-clause-frame g c =
-    let seen = outside g.H.Shelf.files g.H.Shelf.faults g.H.Shelf.opened c.args.shelf.now c.read_bidders.new.shelf in
-    let net = net_seen g.N.Net.told g.N.Door.Door.told g.N.Door.Link.Link.told g.N.Door.Link.Link.faults g.N.Link.Link.told g.N.Net.faults c.args.net.now c.talk.new.net in
+    let seen = outside g.H.Shelf c.args.shelf.now c.read_bidders.new.shelf in
+    let net = net_seen g.N.Net c.args.net.now c.talk.new.net in
     let b = bidding_as c.args.bidding.now in
     let market = c.in-Ok.market in
     let part = part_in market.auction.terms market.valuations.items b in

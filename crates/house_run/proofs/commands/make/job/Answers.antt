@@ -8,7 +8,7 @@ use Rattle.house_run.proofs.commands.make.job.Goals as goal
 
 pub returns-in-Err-try_market-clause-answer : goal.returns-in-Err-try_market-clause-answer
 returns-in-Err-try_market-clause-answer g c =
-    let seen = outside g.H.Shelf.files g.H.Shelf.faults g.H.Shelf.opened c.args.shelf.now c.args.shelf.now in
+    let seen = outside g.H.Shelf c.args.shelf.now c.args.shelf.now in
     let terms = c.in-Ok.market.0 in
     let E : List (List ℕ) → Type 0 = λ vs. IsTrialEnd terms vs c.in-Err-try_market.ended in
     make-ends c.in-Err-try_market.ended c.args.number seen terms c.in-Ok.market.1.items c.in-Ok.ensures (subst E c.as_slice.ensures.value c.in-Err-try_market.ensures.ends)

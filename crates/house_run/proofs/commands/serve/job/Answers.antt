@@ -11,23 +11,23 @@ use Rattle.house_run.proofs.commands.serve.job.Goals as goal
 
 pub returns-in-Err-clause-answer : goal.returns-in-Err-clause-answer
 returns-in-Err-clause-answer g c =
-    let seen = outside g.H.Shelf.files g.H.Shelf.faults g.H.Shelf.opened c.args.shelf.now c.read_auction.new.shelf in
-    let net = net_seen g.N.Net.told g.N.Door.Door.told g.N.Door.Link.Link.told g.N.Door.Link.Link.faults g.N.Link.Link.told g.N.Net.faults c.args.net.now c.args.net.now in
+    let seen = outside g.H.Shelf c.args.shelf.now c.read_auction.new.shelf in
+    let net = net_seen g.N.Net c.args.net.now c.args.net.now in
     refused-answer c.args.auction.now c.args.journals.now (serving_as c.args.serving.now) c.in-Err.ended seen net c.read_auction.ensures.reads c.in-Err.ensures.refused
 
 pub returns-in-Err-clause-frame : goal.returns-in-Err-clause-frame
 returns-in-Err-clause-frame g c =
-    let seen = outside g.H.Shelf.files g.H.Shelf.faults g.H.Shelf.opened c.args.shelf.now c.read_auction.new.shelf in
-    let net = net_seen g.N.Net.told g.N.Door.Door.told g.N.Door.Link.Link.told g.N.Door.Link.Link.faults g.N.Link.Link.told g.N.Net.faults c.args.net.now c.args.net.now in
+    let seen = outside g.H.Shelf c.args.shelf.now c.read_auction.new.shelf in
+    let net = net_seen g.N.Net c.args.net.now c.args.net.now in
     refused-frame c.args.auction.now c.args.journals.now (serving_as c.args.serving.now) c.in-Err.ended seen net (refl, refl) c.read_auction.ensures.reads c.in-Err.ensures.refused
 
 pub returns-in-Err-serve_journals-clause-answer : goal.returns-in-Err-serve_journals-clause-answer
 returns-in-Err-serve_journals-clause-answer g c =
     let s = serving_as c.args.serving.now in
     let value = c.in-Ok.auction in
-    let first = shelf_seen g.H.Shelf.files g.H.Shelf.faults g.H.Shelf.opened c.args.shelf.now c.read_auction.new.shelf in
-    let seen = outside g.H.Shelf.files g.H.Shelf.faults g.H.Shelf.opened c.args.shelf.now c.serve_journals.new.shelf in
-    let net = net_seen g.N.Net.told g.N.Door.Door.told g.N.Door.Link.Link.told g.N.Door.Link.Link.faults g.N.Link.Link.told g.N.Net.faults c.args.net.now c.serve_journals.new.net in
+    let first = shelf_seen g.H.Shelf c.args.shelf.now c.read_auction.new.shelf in
+    let seen = outside g.H.Shelf c.args.shelf.now c.serve_journals.new.shelf in
+    let net = net_seen g.N.Net c.args.net.now c.serve_journals.new.net in
     let files = g.H.Shelf.files c.read_auction.new.shelf in
     let faults = g.H.Shelf.faults c.read_auction.new.shelf in
     let names = g.H.Shelf.opened c.read_auction.new.shelf in
@@ -39,9 +39,9 @@ pub returns-in-Err-serve_journals-clause-frame : goal.returns-in-Err-serve_journ
 returns-in-Err-serve_journals-clause-frame g c =
     let s = serving_as c.args.serving.now in
     let value = c.in-Ok.auction in
-    let first = shelf_seen g.H.Shelf.files g.H.Shelf.faults g.H.Shelf.opened c.args.shelf.now c.read_auction.new.shelf in
-    let seen = outside g.H.Shelf.files g.H.Shelf.faults g.H.Shelf.opened c.args.shelf.now c.serve_journals.new.shelf in
-    let net = net_seen g.N.Net.told g.N.Door.Door.told g.N.Door.Link.Link.told g.N.Door.Link.Link.faults g.N.Link.Link.told g.N.Net.faults c.args.net.now c.serve_journals.new.net in
+    let first = shelf_seen g.H.Shelf c.args.shelf.now c.read_auction.new.shelf in
+    let seen = outside g.H.Shelf c.args.shelf.now c.serve_journals.new.shelf in
+    let net = net_seen g.N.Net c.args.net.now c.serve_journals.new.net in
     let files = g.H.Shelf.files c.read_auction.new.shelf in
     let faults = g.H.Shelf.faults c.read_auction.new.shelf in
     let names = g.H.Shelf.opened c.read_auction.new.shelf in
@@ -53,9 +53,9 @@ pub returns-in-Ok-serve_text-clause-answer : goal.returns-in-Ok-serve_text-claus
 returns-in-Ok-serve_text-clause-answer g c =
     let s = serving_as c.args.serving.now in
     let value = c.in-Ok.auction in
-    let first = shelf_seen g.H.Shelf.files g.H.Shelf.faults g.H.Shelf.opened c.args.shelf.now c.read_auction.new.shelf in
-    let seen = outside g.H.Shelf.files g.H.Shelf.faults g.H.Shelf.opened c.args.shelf.now c.serve_journals.new.shelf in
-    let net = net_seen g.N.Net.told g.N.Door.Door.told g.N.Door.Link.Link.told g.N.Door.Link.Link.faults g.N.Link.Link.told g.N.Net.faults c.args.net.now c.serve_journals.new.net in
+    let first = shelf_seen g.H.Shelf c.args.shelf.now c.read_auction.new.shelf in
+    let seen = outside g.H.Shelf c.args.shelf.now c.serve_journals.new.shelf in
+    let net = net_seen g.N.Net c.args.net.now c.serve_journals.new.net in
     let files = g.H.Shelf.files c.read_auction.new.shelf in
     let faults = g.H.Shelf.faults c.read_auction.new.shelf in
     let names = g.H.Shelf.opened c.read_auction.new.shelf in
@@ -68,9 +68,9 @@ pub returns-in-Ok-serve_text-clause-frame : goal.returns-in-Ok-serve_text-clause
 returns-in-Ok-serve_text-clause-frame g c =
     let s = serving_as c.args.serving.now in
     let value = c.in-Ok.auction in
-    let first = shelf_seen g.H.Shelf.files g.H.Shelf.faults g.H.Shelf.opened c.args.shelf.now c.read_auction.new.shelf in
-    let seen = outside g.H.Shelf.files g.H.Shelf.faults g.H.Shelf.opened c.args.shelf.now c.serve_journals.new.shelf in
-    let net = net_seen g.N.Net.told g.N.Door.Door.told g.N.Door.Link.Link.told g.N.Door.Link.Link.faults g.N.Link.Link.told g.N.Net.faults c.args.net.now c.serve_journals.new.net in
+    let first = shelf_seen g.H.Shelf c.args.shelf.now c.read_auction.new.shelf in
+    let seen = outside g.H.Shelf c.args.shelf.now c.serve_journals.new.shelf in
+    let net = net_seen g.N.Net c.args.net.now c.serve_journals.new.net in
     let files = g.H.Shelf.files c.read_auction.new.shelf in
     let faults = g.H.Shelf.faults c.read_auction.new.shelf in
     let names = g.H.Shelf.opened c.read_auction.new.shelf in
@@ -82,9 +82,9 @@ pub returns-clause-frame : goal.returns-clause-frame
 returns-clause-frame g c =
     let s = serving_as c.args.serving.now in
     let value = c.in-Ok.auction in
-    let first = shelf_seen g.H.Shelf.files g.H.Shelf.faults g.H.Shelf.opened c.args.shelf.now c.read_auction.new.shelf in
-    let seen = outside g.H.Shelf.files g.H.Shelf.faults g.H.Shelf.opened c.args.shelf.now c.serve_journals.new.shelf in
-    let net = net_seen g.N.Net.told g.N.Door.Door.told g.N.Door.Link.Link.told g.N.Door.Link.Link.faults g.N.Link.Link.told g.N.Net.faults c.args.net.now c.serve_journals.new.net in
+    let first = shelf_seen g.H.Shelf c.args.shelf.now c.read_auction.new.shelf in
+    let seen = outside g.H.Shelf c.args.shelf.now c.serve_journals.new.shelf in
+    let net = net_seen g.N.Net c.args.net.now c.serve_journals.new.net in
     let files = g.H.Shelf.files c.read_auction.new.shelf in
     let faults = g.H.Shelf.faults c.read_auction.new.shelf in
     let names = g.H.Shelf.opened c.read_auction.new.shelf in

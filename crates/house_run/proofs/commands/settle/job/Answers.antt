@@ -17,7 +17,7 @@ settled_text-requires g c = clocks-of _ _ _ _ _ c.in-Ok.ensures.read
 
 pub returns-clause-answer : goal.returns-clause-answer
 returns-clause-answer g c =
-    let seen = outside g.H.Shelf.files g.H.Shelf.faults g.H.Shelf.opened c.args.shelf.now c.read_house.new.shelf in
+    let seen = outside g.H.Shelf c.args.shelf.now c.read_house.new.shelf in
     settled-answer c.settled_text.result c.args.auction.now c.args.journals.now c.args.json seen c.in-Ok.house.terms (histories c.in-Ok.house.clocks.items) c.in-Ok.ensures.read c.settled_text.ensures.text c.settled_text.ensures.ends
 
 pub returns-clause-frame : goal.returns-clause-frame

@@ -8,7 +8,7 @@ use Rattle.house_run.proofs.commands.trials.job.Goals as goal
 
 pub returns-in-Err-try_market-clause-answer : goal.returns-in-Err-try_market-clause-answer
 returns-in-Err-try_market-clause-answer g c =
-    let seen = outside g.H.Shelf.files g.H.Shelf.faults g.H.Shelf.opened c.args.shelf.now c.read_market.new.shelf in
+    let seen = outside g.H.Shelf c.args.shelf.now c.read_market.new.shelf in
     let terms = c.in-Ok.market.terms in
     let E : List (List ℕ) → Type 0 = λ vs. IsTrialEnd terms vs c.in-Err-try_market.ended in
     trial-ends c.in-Err-try_market.ended c.args.auction.now c.args.values.now seen terms c.in-Ok.market.valuations.items c.in-Ok.ensures.read (subst E c.as_slice-valuations.ensures.value c.in-Err-try_market.ensures.ends)
