@@ -29,11 +29,69 @@ name = "bob"
 token = "2cf24dba5fb0a30e26e83b2ac5b9e29e1b161e5c1fa7425e73043362938b9824"
 "#;
 
-fn auction(alloc: Global) -> Option<Auction> {
-    if FILE.len() > MOST_BYTES {
+/// Two units of one good for twelve bidders, the most that there can be. Nobody knows their tokens.
+const TWELVE: &str = r#"
+version = 1
+ceiling = 10
+
+[[goods]]
+name = "oil"
+supply = 2
+
+[[bidders]]
+name = "bidder-1"
+token = "0000000000000000000000000000000000000000000000000000000000000001"
+
+[[bidders]]
+name = "bidder-2"
+token = "0000000000000000000000000000000000000000000000000000000000000002"
+
+[[bidders]]
+name = "bidder-3"
+token = "0000000000000000000000000000000000000000000000000000000000000003"
+
+[[bidders]]
+name = "bidder-4"
+token = "0000000000000000000000000000000000000000000000000000000000000004"
+
+[[bidders]]
+name = "bidder-5"
+token = "0000000000000000000000000000000000000000000000000000000000000005"
+
+[[bidders]]
+name = "bidder-6"
+token = "0000000000000000000000000000000000000000000000000000000000000006"
+
+[[bidders]]
+name = "bidder-7"
+token = "0000000000000000000000000000000000000000000000000000000000000007"
+
+[[bidders]]
+name = "bidder-8"
+token = "0000000000000000000000000000000000000000000000000000000000000008"
+
+[[bidders]]
+name = "bidder-9"
+token = "0000000000000000000000000000000000000000000000000000000000000009"
+
+[[bidders]]
+name = "bidder-10"
+token = "000000000000000000000000000000000000000000000000000000000000000a"
+
+[[bidders]]
+name = "bidder-11"
+token = "000000000000000000000000000000000000000000000000000000000000000b"
+
+[[bidders]]
+name = "bidder-12"
+token = "000000000000000000000000000000000000000000000000000000000000000c"
+"#;
+
+fn auction(alloc: Global, text: &str) -> Option<Auction> {
+    if text.len() > MOST_BYTES {
         return None;
     }
-    match read(alloc, FILE.as_bytes()) {
+    match read(alloc, text.as_bytes()) {
         Ok(auction) => Some(auction),
         Err(_) => None,
     }
@@ -347,15 +405,16 @@ fn outcome_in<T: Wait>(
     }
 }
 
-/// The same in the auction of two bidders.
+/// The same in the auction of this text.
 fn outcome<T: Wait>(
     rt: &T,
     alloc: Global,
+    text: &str,
     failing: Option<u64>,
     turns: &[Turn],
     wanted: &[Ending],
 ) -> Option<(Option<Turn>, bool)> {
-    match auction(alloc) {
+    match auction(alloc, text) {
         None => None,
         Some(auction) => outcome_in(rt, alloc, &auction, failing, turns, wanted),
     }
@@ -400,7 +459,7 @@ fn each_pass_is_shown_what_the_other_offered(rt: HostRuntime) {
         ends_with(running(1, 0), 0, 42),
         ends_with(ended(1, 0), 1, 57),
     ];
-    let found = outcome(&rt, rt.alloc(), None, &turns_in_turn(), &wanted);
+    let found = outcome(&rt, rt.alloc(), FILE, None, &turns_in_turn(), &wanted);
     assert_eq!(rt; found, Some((None, true)));
 }
 
@@ -441,7 +500,7 @@ fn goes<T: Wait>(rt: &T, alloc: Global, failing: u64, turns: &[Turn], end: Endin
         ends_with(running(1, 0), 0, 42),
         ends_with(ended(1, 0), 1, 57),
     ];
-    outcome(rt, alloc, Some(failing), turns, &wanted) == Some((None, true))
+    outcome(rt, alloc, FILE, Some(failing), turns, &wanted) == Some((None, true))
 }
 
 #[test]
@@ -463,4 +522,41 @@ fn a_report_in_doubt_is_counted_once(rt: HostRuntime) {
             "call {failing} {end:?}"
         );
     }
+}
+
+/// A report of one unit in round 1 to this clock, which no other follows.
+fn first_at(clock: u8, bidder: u8) -> Turn {
+    let opened = running(1, 0);
+    went(
+        report(1, clock, bidder, 1, 1),
+        opened,
+        Offered::Taken,
+        opened,
+    )
+}
+
+/// One such report to each of thirteen clocks.
+fn one_to_each() -> [Turn; 13] {
+    [
+        first_at(0, 1),
+        first_at(1, 2),
+        first_at(2, 1),
+        first_at(3, 1),
+        first_at(4, 1),
+        first_at(5, 1),
+        first_at(6, 1),
+        first_at(7, 1),
+        first_at(8, 1),
+        first_at(9, 1),
+        first_at(10, 1),
+        first_at(11, 1),
+        first_at(12, 1),
+    ]
+}
+
+#[test]
+fn each_of_thirteen_clocks_is_looked_at(rt: HostRuntime) {
+    let wanted = [ends_with(running(1, 0), 1, 57); 13];
+    let found = outcome(&rt, rt.alloc(), TWELVE, None, &one_to_each(), &wanted);
+    assert_eq!(rt; found, Some((None, true)));
 }

@@ -15,7 +15,7 @@ use std::test::Fail;
 use std::thread::Threads;
 
 /// One unit of one good for two bidders, whose tokens are `abc` and `hello`.
-const FILE: &str = r#"
+pub(crate) const FILE: &str = r#"
 version = 1
 ceiling = 10
 
@@ -33,7 +33,7 @@ token = "2cf24dba5fb0a30e26e83b2ac5b9e29e1b161e5c1fa7425e73043362938b9824"
 "#;
 
 /// Bidder 1 says hello, reports one unit to clock 2 in round 1, and quits.
-const ADA: &[u8] =
+pub(crate) const ADA: &[u8] =
     b"\x00\x00\x00\x04\x01\x01abc\x00\x00\x00\x0a\x03\x02\x00\x00\x00\x01\x01\x00\x01\x00\x01\x00\x00\x00\x00\x04";
 
 /// Bidder 2 says hello, reports none or one unit to clock 1 in round 1, and quits.

@@ -57,18 +57,19 @@ fn list_door(alloc: Global) -> Option<ListDoor> {
     list_door_with(alloc, links)
 }
 
-/// Serves two sessions at a door: whether the door failed, and how they ended.
-fn serve_two<D: Door, T: Wait>(
+/// Serves so many sessions at a door: whether the door failed, and how they ended.
+fn serve_some<D: Door, T: Wait>(
     rt: &T,
     alloc: Global,
     auction: &Auction,
     door: &mut D,
+    sessions: u32,
 ) -> Option<(bool, Vec<SessionEnd>)> {
-    let mut ends = Vec::with_capacity(alloc, 2).ok()?;
+    let mut ends = Vec::with_capacity(alloc, sessions as usize).ok()?;
     match ListHall::open(alloc, &auction.terms) {
         Err(_) => None,
         Ok(mut hall) => {
-            let failed = serve_door(rt, alloc, auction, &mut hall, door, 2, &mut ends);
+            let failed = serve_door(rt, alloc, auction, &mut hall, door, sessions, &mut ends);
             Some((failed, ends))
         }
     }
@@ -84,7 +85,7 @@ fn serves_so<D: Door, T: Wait>(
 ) -> bool {
     match auction(alloc) {
         None => false,
-        Some(auction) => match serve_two(rt, alloc, &auction, door) {
+        Some(auction) => match serve_some(rt, alloc, &auction, door, 2) {
             None => false,
             Some((failed, ends)) => failed == fails && ends.as_slice() == wanted,
         },
@@ -126,4 +127,47 @@ fn fails_behind_one<T: Wait>(rt: &T, alloc: Global) -> bool {
 fn a_door_serves_one_link_after_another(rt: HostRuntime) {
     assert!(rt; serves_two(&rt, rt.alloc()));
     assert!(rt; fails_behind_one(&rt, rt.alloc()));
+}
+
+/// Puts the link of a session behind others, if there is memory.
+fn push_link(alloc: Global, links: &mut Vec<SureLink>) -> bool {
+    match sure_link(alloc, &[HELLO, QUIT]) {
+        None => false,
+        Some(link) => links.push(link).is_ok(),
+    }
+}
+
+fn many_links(alloc: Global, count: u32) -> Option<Vec<SureLink>> {
+    let mut links = Vec::new(alloc);
+    for _link in 0..count {
+        if !push_link(alloc, &mut links) {
+            return None;
+        }
+    }
+    Some(links)
+}
+
+/// A door with so many sessions.
+fn many_door(alloc: Global, count: u32) -> Option<SureDoor> {
+    SureDoor::new(alloc, many_links(alloc, count)?).ok()
+}
+
+/// Serves so many sessions at a door that has as many: whether it failed, how many ended, and whether each quit.
+fn serves_many<T: Wait>(rt: &T, alloc: Global, count: u32) -> Option<(bool, usize, bool)> {
+    let auction = auction(alloc)?;
+    let mut door = many_door(alloc, count)?;
+    let (failed, ends) = serve_some(rt, alloc, &auction, &mut door, count)?;
+    Some((failed, ends.len(), ends.iter().all(is_quit)))
+}
+
+fn is_quit(end: &SessionEnd) -> bool {
+    *end == SessionEnd::Quit
+}
+
+#[test]
+fn a_door_serves_as_many_sessions_as_are_asked_for(rt: HostRuntime) {
+    assert_eq!(rt;
+        serves_many(&rt, rt.alloc(), 1_001),
+        Some((false, 1_001, true))
+    );
 }

@@ -285,3 +285,41 @@ fn a_link_that_fails_ends_its_session(rt: HostRuntime) {
         assert!(rt; cut, "call {failing}");
     }
 }
+
+/// The bytes of a hello, so many of the same report, and a quit.
+fn long_talk(alloc: Global, reports: u32) -> Option<Vec<u8>> {
+    let mut bytes = copy_of(alloc, HELLO)?;
+    for _report in 0..reports {
+        if bytes.extend_from_slice(REPORT).is_err() {
+            return None;
+        }
+    }
+    bytes.extend_from_slice(QUIT).ok()?;
+    Some(bytes)
+}
+
+fn copy_of(alloc: Global, bytes: &[u8]) -> Option<Vec<u8>> {
+    bytes.to_vec(alloc).ok()
+}
+
+/// A link over which these come, with room for ten bytes to go for each report.
+fn long_link(alloc: Global, reports: u32) -> Option<SureLink> {
+    SureLink::new(alloc, long_talk(alloc, reports)?, 2_000_000).ok()
+}
+
+/// How a session of so many of the same report ends, and how many bytes it is answered.
+fn talks_long<T: Wait>(rt: &T, alloc: Global, reports: u32) -> Option<(SessionEnd, usize)> {
+    let mut link = long_link(alloc, reports)?;
+    let end = serve(rt, alloc, &mut link)?;
+    Some((end, link.written().len()))
+}
+
+/// A report has 15 bytes, so that 2,100,000 come. Each is answered by ten.
+#[test]
+fn a_session_of_two_million_bytes_is_answered(rt: HostRuntime) {
+    let answered = WELCOME.len() + 10 * 140_000 + BYE.len();
+    assert_eq!(rt;
+        talks_long(&rt, rt.alloc(), 140_000),
+        Some((SessionEnd::Quit, answered))
+    );
+}

@@ -141,3 +141,13 @@ fn seven_makes_its_first_bidder(rt: HostRuntime) -> Result<(), Fail> {
     assert_eq!(&rt; &values[12..14], [8, 176].as_slice());
     Ok(())
 }
+
+/// The box of four, three and two units has 60 bundles.
+#[test]
+fn each_number_makes_a_market(rt: HostRuntime) -> Result<(), Fail> {
+    for number in [0, 1, 65_536, u32::MAX] {
+        let values = first_values(rt.alloc(), number)?;
+        assert_eq!(&rt; values.len(), 60, "{number}");
+    }
+    Ok(())
+}

@@ -137,6 +137,44 @@ fn reads_two_bidders_for_oil(rt: HostRuntime) -> Result<(), Fail> {
     Ok(())
 }
 
+/// As many goods as there can be.
+const SIX_GOODS: &str = r#"
+[[goods]]
+name = "oil"
+supply = 1
+
+[[goods]]
+name = "gas"
+supply = 1
+
+[[goods]]
+name = "coal"
+supply = 1
+
+[[goods]]
+name = "wind"
+supply = 1
+
+[[goods]]
+name = "peat"
+supply = 1
+
+[[goods]]
+name = "wood"
+supply = 1
+"#;
+
+#[test]
+fn reads_six_goods(rt: HostRuntime) -> Result<(), Fail> {
+    let text = format!(in rt.alloc(); "{HEAD}{SIX_GOODS}{BIDDERS}")?;
+    let found = terms_of(&rt, text.as_str())?;
+    assert_eq!(rt;
+        found.as_str(),
+        "1: 6 goods, 64 bundles, 2 bidders, 10, [0, 0, 0, 0, 0, 0]"
+    );
+    Ok(())
+}
+
 #[test]
 fn reads_the_examples(rt: HostRuntime) -> Result<(), Fail> {
     let auction = auction_of(&rt, SPECTRUM);

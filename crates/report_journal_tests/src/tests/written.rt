@@ -1,7 +1,7 @@
 //! What a journal writes, and what is found there again, in memory and on a real file.
 use super::fixtures::{
-    FILE, LONG, LONGER, PAYLOAD, PRICED, ROOM, Step, append, claimed, copy_of, count, disk_of,
-    first_other, header, header_in, holds, mend, one_good, plain, scanned,
+    FILE, LONG, LONGER, PAYLOAD, PRICED, ROOM, Seen, Step, append, claimed, copy_of, count,
+    disk_of, first_other, header, header_in, holds, mend, one_good, plain, scanned, seen_on,
 };
 use house_io::{Disk, FolderDisk, FolderShelf, Shelf, SureDisk};
 use lot_base::Prices;
@@ -424,4 +424,36 @@ fn a_real_file_is_formed_appended_to_scanned_and_mended(rt: HostRuntime) -> Resu
     assert_eq!(rt; holds, Some(true));
     assert_eq!(rt; size, 47 + 3 * (5 + 32_768) + 1);
     Ok(())
+}
+
+/// The file of a journal with so many records of the same bytes. Its header is the first 41 bytes, and each record takes 15.
+fn file_of_many(alloc: Global, count: u32) -> Option<Vec<u8>> {
+    let (header, record) = FILE[..56].split_at(41);
+    let mut bytes = copy_of(alloc, header)?;
+    for _record in 0..count {
+        if bytes.extend_from_slice(record).is_err() {
+            return None;
+        }
+    }
+    bytes.push(0).ok()?;
+    Some(bytes)
+}
+
+/// A disk with such a file, and room for the calls that read it.
+fn disk_of_many(alloc: Global, count: u32) -> Option<SureDisk> {
+    SureDisk::new(alloc, file_of_many(alloc, count)?, 2_000_000).ok()
+}
+
+/// How many records a scan finds where so many were written.
+fn found_of_many(alloc: Global, count: u32) -> Option<Seen> {
+    let mut disk = disk_of_many(alloc, count)?;
+    seen_on(alloc, &mut disk)
+}
+
+#[test]
+fn a_scan_finds_as_many_records_as_there_are(rt: HostRuntime) {
+    assert_eq!(rt;
+        found_of_many(rt.alloc(), 70_000),
+        Some(Seen::Formed(70_000))
+    );
 }
