@@ -85,7 +85,8 @@ impl Reach {
         totals: &mut [bool],
         marks: &mut [bool],
     )
-        requires size { (length self.now ≡ box_size goods.now) × (length totals.old ≡ box_size goods.now) × (length marks.old ≡ box_size goods.now) }
+        requires size { (length self.now ≡ box_size goods.now) × (length totals.old ≡ box_size goods.now)
+            × (length marks.old ≡ box_size goods.now) }
         requires columns { AreColumns goods.now columns.now }
         requires bundle { AtMost bundle.now goods.now }
         ensures totals { IsWith goods.now self.now bundle.now totals.old totals.new }

@@ -150,7 +150,8 @@ pub(crate) fn exchange<L: Link>(
     link: &mut L,
 ) -> Result<ToBidder, AgentEnd>
     requires { IsMessage to_house (house_kind frame.now) (house_payload frame.now) }
-    ensures exchange { IsExchange (length auction.now.terms.goods) auction.now.terms.bidders last frame.now (L.told link.old) (L.told link.new) result }
+    ensures exchange { IsExchange (length auction.now.terms.goods) auction.now.terms.bidders last frame.now (L.told link.old)
+        (L.told link.new) result }
     ensures cause { HasCauseOf (L.faults link.old) (L.faults link.new) result }
 {
     match converse(alloc, link, frame) {

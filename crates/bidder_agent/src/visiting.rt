@@ -24,7 +24,8 @@ fn look_at<L: Link>(
     last: Option<u32>,
     link: &mut L,
 ) -> Result<Look, AgentEnd>
-    ensures look { IsExchange (length auction.now.terms.goods) auction.now.terms.bidders last (ToHouse.Look clock) (L.told link.old) (L.told link.new) (priced clock result) }
+    ensures look { IsExchange (length auction.now.terms.goods) auction.now.terms.bidders last (ToHouse.Look clock) (L.told link.old)
+        (L.told link.new) (priced clock result) }
     ensures cause { HasCauseOf (L.faults link.old) (L.faults link.new) result }
 {
     match exchange(alloc, auction, last, &ToHouse::Look { clock }, link) {
@@ -70,7 +71,8 @@ fn report<D: Demands, L: Link>(
     link: &mut L,
 ) -> Result<(), AgentEnd>
     requires { length prices.now ≡ D.goods demands.now }
-    ensures done { IsDone (length auction.now.terms.goods) auction.now.terms.bidders None (report_at (D.demands demands.now) clock round prices.now) (L.told link.old) (L.told link.new) result }
+    ensures done { IsDone (length auction.now.terms.goods) auction.now.terms.bidders None
+        (report_at (D.demands demands.now) clock round prices.now) (L.told link.old) (L.told link.new) result }
     ensures cause { HasCauseOf (L.faults link.old) (L.faults link.new) result }
 {
     let demand = match demands.demand(alloc, prices) {
@@ -104,7 +106,8 @@ pub(crate) fn visit<D: Demands, L: Link>(
     requires goods { D.goods demands.now ≡ length auction.now.terms.goods }
     requires below { before.now.repeats < looks }
     requires open { before.now.closed ≡ false }
-    ensures visits { Visits (part auction.now bidder token.now (D.demands demands.now) looks) clock before.now seen.old.items (L.told link.old) seen.new.items (L.told link.new) result }
+    ensures visits { Visits (part auction.now bidder token.now (D.demands demands.now) looks) clock before.now seen.old.items
+        (L.told link.old) seen.new.items (L.told link.new) result }
     ensures falls { IfOk result (λ known. weight known < weight before.now) }
     ensures below { IfOk result (λ known. known.repeats < looks) }
     ensures cause { HasCauseOf (L.faults link.old) (L.faults link.new) result }

@@ -56,7 +56,8 @@ impl Model for Clock {
       spare_quantities = c.past.spare_quantities;
     } };
 
-    ghost invariant = { λ c. IsKept (record { terms = c.terms; number = c.number; reports = c.past.reports }) c.past c.present.items c.left c.steps c.phase c.prices c.tables c.excess.0 c.account (vec_capacity c.present) };
+    ghost invariant = { λ c. IsKept (record { terms = c.terms; number = c.number; reports = c.past.reports }) c.past c.present.items c.left
+        c.steps c.phase c.prices c.tables c.excess.0 c.account (vec_capacity c.present) };
 }
 
 /// What a clock shows: its last or current round, how it stands and at which prices.
@@ -111,7 +112,11 @@ impl Clock {
         quantities: u32,
     ) -> Result<Clock, NoMemory>
         requires { number ≤ terms.now.bidders }
-        ensures { IfOk result (λ c. c ≡ record { history = record { terms = terms.now; number = number; reports = [] }; spare_reports = reports; spare_quantities = quantities }) }
+        ensures { IfOk result (λ c. c ≡ record {
+          history = record { terms = terms.now; number = number; reports = [] };
+          spare_reports = reports;
+          spare_quantities = quantities;
+        }) }
     {
         let mut past = Past::new(alloc, &terms.goods);
         match past.reserve(reports, quantities) {
@@ -151,7 +156,8 @@ impl Clock {
 
     /// Takes room for at least one report and so many quantities. Nothing else changes.
     pub fn reserve(&mut self, _alloc: Global, quantities: u32) -> Result<(), NoMemory>
-        ensures ok { OnOk result (self.new ≡ record self.old { spare_reports = max self.old.spare_reports 1; spare_quantities = max self.old.spare_quantities quantities }) }
+        ensures ok { OnOk result (self.new ≡ record self.old
+            { spare_reports = max self.old.spare_reports 1; spare_quantities = max self.old.spare_quantities quantities }) }
         ensures err { OnErr result (self.new ≡ self.old) }
     {
         self.past.reserve(1, quantities)
@@ -240,7 +246,8 @@ impl Clock {
     /// How many reports were applied. Where there is one more to be taken, they are below the most.
     pub fn count(&self) -> u32
         ensures value { result ≡ length self.now.history.reports }
-        ensures more { (r : ReportValue) → judgement_of self.now.history r ≡ Take → length self.now.history.reports + 1 ≤ most_reports self.now.history.terms self.now.history.number }
+        ensures more { (r : ReportValue) → judgement_of self.now.history r ≡ Take
+            → length self.now.history.reports + 1 ≤ most_reports self.now.history.terms self.now.history.number }
     {
         self.past.count() as u32
     }
@@ -283,8 +290,10 @@ impl Clock {
         // are as many as the greatest rise of a price.
         ensures lowers { (u : ℕ → List ℕ → ℤ) (n : ℕ) → Explains u self.now.history → n < result →
             (lyapunov self.now.history.terms.goods u (members_of self.now.history) (prices_after self.now.history (n + 1)) +ℤ pos 1) ≤ℤ lyapunov self.now.history.terms.goods u (members_of self.now.history) (prices_after self.now.history n) }
-        ensures bound { (u : ℕ → List ℕ → ℤ) → Explains u self.now.history → pos result ≤ℤ lyapunov self.now.history.terms.goods u (members_of self.now.history) self.now.history.terms.opening }
-        ensures highest { (u : ℕ → List ℕ → ℤ) → Explains u self.now.history → result ≡ highest_rise self.now.history.terms.opening (prices_of self.now.history) }
+        ensures bound { (u : ℕ → List ℕ → ℤ) → Explains u self.now.history
+            → pos result ≤ℤ lyapunov self.now.history.terms.goods u (members_of self.now.history) self.now.history.terms.opening }
+        ensures highest { (u : ℕ → List ℕ → ℤ) → Explains u self.now.history
+            → result ≡ highest_rise self.now.history.terms.opening (prices_of self.now.history) }
     {
         self.steps
     }
@@ -310,7 +319,8 @@ impl Clock {
         // Each good has a price, and none is above the ceiling. The good at which a clock is halted is at the ceiling.
         ensures goods { length result.prices ≡ length self.now.history.terms.goods }
         ensures within { AllByRecursion (λ price. price ≤ self.now.history.terms.ceiling) result.prices }
-        ensures halted { (good : ℕ) → result.phase ≡ Halted good → (good < length self.now.history.terms.goods) × (at result.prices good ≡ self.now.history.terms.ceiling) }
+        ensures halted { (good : ℕ) → result.phase ≡ Halted good → (good < length self.now.history.terms.goods)
+            × (at result.prices good ≡ self.now.history.terms.ceiling) }
 
         // Where valuations explain the reports, these are least prices that minimise the Lyapunov function of the members.
         ensures least { (u : ℕ → List ℕ → ℤ) → Explains u self.now.history → ShowsLeast u self.now.history result }

@@ -34,7 +34,10 @@ pub fn growth_law()
 
 /// Rounds of the same demands have the same step set. So has a round that repeats the round before, and only the ceiling ends it.
 pub fn repeat_law()
-    ensures same { (c : ClockHistory) (m n : ℕ) → AllByRecursion (λ j. demands_in c.reports (m + 1) j ≡ demands_in c.reports (n + 1) j) (members_of c) → step_set_after c m ≡ step_set_after c n }
+    ensures same { (c : ClockHistory) (m n : ℕ)
+        → AllByRecursion (λ j. demands_in c.reports (m + 1) j ≡ demands_in c.reports (n + 1) j) (members_of c)
+        → step_set_after c m ≡ step_set_after c n }
     ensures set { (c : ClockHistory) → IsIdle c → step_set_after (with_round c) (steps_of c) ≡ step_set_after c (steps_of c - 1) }
-    ensures ceiling { (c : ClockHistory) → IsIdle c → leads_on (with_round c) (steps_of c) ≡ is_none (good_at_ceiling (with_round c) (steps_of c)) }
+    ensures ceiling { (c : ClockHistory) → IsIdle c
+        → leads_on (with_round c) (steps_of c) ≡ is_none (good_at_ceiling (with_round c) (steps_of c)) }
 {}

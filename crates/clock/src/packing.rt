@@ -49,7 +49,8 @@ impl Model for Past {
       spare_quantities = p.spare_quantities;
     } };
 
-    ghost invariant = { λ p. IsPast p.goods p.quantities.items p.places.items p.spare_reports p.spare_quantities (vec_capacity p.quantities) (vec_capacity p.places) (vec_capacity p.sets) };
+    ghost invariant = { λ p. IsPast p.goods p.quantities.items p.places.items p.spare_reports p.spare_quantities (vec_capacity p.quantities)
+        (vec_capacity p.places) (vec_capacity p.sets) };
 }
 
 impl Past {
@@ -69,7 +70,8 @@ impl Past {
 
     /// Takes room for so many more reports and quantities, where there is less. Where there is enough it takes no memory.
     pub(crate) fn reserve(&mut self, reports: u32, quantities: u32) -> Result<(), NoMemory>
-        ensures ok { OnOk result (self.new ≡ with_spare self.old (max self.old.spare_reports reports) (max self.old.spare_quantities quantities)) }
+        ensures ok { OnOk result (self.new ≡ with_spare self.old (max self.old.spare_reports reports)
+            (max self.old.spare_quantities quantities)) }
         ensures err { OnErr result (self.new ≡ self.old) }
         ensures fits { OnErr result ((reports ≤ self.old.spare_reports) × (quantities ≤ self.old.spare_quantities) → ⊥) }
     {
@@ -179,7 +181,8 @@ impl Past {
         demand: &Demand,
     ) -> Option<bool>
         requires { from + reports ≤ length self.now.reports }
-        ensures { result ≡ option_map (λ (r : ReportValue). same_demand r.demand demand.now) (find (λ (r : ReportValue). r.bidder == bidder) (take reports (drop from self.now.reports))) }
+        ensures { result ≡ option_map (λ (r : ReportValue). same_demand r.demand demand.now)
+            (find (λ (r : ReportValue). r.bidder == bidder) (take reports (drop from self.now.reports))) }
     {
         let others = self.places.split_at(from).1;
         match place_of(&others[..reports], bidder) {
@@ -227,7 +230,8 @@ pub(crate) fn push_round(
 )
     requires room { length (members bidders clock) ≤ past.old.spare_reports }
     requires inside { from + reports ≤ length past.old.reports }
-    requires there { (j : ℕ) → is_member_of bidders clock j ≡ true → is_some (find (λ (r : ReportValue). r.bidder == j) (take reports (drop from past.old.reports))) ≡ true }
+    requires there { (j : ℕ) → is_member_of bidders clock j ≡ true
+        → is_some (find (λ (r : ReportValue). r.bidder == j) (take reports (drop from past.old.reports))) ≡ true }
     ensures { past.new ≡ with_again past.old (map (again_among (take reports (drop from past.old.reports)) round) (members bidders clock)) }
 {
     for step in 0..bidders {

@@ -19,7 +19,8 @@ impl Clock {
         ensures ok { IfOk result (λ added. self.new ≡ record self.old { history = repeated added self.old.history }) }
         ensures few { IfOk result (λ added. added ≤ rounds) }
         ensures steps { IfOk result (λ added. steps_of self.new.history ≡ steps_of self.old.history + added) }
-        ensures stops { IfOk result (λ added. IsIdle self.old.history → added < rounds → leads_on (with_round self.new.history) (steps_of self.new.history) ≡ false) }
+        ensures stops { IfOk result (λ added. IsIdle self.old.history → added < rounds
+            → leads_on (with_round self.new.history) (steps_of self.new.history) ≡ false) }
         ensures busy { IfOk result (λ added. (IsIdle self.old.history → ⊥) → added ≡ 0) }
         ensures err { OnErr result (self.new ≡ self.old) }
     {
@@ -45,7 +46,8 @@ impl Clock {
         ensures ok { IfOk result (λ added. self.new ≡ record self.old { history = repeated added self.old.history }) }
         ensures few { IfOk result (λ added. added ≤ rounds) }
         ensures steps { IfOk result (λ added. steps_of self.new.history ≡ steps_of self.old.history + added) }
-        ensures stops { IfOk result (λ added. IsIdle self.old.history → added < rounds → leads_on (with_round self.new.history) (steps_of self.new.history) ≡ false) }
+        ensures stops { IfOk result (λ added. IsIdle self.old.history → added < rounds
+            → leads_on (with_round self.new.history) (steps_of self.new.history) ≡ false) }
         ensures busy { IfOk result (λ added. (IsIdle self.old.history → ⊥) → added ≡ 0) }
         ensures err { OnErr result (self.new ≡ self.old) }
     {
@@ -78,7 +80,11 @@ impl Clock {
     fn repeat_rounds(&mut self, most: u32) -> u32
         requires idle { IsIdle self.old.history }
         requires room { most * length (members_of self.old.history) ≤ self.old.spare_reports }
-        ensures all { self.new ≡ record self.old { history = repeated result self.old.history; spare_reports = self.old.spare_reports - result * length (members_of self.old.history) } }
+        ensures all { self.new ≡ record self.old {
+          history = repeated result self.old.history;
+          spare_reports = self.old.spare_reports - result * length
+              (members_of self.old.history);
+        } }
         ensures few { result ≤ most }
         ensures steps { steps_of self.new.history ≡ steps_of self.old.history + result }
         ensures stops { result < most → leads_on (with_round self.new.history) (steps_of self.new.history) ≡ false }
@@ -117,7 +123,8 @@ impl Clock {
         requires same { set.0 ≡ step_set_after self.old.history (steps_of self.old.history - 1) }
         requires leads { leads_on (with_round self.old.history) (steps_of self.old.history) ≡ true }
         requires room { length (members_of self.old.history) ≤ self.old.spare_reports }
-        ensures all { self.new ≡ record self.old { history = with_round self.old.history; spare_reports = self.old.spare_reports - length (members_of self.old.history) } }
+        ensures all { self.new ≡ record self.old
+            { history = with_round self.old.history; spare_reports = self.old.spare_reports - length (members_of self.old.history) } }
         ensures idle { IsIdle self.new.history }
         ensures steps { steps_of self.new.history ≡ steps_of self.old.history + 1 }
         ensures same { set.0 ≡ step_set_after self.new.history (steps_of self.new.history - 1) }

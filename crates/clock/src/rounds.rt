@@ -69,7 +69,8 @@ pub fn most_reports(terms: &Terms, number: u8) -> u32
 
 /// The prices from the opening on, raised on one set after another.
 pub(crate) fn prices_along(opening: &Prices, sets: &[GoodSet]) -> Prices
-    requires { (n : ℕ) → n < length sets.now → AllBelow 4294967295 (along opening.now (set_numbers (take n sets.now))) (slice_index (set_numbers sets.now) n) }
+    requires { (n : ℕ) → n < length sets.now
+        → AllBelow 4294967295 (along opening.now (set_numbers (take n sets.now))) (slice_index (set_numbers sets.now) n) }
     ensures { result ≡ along opening.now (set_numbers sets.now) }
 {
     let mut prices = *opening;

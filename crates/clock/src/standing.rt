@@ -35,10 +35,12 @@ impl Standing {
         account: &mut Account,
     ) -> Standing
         requires below { (set : ℕ) → AllBelow 4294967295 prices.now set }
-        requires few { (set : ℕ) → left ≡ 0 → IsStepSet (length terms.now.goods) (entry excess.now.0) set → set ≢ 0 → good_from 0 terms.now.ceiling prices.now set ≡ None → account.old.steps < 60000 }
+        requires few { (set : ℕ) → left ≡ 0 → IsStepSet (length terms.now.goods) (entry excess.now.0) set → set ≢ 0
+            → good_from 0 terms.now.ceiling prices.now set ≡ None → account.old.steps < 60000 }
         requires steps { steps ≤ 60000 }
         ensures waits { left ≢ 0 → Waits steps prices.now account.old account.new result }
-        ensures turns { left ≡ 0 → IsTurn terms.now.goods terms.now.ceiling steps prices.now excess.now.0 tables.now account.old account.new result }
+        ensures turns { left ≡ 0 → IsTurn terms.now.goods terms.now.ceiling steps prices.now excess.now.0 tables.now account.old account.new
+            result }
     {
         if left > 0 {
             return Standing {
@@ -62,7 +64,8 @@ impl Standing {
         account: &mut Account,
     ) -> Standing
         requires below { (set : ℕ) → AllBelow 4294967295 prices.now set }
-        requires few { (set : ℕ) → IsStepSet (length terms.now.goods) (entry excess.now.0) set → set ≢ 0 → good_from 0 terms.now.ceiling prices.now set ≡ None → account.old.steps < 60000 }
+        requires few { (set : ℕ) → IsStepSet (length terms.now.goods) (entry excess.now.0) set → set ≢ 0
+            → good_from 0 terms.now.ceiling prices.now set ≡ None → account.old.steps < 60000 }
         requires steps { steps ≤ 60000 }
         ensures { IsTurn terms.now.goods terms.now.ceiling steps prices.now excess.now.0 tables.now account.old account.new result }
     {

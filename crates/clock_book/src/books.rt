@@ -50,7 +50,8 @@ impl<D: Disk> Model for ClockBook<D> {
       origin = b.start;
     } };
 
-    ghost invariant = { λ b. IsBook b.journal (IsTrue (is_told (D.shown b.journal.disk))) (told_moments (D.shown b.journal.disk)) (D.shown b.journal.disk).faults b.noted b.pending b.start };
+    ghost invariant = { λ b. IsBook b.journal (IsTrue (is_told (D.shown b.journal.disk))) (told_moments (D.shown b.journal.disk))
+        (D.shown b.journal.disk).faults b.noted b.pending b.start };
 }
 
 impl<D: Disk> ClockBook<D> {
@@ -66,7 +67,8 @@ impl<D: Disk> ClockBook<D> {
         ensures origin { self.new.origin ≡ self.old.origin }
         ensures later { IsLater (D.shown self.old.disk) (D.shown self.new.disk) }
         ensures moments { IsTrue (is_told (D.shown self.new.disk))
-            → AtEach (IsEither (owner_in self.old.origin) self.old.state.clock.reports self.old.state.pending) (told_moments (D.shown self.old.disk)) (told_moments (D.shown self.new.disk)) }
+            → AtEach (IsEither (owner_in self.old.origin) self.old.state.clock.reports self.old.state.pending)
+            (told_moments (D.shown self.old.disk)) (told_moments (D.shown self.new.disk)) }
     {
         let _kept = self.journal.count();
         match self.journal.mend() {
@@ -102,7 +104,8 @@ impl<D: Disk> ClockBook<D> {
         ensures later { IsLater (D.shown self.old.disk) (D.shown self.new.disk) }
         ensures faults { CountsOffer (D.shown self.old.disk).faults (D.shown self.new.disk).faults result }
         ensures moments { IsTrue (is_told (D.shown self.new.disk))
-            → AtEach (IsEither (owner_in self.old.origin) self.old.state.clock.reports (Some report)) (told_moments (D.shown self.old.disk)) (told_moments (D.shown self.new.disk)) }
+            → AtEach (IsEither (owner_in self.old.origin) self.old.state.clock.reports (Some report)) (told_moments (D.shown self.old.disk))
+            (told_moments (D.shown self.new.disk)) }
     {
         let _kept = self.journal.count();
         let _more = self.noted.clock();
@@ -142,7 +145,8 @@ impl<D: Disk> ClockBook<D> {
         ensures later { IsLater (D.shown self.old.disk) (D.shown self.new.disk) }
         ensures faults { CountsOffer (D.shown self.old.disk).faults (D.shown self.new.disk).faults result }
         ensures moments { IsTrue (is_told (D.shown self.new.disk))
-            → AtEach (IsEither (owner_in self.old.origin) self.old.state.clock.reports (Some report)) (told_moments (D.shown self.old.disk)) (told_moments (D.shown self.new.disk)) }
+            → AtEach (IsEither (owner_in self.old.origin) self.old.state.clock.reports (Some report)) (told_moments (D.shown self.old.disk))
+            (told_moments (D.shown self.new.disk)) }
     {
         let clock = self.clock();
         match clock.judge(report.bidder, report.round, &report.demand) {

@@ -12,10 +12,12 @@ ghost use Rattle.clock_book.specs.Offers.{Answers, IsNew};
 
 /// A file is read in one way: as one legal history, or as broken or not acceptable at one record and for one cause.
 pub fn one_answer_law()
-    ensures { (owner : Owner) (file : List ℕ) (one other : Result ClockHistory Fault) → IsOpening owner file one → IsOpening owner file other → one ≡ other }
+    ensures { (owner : Owner) (file : List ℕ) (one other : Result ClockHistory Fault) → IsOpening owner file one
+        → IsOpening owner file other → one ≡ other }
 {}
 
 /// A report that the clock takes after the mend, and whose record fits, is answered `Taken` where the disk does not fail.
 pub fn taken_law()
-    ensures { (owner : Owner) (answer : Offered) (mid : BookState) (r : Report) (new : BookState) → Answers owner answer mid r new → IsNew owner mid r → answer ≢ answers.DiskFault → answer ≡ answers.Taken }
+    ensures { (owner : Owner) (answer : Offered) (mid : BookState) (r : Report) (new : BookState) → Answers owner answer mid r new
+        → IsNew owner mid r → answer ≢ answers.DiskFault → answer ≡ answers.Taken }
 {}

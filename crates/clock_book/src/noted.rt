@@ -72,7 +72,8 @@ impl NotedClock {
         ensures value { result.now.history ≡ self.now.clock }
         ensures legal { IsLegal self.now.clock }
         ensures reports { reports_in self.now.history ≡ self.now.clock.reports }
-        ensures more { (r : ReportValue) → judgement_of self.now.clock r ≡ Take → length self.now.clock.reports + 1 ≤ most_reports self.now.clock.terms self.now.clock.number }
+        ensures more { (r : ReportValue) → judgement_of self.now.clock r ≡ Take
+            → length self.now.clock.reports + 1 ≤ most_reports self.now.clock.terms self.now.clock.number }
     {
         let _legal = self.clock.number();
         let _more = self.clock.count();

@@ -28,9 +28,11 @@ pub fn read_clock<D: Disk>(
     digest: &[u8; 32],
 ) -> Result<Clock, OpenFault>
     requires { clock ≤ terms.now.bidders }
-    ensures read { IsTrue (is_told (D.shown disk.new)) → ReadsClock (owner_of terms.now clock digest.now) (told_moments (D.shown disk.old)).now.read result }
+    ensures read { IsTrue (is_told (D.shown disk.new))
+        → ReadsClock (owner_of terms.now clock digest.now) (told_moments (D.shown disk.old)).now.read result }
     ensures history { IfOk result (λ c. IsHistoryOf (owner_of terms.now clock digest.now) c.history) }
-    ensures synced { IsTrue (is_told (D.shown disk.new)) → IsSyncedBy result (told_moments (D.shown disk.old)) (told_moments (D.shown disk.new)) }
+    ensures synced { IsTrue (is_told (D.shown disk.new))
+        → IsSyncedBy result (told_moments (D.shown disk.old)) (told_moments (D.shown disk.new)) }
     ensures later { IsLater (D.shown disk.old) (D.shown disk.new) }
     ensures faults { CountsFaults (D.shown disk.old).faults (D.shown disk.new).faults result }
 {
@@ -52,11 +54,14 @@ pub(crate) fn read_into<D: Disk>(
 ) -> Result<(Clock, Scanned), OpenFault>
     requires number { clock ≤ terms.now.bidders }
     requires empty { empty.history ≡ history_of (owner_of terms.now clock digest.now) [] }
-    ensures read { IsTrue (is_told (D.shown disk.new)) → ReadsBook (owner_of terms.now clock digest.now) (told_moments (D.shown disk.old)).now.read result }
+    ensures read { IsTrue (is_told (D.shown disk.new))
+        → ReadsBook (owner_of terms.now clock digest.now) (told_moments (D.shown disk.old)).now.read result }
     ensures history { IfOk result (λ r. IsHistoryOf (owner_of terms.now clock digest.now) r.0.history) }
-    ensures found { IfOk result (λ r. IsFound (IsTrue (is_told (D.shown disk.new))) (owner_of terms.now clock digest.now) r.0.history.reports r.1 (told_moments (D.shown disk.new)).now.read) }
+    ensures found { IfOk result (λ r. IsFound (IsTrue (is_told (D.shown disk.new))) (owner_of terms.now clock digest.now)
+        r.0.history.reports r.1 (told_moments (D.shown disk.new)).now.read) }
     ensures room { IfOk result (λ r. KeepsRoom empty r.0) }
-    ensures synced { IsTrue (is_told (D.shown disk.new)) → IsSyncedBy result (told_moments (D.shown disk.old)) (told_moments (D.shown disk.new)) }
+    ensures synced { IsTrue (is_told (D.shown disk.new))
+        → IsSyncedBy result (told_moments (D.shown disk.old)) (told_moments (D.shown disk.new)) }
     ensures later { IsLater (D.shown disk.old) (D.shown disk.new) }
     ensures faults { CountsFaults (D.shown disk.old).faults (D.shown disk.new).faults result }
 {

@@ -75,9 +75,12 @@ fn read_noted<D: Disk>(
     digest: &[u8; 32],
 ) -> Result<(NotedClock, Scanned), OpenFault>
     requires { clock ≤ terms.now.bidders }
-    ensures read { IsTrue (is_told (D.shown disk.new)) → ReadsNoted (owner_of terms.now clock digest.now) (told_moments (D.shown disk.old)).now.read result }
-    ensures noted { IfOk result (λ r. IsNotedAs (IsTrue (is_told (D.shown disk.new))) (owner_of terms.now clock digest.now) r.0 r.1 (told_moments (D.shown disk.new)).now.read) }
-    ensures synced { IsTrue (is_told (D.shown disk.new)) → IsSyncedBy result (told_moments (D.shown disk.old)) (told_moments (D.shown disk.new)) }
+    ensures read { IsTrue (is_told (D.shown disk.new))
+        → ReadsNoted (owner_of terms.now clock digest.now) (told_moments (D.shown disk.old)).now.read result }
+    ensures noted { IfOk result (λ r. IsNotedAs (IsTrue (is_told (D.shown disk.new))) (owner_of terms.now clock digest.now) r.0 r.1
+        (told_moments (D.shown disk.new)).now.read) }
+    ensures synced { IsTrue (is_told (D.shown disk.new))
+        → IsSyncedBy result (told_moments (D.shown disk.old)) (told_moments (D.shown disk.new)) }
     ensures later { IsLater (D.shown disk.old) (D.shown disk.new) }
     ensures faults { CountsFaults (D.shown disk.old).faults (D.shown disk.new).faults result }
 {
@@ -112,7 +115,8 @@ fn begin<D: Disk>(
     requires claimed { IsTrue (D.shown disk).claimed }
     requires number { clock ≤ terms.now.bidders }
     requires settled { IsTrue (is_told (D.shown disk)) → IsSettled (told_moments (D.shown disk)).now }
-    requires noted { IsNotedAs (IsTrue (is_told (D.shown disk))) (owner_of terms.now clock digest.now) noted scan (told_moments (D.shown disk)).now.read }
+    requires noted { IsNotedAs (IsTrue (is_told (D.shown disk))) (owner_of terms.now clock digest.now) noted scan
+        (told_moments (D.shown disk)).now.read }
     ensures ok { IfOk result (λ b. Begins D.shown (owner_of terms.now clock digest.now) noted.clock disk b) }
     ensures err { IfErr result (λ e. IsNotBegun D.shown (owner_of terms.now clock digest.now) disk e.disk e.fault) }
 {
@@ -161,8 +165,11 @@ fn roomy_journal<D: Disk>(
     requires claimed { IsTrue (D.shown disk).claimed }
     requires in_order { IsInOrder scan }
     requires undamaged { IsUndamaged scan }
-    requires scanned { IsTrue (is_told (D.shown disk)) → IsSettled (told_moments (D.shown disk)).now × IsScan scan (told_moments (D.shown disk)).now.read }
-    ensures laid { IfOk result (λ j. (reports : List ReportValue) → IsFound (IsTrue (is_told (D.shown disk))) (owner_of terms.now clock digest.now) reports scan (told_moments (D.shown disk)).now.read
+    requires scanned { IsTrue (is_told (D.shown disk)) → IsSettled (told_moments (D.shown disk)).now
+        × IsScan scan (told_moments (D.shown disk)).now.read }
+    ensures laid { IfOk result (λ j. (reports : List ReportValue)
+        → IsFound (IsTrue (is_told (D.shown disk))) (owner_of terms.now clock digest.now) reports scan
+        (told_moments (D.shown disk)).now.read
         → IsLaid D.shown (owner_of terms.now clock digest.now) reports disk j) }
     ensures roomy { IfOk result (λ j. most ≤ j.spare) }
     ensures err { IfErr result (λ e. IsNotBegun D.shown (owner_of terms.now clock digest.now) disk e.disk e.fault) }
@@ -191,8 +198,11 @@ fn journal_on<D: Disk>(
     requires claimed { IsTrue (D.shown disk).claimed }
     requires in_order { IsInOrder scan }
     requires undamaged { IsUndamaged scan }
-    requires scanned { IsTrue (is_told (D.shown disk)) → IsSettled (told_moments (D.shown disk)).now × IsScan scan (told_moments (D.shown disk)).now.read }
-    ensures laid { IfOk result (λ j. (reports : List ReportValue) → IsFound (IsTrue (is_told (D.shown disk))) (owner_of terms.now clock digest.now) reports scan (told_moments (D.shown disk)).now.read
+    requires scanned { IsTrue (is_told (D.shown disk)) → IsSettled (told_moments (D.shown disk)).now
+        × IsScan scan (told_moments (D.shown disk)).now.read }
+    ensures laid { IfOk result (λ j. (reports : List ReportValue)
+        → IsFound (IsTrue (is_told (D.shown disk))) (owner_of terms.now clock digest.now) reports scan
+        (told_moments (D.shown disk)).now.read
         → IsLaid D.shown (owner_of terms.now clock digest.now) reports disk j) }
     ensures left { IfOk result (λ j. IsNotBegun D.shown (owner_of terms.now clock digest.now) disk j.disk why.NoMemory) }
     ensures err { IfErr result (λ e. IsNotBegun D.shown (owner_of terms.now clock digest.now) disk e.disk e.fault) }
@@ -212,7 +222,8 @@ fn formed<D: Disk>(
     digest: &[u8; 32],
 ) -> Result<Journal<D>, Unopened<D>>
     requires claimed { IsTrue (D.shown disk).claimed }
-    requires unformed { IsTrue (is_told (D.shown disk)) → IsSettled (told_moments (D.shown disk)).now × IsUnformed (told_moments (D.shown disk)).now.read }
+    requires unformed { IsTrue (is_told (D.shown disk)) → IsSettled (told_moments (D.shown disk)).now
+        × IsUnformed (told_moments (D.shown disk)).now.read }
     ensures laid { IfOk result (λ j. IsLaid D.shown (owner_of terms.now clock digest.now) [] disk j) }
     ensures err { IfErr result (λ e. IsNotBegun D.shown (owner_of terms.now clock digest.now) disk e.disk e.fault) }
 {

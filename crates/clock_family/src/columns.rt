@@ -42,7 +42,8 @@ pub(crate) fn close_all<D: Disk>(
     mut books: Vec<ClockBook<D>>,
 ) -> Vec<ClockBook<D>>
     requires rows { AllByRecursion (λ (p : HousePassOf). length p.passes ≡ length desks.items) rows.old.items }
-    requires columns { (k : ℕ) (d : Opened (BookOf D)) → k < length desks.items → AreAll (slice_index_or desks.items k d).id (column k rows.old.items) }
+    requires columns { (k : ℕ) (d : Opened (BookOf D)) → k < length desks.items
+        → AreAll (slice_index_or desks.items k d).id (column k rows.old.items) }
     requires lists { length desks.items ≤ length lists.items }
     requires reserved { IsReserved (vec_len rows.old) lists.items books }
     ensures closed { AreClosed desks.items rows.old.items result.items }

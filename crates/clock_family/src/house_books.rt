@@ -100,7 +100,8 @@ impl<D: Disk> HouseBook<D> {
         hint: &H,
     ) -> Offered
         requires { IsDemand self.old.origin.terms.goods demand }
-        ensures history { IsHistoryOffer (owner_in self.old.origin) self.old.state.history (record { bidder = bidder; round = round; demand = demand }) result self.new.state.history }
+        ensures history { IsHistoryOffer (owner_in self.old.origin) self.old.state.history
+            (record { bidder = bidder; round = round; demand = demand }) result self.new.state.history }
         ensures goes_on { GoesOn self.old.state.history self.new.state.history }
         ensures origin { self.new.origin ≡ self.old.origin }
         ensures cause { result ≡ DiskFault → Rose (D.shown self.old.disk).faults (D.shown self.new.disk).faults }

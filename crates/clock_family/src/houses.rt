@@ -117,7 +117,8 @@ impl<D: Disk> House<D> {
         requires disks { length disks.items ≡ auction.now.terms.bidders + 1 }
         requires passes { (1 ≤ passes) × (passes ≤ 64) }
         ensures opened { IfOk result (λ o. IsOpened D.shown auction.now.terms auction.now.digest passes disks.items o.0 o.1.items) }
-        ensures refused { IfErr result (λ e. IsNotOpen D.shown auction.now.terms auction.now.digest disks.items e.disks.items e.clock e.fault) }
+        ensures refused { IfErr result (λ e. IsNotOpen D.shown auction.now.terms auction.now.digest disks.items e.disks.items e.clock
+            e.fault) }
     {
         let Ok(tray) = reserve(alloc, disks.len(), passes as usize) else {
             return Err(NotOpen {

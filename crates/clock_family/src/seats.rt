@@ -34,7 +34,8 @@ impl<'a, D: Disk> Hall for HouseSeat<'a, D> {
 
     ghost in_order = { λ s. AreOf s.house.now.terms s.house.now.digest s.house.now.desks s.pass.now.passes };
 
-    ghost stays = { λ s t. (t.house.now ≡ s.house.now) × (t.pass.ghost_name ≡ s.pass.ghost_name) × (all_still t.pass.now ≡ all_still s.pass.now) };
+    ghost stays = { λ s t. (t.house.now ≡ s.house.now) × (t.pass.ghost_name ≡ s.pass.ghost_name)
+        × (all_still t.pass.now ≡ all_still s.pass.now) };
 
     ghost allows = { λ before asked after. SeatAllows before.passes asked after.passes };
 

@@ -115,10 +115,12 @@ fn joined_words(alloc: Global, name: &str, words: &[String]) -> Result<Vec<Strin
 
 /// The value that the word takes from those behind it, and the others, if it is an option that takes one.
 fn value_of<'a>(name: &str, word: &str, behind: &'a [String]) -> Option<(&'a str, &'a [String])>
-    ensures some { IfSome result (λ v. joined name.now (word.now ∷ words_of behind.entry.now) ≡ with_value word.now v.0.now ∷ joined name.now (words_of v.1.now)) }
+    ensures some { IfSome result (λ v. joined name.now (word.now ∷ words_of behind.entry.now) ≡ with_value word.now v.0.now ∷ joined
+        name.now (words_of v.1.now)) }
     ensures known { IfSome result (λ v. is_argument name.now (with_value word.now v.0.now) ≡ true) }
     ensures shorter { IfSome result (λ v. length v.1.now < length behind.entry.now) }
-    ensures none { IfNone result (joined name.now (word.now ∷ words_of behind.entry.now) ≡ word.now ∷ joined name.now (words_of behind.entry.now)) }
+    ensures none { IfNone result (joined name.now (word.now ∷ words_of behind.entry.now) ≡ word.now ∷ joined name.now
+        (words_of behind.entry.now)) }
 {
     let [value, others @ ..] = behind else {
         return None;

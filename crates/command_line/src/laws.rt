@@ -19,8 +19,10 @@ pub fn option_examples()
 /// The value of an option stands behind it or behind `=`, a number is spelled in one way, and an option that is not given has its
 /// default.
 pub fn value_examples()
-    ensures behind { Spells (Serve (codes "a") (codes "j") (record { address = codes "h"; doors = 2; sessions = 1 })) (codes "serve" ∷ codes "--doors" ∷ codes "2" ∷ codes "a" ∷ codes "j" ∷ codes "h" ∷ []) }
-    ensures joined { Spells (Serve (codes "a") (codes "j") (record { address = codes "h"; doors = 2; sessions = 1 })) (codes "serve" ∷ codes "a" ∷ codes "j" ∷ codes "h" ∷ codes "--doors=2" ∷ []) }
+    ensures behind { Spells (Serve (codes "a") (codes "j") (record { address = codes "h"; doors = 2; sessions = 1 }))
+        (codes "serve" ∷ codes "--doors" ∷ codes "2" ∷ codes "a" ∷ codes "j" ∷ codes "h" ∷ []) }
+    ensures joined { Spells (Serve (codes "a") (codes "j") (record { address = codes "h"; doors = 2; sessions = 1 }))
+        (codes "serve" ∷ codes "a" ∷ codes "j" ∷ codes "h" ∷ codes "--doors=2" ∷ []) }
     ensures default { Spells (Trial (codes "a") (codes "v") 1) (codes "trial" ∷ codes "a" ∷ codes "v" ∷ []) }
     ensures alone { IsNoCommand (codes "serve" ∷ codes "a" ∷ codes "j" ∷ codes "h" ∷ codes "--doors" ∷ []) }
     ensures leading { IsNoCommand (codes "trial" ∷ codes "a" ∷ codes "v" ∷ codes "--workers" ∷ codes "01" ∷ []) }

@@ -62,7 +62,8 @@ fn given_of<'a>(options: &[&'a str], front: &str) -> Given<'a>
 
 /// The same, where it stands there once more.
 fn once_more<'a>(given: Given<'a>, value: &'a str) -> Given<'a>
-    ensures { (front : List ℕ) (words more : List (List ℕ)) → IsGiven given.entry front words → more ≡ words ++ (front ++ value.entry.now) ∷ [] → IsGiven result front more }
+    ensures { (front : List ℕ) (words more : List (List ℕ)) → IsGiven given.entry front words
+        → more ≡ words ++ (front ++ value.entry.now) ∷ [] → IsGiven result front more }
 {
     match given {
         Given::Never => Given::Once(value),

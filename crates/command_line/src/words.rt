@@ -108,8 +108,14 @@ pub fn read_words<'a>(
     parted: &'a Parted,
 ) -> Result<Option<CommandWords<'a>>, NoMemory>
     requires { All (λ word. IsPlainWord word.now) parted.now.plain.items }
-    ensures some { IfOk result (λ o. IfSome o (λ command. (words : List (List ℕ)) → IsParted words parted.entry.now.name.now (texts parted.entry.now.plain.items) (texts parted.entry.now.options.items) → Spells (command_as command) words)) }
-    ensures none { IfOk result (λ o. IfNone o ((words : List (List ℕ)) → IsParted words parted.entry.now.name.now (texts parted.entry.now.plain.items) (texts parted.entry.now.options.items) → IsNoCommand words)) }
+    ensures some { IfOk result (λ o. IfSome o
+        (λ command. (words : List (List ℕ))
+        → IsParted words parted.entry.now.name.now (texts parted.entry.now.plain.items) (texts parted.entry.now.options.items)
+        → Spells (command_as command) words)) }
+    ensures none { IfOk result (λ o. IfNone o
+        ((words : List (List ℕ))
+        → IsParted words parted.entry.now.name.now (texts parted.entry.now.plain.items) (texts parted.entry.now.options.items)
+        → IsNoCommand words)) }
 {
     let plain = parted.plain.as_slice();
     let options = parted.options.as_slice();
@@ -192,8 +198,11 @@ fn read_settle<'a>(
     options: &[&str],
 ) -> Result<Option<CommandWords<'a>>, NoMemory>
     requires { All (λ word. IsPlainWord word.now) words.now }
-    ensures some { IfOk result (λ o. IfSome o (λ command. (line : List (List ℕ)) → IsParted line (codes "settle") (texts words.entry.now) (texts options.now) → Spells (command_as command) line)) }
-    ensures none { IfOk result (λ o. IfNone o ((line : List (List ℕ)) → IsParted line (codes "settle") (texts words.entry.now) (texts options.now) → IsNoCommand line)) }
+    ensures some { IfOk result (λ o. IfSome o
+        (λ command. (line : List (List ℕ)) → IsParted line (codes "settle") (texts words.entry.now) (texts options.now)
+        → Spells (command_as command) line)) }
+    ensures none { IfOk result (λ o. IfNone o
+        ((line : List (List ℕ)) → IsParted line (codes "settle") (texts words.entry.now) (texts options.now) → IsNoCommand line)) }
 {
     let json = match flag_of(options, "--json") {
         Some(json) => json,
@@ -217,8 +226,11 @@ fn read_trial<'a>(
     options: &[&str],
 ) -> Result<Option<CommandWords<'a>>, NoMemory>
     requires { All (λ word. IsPlainWord word.now) words.now }
-    ensures some { IfOk result (λ o. IfSome o (λ command. (line : List (List ℕ)) → IsParted line (codes "trial") (texts words.entry.now) (texts options.now) → Spells (command_as command) line)) }
-    ensures none { IfOk result (λ o. IfNone o ((line : List (List ℕ)) → IsParted line (codes "trial") (texts words.entry.now) (texts options.now) → IsNoCommand line)) }
+    ensures some { IfOk result (λ o. IfSome o
+        (λ command. (line : List (List ℕ)) → IsParted line (codes "trial") (texts words.entry.now) (texts options.now)
+        → Spells (command_as command) line)) }
+    ensures none { IfOk result (λ o. IfNone o
+        ((line : List (List ℕ)) → IsParted line (codes "trial") (texts words.entry.now) (texts options.now) → IsNoCommand line)) }
 {
     let workers = match number_of(options, "--workers=", 1, 64, 1) {
         Some(workers) => workers,
@@ -242,8 +254,11 @@ fn read_make<'a>(
     options: &[&str],
 ) -> Result<Option<CommandWords<'a>>, NoMemory>
     requires { All (λ word. IsPlainWord word.now) words.now }
-    ensures some { IfOk result (λ o. IfSome o (λ command. (line : List (List ℕ)) → IsParted line (codes "make") (texts words.entry.now) (texts options.now) → Spells (command_as command) line)) }
-    ensures none { IfOk result (λ o. IfNone o ((line : List (List ℕ)) → IsParted line (codes "make") (texts words.entry.now) (texts options.now) → IsNoCommand line)) }
+    ensures some { IfOk result (λ o. IfSome o
+        (λ command. (line : List (List ℕ)) → IsParted line (codes "make") (texts words.entry.now) (texts options.now)
+        → Spells (command_as command) line)) }
+    ensures none { IfOk result (λ o. IfNone o
+        ((line : List (List ℕ)) → IsParted line (codes "make") (texts words.entry.now) (texts options.now) → IsNoCommand line)) }
 {
     let workers = match number_of(options, "--workers=", 1, 64, 1) {
         Some(workers) => workers,
@@ -266,8 +281,11 @@ fn read_serve<'a>(
     options: &[&str],
 ) -> Result<Option<CommandWords<'a>>, NoMemory>
     requires { All (λ word. IsPlainWord word.now) words.now }
-    ensures some { IfOk result (λ o. IfSome o (λ command. (line : List (List ℕ)) → IsParted line (codes "serve") (texts words.entry.now) (texts options.now) → Spells (command_as command) line)) }
-    ensures none { IfOk result (λ o. IfNone o ((line : List (List ℕ)) → IsParted line (codes "serve") (texts words.entry.now) (texts options.now) → IsNoCommand line)) }
+    ensures some { IfOk result (λ o. IfSome o
+        (λ command. (line : List (List ℕ)) → IsParted line (codes "serve") (texts words.entry.now) (texts options.now)
+        → Spells (command_as command) line)) }
+    ensures none { IfOk result (λ o. IfNone o
+        ((line : List (List ℕ)) → IsParted line (codes "serve") (texts words.entry.now) (texts options.now) → IsNoCommand line)) }
 {
     let doors = match number_of(options, "--doors=", 1, 64, 4) {
         Some(doors) => doors,
@@ -299,8 +317,11 @@ fn read_bid<'a>(
     options: &[&str],
 ) -> Result<Option<CommandWords<'a>>, NoMemory>
     requires { All (λ word. IsPlainWord word.now) words.now }
-    ensures some { IfOk result (λ o. IfSome o (λ command. (line : List (List ℕ)) → IsParted line (codes "bid") (texts words.entry.now) (texts options.now) → Spells (command_as command) line)) }
-    ensures none { IfOk result (λ o. IfNone o ((line : List (List ℕ)) → IsParted line (codes "bid") (texts words.entry.now) (texts options.now) → IsNoCommand line)) }
+    ensures some { IfOk result (λ o. IfSome o
+        (λ command. (line : List (List ℕ)) → IsParted line (codes "bid") (texts words.entry.now) (texts options.now)
+        → Spells (command_as command) line)) }
+    ensures none { IfOk result (λ o. IfNone o
+        ((line : List (List ℕ)) → IsParted line (codes "bid") (texts words.entry.now) (texts options.now) → IsNoCommand line)) }
 {
     let looks = match number_of(options, "--looks=", 1, 1_000_000_000, 100_000) {
         Some(looks) => looks,
@@ -318,7 +339,9 @@ fn read_bid<'a>(
 fn bid_of<'a>(matches: &ArgMatches<'a>, looks: u32) -> Option<CommandWords<'a>>
     requires { AllByRecursion (λ id. IsSome (first_value (found_of matches.now) id)) bid_ids }
     ensures some { IfSome result (λ command. IsBidOf (found_of matches.now) looks (command_as command)) }
-    ensures none { IfNone result ((bidder : ℕ) (token : List ℕ) → IsRange 1 12 bidder → IsRange 1 64 (length token) → first_value (found_of matches.now) (codes "BIDDER") ≡ Some (decimal bidder) → first_value (found_of matches.now) (codes "TOKEN") ≡ Some token → ⊥) }
+    ensures none { IfNone result ((bidder : ℕ) (token : List ℕ) → IsRange 1 12 bidder → IsRange 1 64 (length token)
+        → first_value (found_of matches.now) (codes "BIDDER") ≡ Some (decimal bidder)
+        → first_value (found_of matches.now) (codes "TOKEN") ≡ Some token → ⊥) }
 {
     let bidder = match read_number(word_of(matches, "BIDDER"), 1, MOST_BIDDERS as u32) {
         Some(bidder) => bidder as u8,
@@ -361,7 +384,8 @@ fn read_migrate<'a>(
 fn migrate_of<'a>(matches: &ArgMatches<'a>) -> Option<CommandWords<'a>>
     requires { AllByRecursion (λ id. IsSome (first_value (found_of matches.now) id)) migrate_ids }
     ensures some { IfSome result (λ command. IsMigrateOf (found_of matches.now) (command_as command)) }
-    ensures none { IfNone result ((word : List ℕ) × (first_value (found_of matches.now) (codes "JOURNALS") ≡ Some word) × (first_value (found_of matches.now) (codes "TARGET") ≡ Some word)) }
+    ensures none { IfNone result ((word : List ℕ) × (first_value (found_of matches.now) (codes "JOURNALS") ≡ Some word)
+        × (first_value (found_of matches.now) (codes "TARGET") ≡ Some word)) }
 {
     let journals = word_of(matches, "JOURNALS");
     let target = word_of(matches, "TARGET");
@@ -438,9 +462,11 @@ fn read_supplies(alloc: Global, word: &str) -> Result<Option<Vec<u16>>, NoMemory
 /// Adds the supply that a piece of the list is, and says whether it is one and there was room for it.
 fn read_supply(supplies: &mut Vec<u16>, piece: &str) -> Result<bool, NoMemory>
     requires { AllByRecursion (λ n. n ≤ 2047) supplies.old.items }
-    ensures read { IfOk result (λ b. IsTrue b → (units : ℕ) × (piece.now ≡ decimal units) × (supplies.new.items ≡ supplies.old.items ++ units ∷ [])) }
+    ensures read { IfOk result (λ b. IsTrue b → (units : ℕ) × (piece.now ≡ decimal units)
+        × (supplies.new.items ≡ supplies.old.items ++ units ∷ [])) }
     ensures small { IfOk result (λ _. AllByRecursion (λ n. n ≤ 2047) supplies.new.items) }
-    ensures refused { IfOk result (λ b. b ≡ false → (6 ≤ length supplies.old.items) ⊎ ((units : ℕ) → 1 ≤ units → units ≤ 2047 → piece.now ≡ decimal units → ⊥)) }
+    ensures refused { IfOk result (λ b. b ≡ false → (6 ≤ length supplies.old.items)
+        ⊎ ((units : ℕ) → 1 ≤ units → units ≤ 2047 → piece.now ≡ decimal units → ⊥)) }
 {
     if supplies.len() >= MOST_GOODS {
         return Ok(false);

@@ -48,7 +48,8 @@ impl Account {
         requires room { self.old.steps < 60000 }
         requires set { set.0 < 2 ^ length goods.now }
         ensures steps { self.new.steps ≡ self.old.steps + 1 }
-        ensures sums { (bidder : ℕ) → sum_without self.new bidder ≡ sum_without self.old bidder +ℤ units_left goods.now tables.now set.0 bidder }
+        ensures sums { (bidder : ℕ) → sum_without self.new bidder ≡ sum_without self.old bidder +ℤ units_left goods.now tables.now set.0
+            bidder }
     {
         let _sets = goods.set_count();
         self.units += goods.units(set) as u64;

@@ -19,7 +19,8 @@ impl Demand {
         // So it may be read again, and that gives the same demand.
         ensures whole { IfOk result (λ r. AreWhole r.goods r.quantities) }
         ensures bundles { IfOk result (λ r. bundles_of r.goods r.quantities ≡ self.now) }
-        ensures read_back { IfOk result (λ r. (supply : List ℕ) → IsDemand supply self.now → demand_of supply r.goods (bundles_of r.goods r.quantities) ≡ Ok self.now) }
+        ensures read_back { IfOk result (λ r. (supply : List ℕ) → IsDemand supply self.now
+            → demand_of supply r.goods (bundles_of r.goods r.quantities) ≡ Ok self.now) }
     {
         match self.quantities.to_vec(alloc) {
             Ok(quantities) => Ok(RawDemand {

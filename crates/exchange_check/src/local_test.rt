@@ -27,7 +27,8 @@ pub(crate) fn free_units(supply: &[u16], strides: &[usize; 6], index: usize) -> 
 
 /// Whether the values at two places are together at most those at two others.
 pub(crate) fn is_no_worse(values: &[u16], x: usize, y: usize, less: usize, more: usize) -> bool
-    ensures { IsTrue result ↔ (slice_index values.now x + slice_index values.now y ≤ slice_index values.now less + slice_index values.now more) }
+    ensures { IsTrue result ↔ (slice_index values.now x + slice_index values.now y ≤ slice_index values.now less + slice_index values.now
+        more) }
 {
     u32::from(value_at(values, x)) + u32::from(value_at(values, y))
         <= u32::from(value_at(values, less)) + u32::from(value_at(values, more))
@@ -40,7 +41,8 @@ fn third_holds(values: &[u16], index: usize, a: usize, b: usize, c: usize) -> bo
     requires bc { index + b + c < 2048 }
     ensures { IsTrue result ↔
         ((slice_index values.now (index + a + b) + slice_index values.now (index + c) ≤ slice_index values.now (index + a + c) + slice_index values.now (index + b))
-        ⊎ (slice_index values.now (index + a + b) + slice_index values.now (index + c) ≤ slice_index values.now (index + b + c) + slice_index values.now (index + a))) }
+        ⊎ (slice_index values.now (index + a + b) + slice_index values.now (index + c) ≤ slice_index values.now
+        (index + b + c) + slice_index values.now (index + a))) }
 {
     is_no_worse(values, index + a + b, index + c, index + a + c, index + b)
         || is_no_worse(values, index + a + b, index + c, index + b + c, index + a)
@@ -49,7 +51,8 @@ fn third_holds(values: &[u16], index: usize, a: usize, b: usize, c: usize) -> bo
 /// Whether a unit at the distance a is worth no more beside one at b.
 fn falls(values: &[u16], index: usize, a: usize, b: usize) -> bool
     requires { index + a + b < 2048 }
-    ensures { IsTrue result ↔ (slice_index values.now (index + a + b) + slice_index values.now index ≤ slice_index values.now (index + a) + slice_index values.now (index + b)) }
+    ensures { IsTrue result ↔ (slice_index values.now (index + a + b) + slice_index values.now index ≤ slice_index values.now
+        (index + a) + slice_index values.now (index + b)) }
 {
     is_no_worse(values, index + a + b, index, index + a, index + b)
 }

@@ -44,7 +44,8 @@ fn goes_for(
     requires good { good < length supply.now }
     requires more { at (bundle_at supply.now y) good < at (bundle_at supply.now x) good }
     requires other { other < length supply.now }
-    ensures { IsTrue result ↔ IsExchangedFor (valuation_of supply.now values.now) (bundle_at supply.now x) (bundle_at supply.now y) good other }
+    ensures { IsTrue result ↔ IsExchangedFor (valuation_of supply.now values.now) (bundle_at supply.now x) (bundle_at supply.now y) good
+        other }
 {
     if free_x[other] <= free_y[other] {
         return false;

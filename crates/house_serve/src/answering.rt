@@ -30,7 +30,8 @@ pub(crate) enum Cut {
 /// Sends a reply.
 pub(crate) fn send_reply<L: Link>(alloc: Global, link: &mut L, reply: &ToBidder) -> Result<(), Cut>
     requires { IsMessage to_bidder (bidder_kind reply.now) (bidder_payload reply.now) }
-    ensures sent { IfTold (L.told link.old) (L.told link.new) (IsSentBy result (spelling (bidder_kind reply.now) (bidder_payload reply.now))) }
+    ensures sent { IfTold (L.told link.old) (L.told link.new)
+        (IsSentBy result (spelling (bidder_kind reply.now) (bidder_payload reply.now))) }
     ensures cause { HasCutCause (L.faults link.old) (L.faults link.new) result }
 {
     let bytes = match reply.encode(alloc) {
@@ -65,7 +66,8 @@ fn answer_one<H: Hall, L: Link, T: Wait>(
 ) -> Option<SessionEnd>
     requires formed { IsMessage to_house (house_kind frame.now) (house_payload frame.now) }
     requires seated { IsSeated auction.now session.old (H.in_order hall.old) (H.supply hall.old) (H.bidders hall.old) }
-    ensures answers { Answers H.allows auction.now (frame.now ∷ []) session.old (H.meaning hall.old) (L.told link.old) session.new (H.meaning hall.new) (L.told link.new) result }
+    ensures answers { Answers H.allows auction.now (frame.now ∷ []) session.old (H.meaning hall.old) (L.told link.old) session.new
+        (H.meaning hall.new) (L.told link.new) result }
     ensures seated { IsSeated auction.now session.new (H.in_order hall.new) (H.supply hall.new) (H.bidders hall.new) }
     ensures stays { H.stays hall.old hall.new }
     ensures cause { HasCauseBy (L.faults link.old) (L.faults link.new) result }
@@ -94,7 +96,8 @@ pub(crate) fn answer_all<H: Hall, L: Link, T: Wait>(
 ) -> Option<SessionEnd>
     requires formed { AllByRecursion (IsSent to_house) (map house_sent frames.now) }
     requires seated { IsSeated auction.now session.old (H.in_order hall.old) (H.supply hall.old) (H.bidders hall.old) }
-    ensures answers { Answers H.allows auction.now frames.now session.old (H.meaning hall.old) (L.told link.old) session.new (H.meaning hall.new) (L.told link.new) result }
+    ensures answers { Answers H.allows auction.now frames.now session.old (H.meaning hall.old) (L.told link.old) session.new
+        (H.meaning hall.new) (L.told link.new) result }
     ensures seated { IsSeated auction.now session.new (H.in_order hall.new) (H.supply hall.new) (H.bidders hall.new) }
     ensures stays { H.stays hall.old hall.new }
     ensures cause { HasCauseBy (L.faults link.old) (L.faults link.new) result }

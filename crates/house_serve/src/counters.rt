@@ -84,7 +84,9 @@ where
     requires empty { All (λ c. (length c.ends.items ≡ 0) × (vec_len c.ends ≡ 0)) counters.old }
     requires room { All (λ c. sessions ≤ vec_capacity c.ends) counters.old }
     ensures count { length counters.new ≡ length counters.old }
-    ensures served { (i : ℕ) (d : _) → i < length counters.old → WasServed R.told R.faults R.Link.told R.Link.faults auction.now sessions (slice_index_or counters.old i d) (slice_index_or counters.new i d) }
+    ensures served { (i : ℕ) (d : _) → i < length counters.old
+        → WasServed R.told R.faults R.Link.told R.Link.faults auction.now sessions (slice_index_or counters.old i d)
+        (slice_index_or counters.new i d) }
 {
     let common = Common {
         rt,
@@ -98,7 +100,10 @@ where
         counters,
         counters.len().max(1),
         &|_, counter|
-            requires { (common.house.now.terms ≡ common.auction.now.terms) × AreOf common.house.now.terms common.house.now.digest common.house.now.desks counter.now.pass.passes × ((length counter.now.ends.items ≡ 0) × (vec_len counter.now.ends ≡ 0)) × (common.sessions ≤ vec_capacity counter.now.ends) }
+            requires { (common.house.now.terms ≡ common.auction.now.terms)
+                × AreOf common.house.now.terms common.house.now.digest common.house.now.desks counter.now.pass.passes
+                × ((length counter.now.ends.items ≡ 0) × (vec_len counter.now.ends ≡ 0))
+                × (common.sessions ≤ vec_capacity counter.now.ends) }
         { serve_counter(&common, counter) },
     );
 }

@@ -27,7 +27,8 @@ pub fn serve_door<H: Hall, R: Door, T: Wait>(
     requires hall { IsHallOf auction.now (H.supply hall.old) (H.bidders hall.old) }
     requires empty { (length ends.old.items ≡ 0) × (vec_len ends.old ≡ 0) }
     requires room { sessions ≤ vec_capacity ends.old }
-    ensures door { IsDoor H.allows R.Link.told R.Link.faults auction.now (H.meaning hall.old) (H.meaning hall.new) (R.told door.old) (R.told door.new) ends.new.items }
+    ensures door { IsDoor H.allows R.Link.told R.Link.faults auction.now (H.meaning hall.old) (H.meaning hall.new) (R.told door.old)
+        (R.told door.new) ends.new.items }
     ensures done { result ≡ false → (vec_len ends.new ≡ sessions) × (R.faults door.new ≡ R.faults door.old) }
     ensures failed { result ≡ true → (vec_len ends.new < sessions) × Rose (R.faults door.old) (R.faults door.new) }
     ensures order { H.in_order hall.new }

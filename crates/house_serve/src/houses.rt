@@ -63,7 +63,8 @@ where
     requires new { AllByRecursion (IsNewPass house) passes.items }
     requires doors { length doors.items ≡ length passes.items }
     requires sessions { (1 ≤ sessions) × (sessions ≤ 10000) }
-    ensures served { IfOk result (λ s. IsServed R.told R.faults R.Link.told R.Link.faults auction.now sessions house passes.items doors.items s.books.items s.doors.items) }
+    ensures served { IfOk result (λ s. IsServed R.told R.faults R.Link.told R.Link.faults auction.now sessions house passes.items
+        doors.items s.books.items s.doors.items) }
     ensures refused { IfErr result (λ n. (n.house ≡ house) × (n.passes ≡ passes) × (n.doors ≡ doors)) }
 {
     let room = match reserve(alloc, doors.len(), sessions) {

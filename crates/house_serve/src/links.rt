@@ -29,7 +29,8 @@ pub fn serve_link<D: Disk, L: Link, T: Wait>(
 ) -> SessionEnd
     requires auction { house.now.terms ≡ auction.now.terms }
     requires of_house { AreOf house.now.terms house.now.digest house.now.desks pass.old.passes }
-    ensures session { (turns : List (Turn HousePassOf)) × IsSession PassAllows auction.now turns pass.old pass.new (L.told link.old) (L.told link.new) result }
+    ensures session { (turns : List (Turn HousePassOf))
+        × IsSession PassAllows auction.now turns pass.old pass.new (L.told link.old) (L.told link.new) result }
     ensures cause { HasEndCause (L.faults link.old) (L.faults link.new) result }
     ensures of_house { AreOf house.now.terms house.now.digest house.now.desks pass.new.passes }
     ensures stays { all_still pass.new ≡ all_still pass.old }

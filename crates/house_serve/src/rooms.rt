@@ -26,7 +26,8 @@ pub(crate) fn reserve<P, R>(
     doors: usize,
     sessions: u32,
 ) -> Result<Room<P, R>, NoMemory>
-    ensures notes { IfOk result (λ r. (length r.notes.items ≡ doors) × All (λ e. (length e.items ≡ 0) × (vec_len e ≡ 0) × (sessions ≤ vec_capacity e)) r.notes.items) }
+    ensures notes { IfOk result (λ r. (length r.notes.items ≡ doors)
+        × All (λ e. (length e.items ≡ 0) × (vec_len e ≡ 0) × (sessions ≤ vec_capacity e)) r.notes.items) }
     ensures empty { IfOk result (λ r. (r.counters.items ≡ []) × (r.rows.items ≡ []) × (r.logs.items ≡ [])) }
     ensures room { IfOk result (λ r. (vec_capacity r.counters ≡ doors) × (vec_capacity r.rows ≡ doors) × (vec_capacity r.logs ≡ doors)) }
 {

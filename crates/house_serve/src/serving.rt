@@ -43,7 +43,8 @@ fn pull_once<H: Hall, L: Link, T: Wait>(
     requires room { 0 < length chunk.old }
     requires whole { reader.old.fault ≡ None }
     requires seated { IsSeated auction.now session.old (H.in_order hall.old) (H.supply hall.old) (H.bidders hall.old) }
-    ensures steps { IsStep H.allows auction.now (length chunk.new) reader.old session.old (H.meaning hall.old) (L.told link.old) reader.new session.new (H.meaning hall.new) (L.told link.new) result }
+    ensures steps { IsStep H.allows auction.now (length chunk.new) reader.old session.old (H.meaning hall.old) (L.told link.old) reader.new
+        session.new (H.meaning hall.new) (L.told link.new) result }
     ensures seated { IsSeated auction.now session.new (H.in_order hall.new) (H.supply hall.new) (H.bidders hall.new) }
     ensures stays { H.stays hall.old hall.new }
     ensures cause { HasStepCause (L.faults link.old) (L.faults link.new) result }
@@ -87,7 +88,8 @@ pub fn serve_hall<H: Hall, L: Link, T: Wait>(
 ) -> SessionEnd
     requires order { H.in_order hall.old }
     requires hall { IsHallOf auction.now (H.supply hall.old) (H.bidders hall.old) }
-    ensures session { (turns : List (Turn H.Meaning)) × IsSession H.allows auction.now turns (H.meaning hall.old) (H.meaning hall.new) (L.told link.old) (L.told link.new) result }
+    ensures session { (turns : List (Turn H.Meaning))
+        × IsSession H.allows auction.now turns (H.meaning hall.old) (H.meaning hall.new) (L.told link.old) (L.told link.new) result }
     ensures cause { HasEndCause (L.faults link.old) (L.faults link.new) result }
     ensures order { H.in_order hall.new }
     ensures stays { H.stays hall.old hall.new }
@@ -111,7 +113,8 @@ fn serve_pieces<H: Hall, L: Link, T: Wait>(
     requires chunk { length chunk.old ≡ CHUNK }
     requires order { H.in_order hall.old }
     requires hall { IsHallOf auction.now (H.supply hall.old) (H.bidders hall.old) }
-    ensures session { (turns : List (Turn H.Meaning)) × IsSession H.allows auction.now turns (H.meaning hall.old) (H.meaning hall.new) (L.told link.old) (L.told link.new) result }
+    ensures session { (turns : List (Turn H.Meaning))
+        × IsSession H.allows auction.now turns (H.meaning hall.old) (H.meaning hall.new) (L.told link.old) (L.told link.new) result }
     ensures cause { HasEndCause (L.faults link.old) (L.faults link.new) result }
     ensures order { H.in_order hall.new }
     ensures stays { H.stays hall.old hall.new }

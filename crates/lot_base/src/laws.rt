@@ -17,7 +17,8 @@ pub fn exchange_examples()
 pub fn step_law()
     ensures least { (supply p : List ℕ) (u : List ℕ → ℤ) (set : ℕ) → IsStrongSubstitutes supply u → length p ≡ length supply →
         pos (least (demand supply u p) set) ≡ indirect_utility supply u p -ℤ indirect_utility supply u (raised p set) }
-    ensures greatest { (supply p : List ℕ) (u : List ℕ → ℤ) (set : ℕ) → IsStrongSubstitutes supply u → length p ≡ length supply → AllPriced p set →
+    ensures greatest { (supply p : List ℕ) (u : List ℕ → ℤ) (set : ℕ) → IsStrongSubstitutes supply u → length p ≡ length supply
+        → AllPriced p set →
         pos (greatest (demand supply u p) set) ≡ indirect_utility supply u (lowered p set) -ℤ indirect_utility supply u p }
 {}
 
@@ -42,7 +43,8 @@ pub fn index_law()
 
 /// The indirect utility is the surplus of some bundle, and no bundle has more.
 pub fn utility_law()
-    ensures reached { (supply p : List ℕ) (u : List ℕ → ℤ) → ((x : List ℕ) × AtMost x supply × (surplus u p x ≡ indirect_utility supply u p)) }
+    ensures reached { (supply p : List ℕ) (u : List ℕ → ℤ)
+        → ((x : List ℕ) × AtMost x supply × (surplus u p x ≡ indirect_utility supply u p)) }
     ensures bound { (supply p x : List ℕ) (u : List ℕ → ℤ) → AtMost x supply → surplus u p x ≤ℤ indirect_utility supply u p }
 {}
 

@@ -45,14 +45,16 @@ impl Numbers<'_> {
 
     /// The next number, if it is a quantity.
     fn next_quantity(&mut self) -> Option<u16>
-        ensures { (n : ℕ) (behind : List ℤ) → n < 2 ^ 16 → self.old.rest.now ≡ pos n ∷ behind → (result ≡ Some n) × (self.new.rest.now ≡ behind) }
+        ensures { (n : ℕ) (behind : List ℤ) → n < 2 ^ 16 → self.old.rest.now ≡ pos n ∷ behind → (result ≡ Some n)
+            × (self.new.rest.now ≡ behind) }
     {
         u16::try_from(self.next()?).ok()
     }
 
     /// The next number, if it is a price or a number of steps.
     fn next_price(&mut self) -> Option<u32>
-        ensures { (n : ℕ) (behind : List ℤ) → n < 2 ^ 32 → self.old.rest.now ≡ pos n ∷ behind → (result ≡ Some n) × (self.new.rest.now ≡ behind) }
+        ensures { (n : ℕ) (behind : List ℤ) → n < 2 ^ 32 → self.old.rest.now ≡ pos n ∷ behind → (result ≡ Some n)
+            × (self.new.rest.now ≡ behind) }
     {
         u32::try_from(self.next()?).ok()
     }
@@ -60,7 +62,8 @@ impl Numbers<'_> {
     /// The next number, if it is one from 1 to the given one.
     fn next_up_to(&mut self, most: u8) -> Option<u8>
         ensures within { IfSome result (IsRange 1 most) }
-        ensures back { (n : ℕ) (behind : List ℤ) → IsRange 1 most n → self.old.rest.now ≡ pos n ∷ behind → (result ≡ Some n) × (self.new.rest.now ≡ behind) }
+        ensures back { (n : ℕ) (behind : List ℤ) → IsRange 1 most n → self.old.rest.now ≡ pos n ∷ behind → (result ≡ Some n)
+            × (self.new.rest.now ≡ behind) }
     {
         match u8::try_from(self.next()?) {
             Ok(number) if 1 <= number && number <= most => Some(number),
@@ -72,7 +75,8 @@ impl Numbers<'_> {
     fn head(&mut self, shows_opening: bool) -> Option<Head>
         ensures fit { IfSome result IsHead }
         ensures shown { IfSome result (λ (h : HeadValue). is_some h.opening ≡ shows_opening) }
-        ensures back { (h : HeadValue) (prices : List ℕ) (behind : List ℤ) → IsHead h → is_some h.opening ≡ shows_opening → ArePricesOf h.goods prices →
+        ensures back { (h : HeadValue) (prices : List ℕ) (behind : List ℤ) → IsHead h → is_some h.opening ≡ shows_opening
+            → ArePricesOf h.goods prices →
             self.old.rest.now ≡ pos h.goods ∷ pos h.bidders ∷ naturals prices ++ (opening_numbers h.opening ++ behind) → (result ≡ Some h) × (self.new.rest.now ≡ behind) }
     {
         let goods = self.next_up_to(6)?;
@@ -106,7 +110,8 @@ impl Numbers<'_> {
     fn bundle(&mut self, goods: u8) -> Option<Bundle>
         requires { IsRange 1 6 goods }
         ensures fit { IfSome result (IsBundleOf goods) }
-        ensures back { (bundle : List ℕ) (behind : List ℤ) → IsBundleOf goods bundle → self.old.rest.now ≡ naturals bundle ++ behind → (result ≡ Some bundle) × (self.new.rest.now ≡ behind) }
+        ensures back { (bundle : List ℕ) (behind : List ℤ) → IsBundleOf goods bundle → self.old.rest.now ≡ naturals bundle ++ behind
+            → (result ≡ Some bundle) × (self.new.rest.now ≡ behind) }
     {
         let mut quantities = [0; 6];
         for good in 0..goods as usize {
@@ -119,7 +124,8 @@ impl Numbers<'_> {
     fn prices(&mut self, goods: u8) -> Option<Prices>
         requires { IsRange 1 6 goods }
         ensures fit { IfSome result (ArePricesOf goods) }
-        ensures back { (prices : List ℕ) (behind : List ℤ) → ArePricesOf goods prices → self.old.rest.now ≡ naturals prices ++ behind → (result ≡ Some prices) × (self.new.rest.now ≡ behind) }
+        ensures back { (prices : List ℕ) (behind : List ℤ) → ArePricesOf goods prices → self.old.rest.now ≡ naturals prices ++ behind
+            → (result ≡ Some prices) × (self.new.rest.now ≡ behind) }
     {
         let mut prices = [0; 6];
         for good in 0..goods as usize {
@@ -132,7 +138,8 @@ impl Numbers<'_> {
     fn award_row(&mut self, goods: u8) -> Option<AwardRow>
         requires { IsRange 1 6 goods }
         ensures fit { IfSome result (IsAwardOf goods) }
-        ensures back { (bidder : ℕ) (row : AwardValue) (behind : List ℤ) → IsAwardOf goods row → self.old.rest.now ≡ award_numbers bidder row ++ behind → (result ≡ Some row) × (self.new.rest.now ≡ behind) }
+        ensures back { (bidder : ℕ) (row : AwardValue) (behind : List ℤ) → IsAwardOf goods row
+            → self.old.rest.now ≡ award_numbers bidder row ++ behind → (result ≡ Some row) × (self.new.rest.now ≡ behind) }
     {
         self.next()?;
         Some(AwardRow {
@@ -152,7 +159,8 @@ impl Numbers<'_> {
     ) -> Result<Option<Sequence<AwardRow>>, NoMemory>
         requires { IsRange 1 6 goods }
         ensures fit { IfOk result (λ r. IfSome r (AreAwardsOf goods bidders)) }
-        ensures back { (rows : List AwardValue) (behind : List ℤ) → AreAwardsOf goods bidders rows → self.old.rest.now ≡ awards_numbers 1 rows ++ behind → IfOk result (λ r. (r ≡ Some rows) × (self.new.rest.now ≡ behind)) }
+        ensures back { (rows : List AwardValue) (behind : List ℤ) → AreAwardsOf goods bidders rows
+            → self.old.rest.now ≡ awards_numbers 1 rows ++ behind → IfOk result (λ r. (r ≡ Some rows) × (self.new.rest.now ≡ behind)) }
     {
         let mut rows = Vec::new(alloc);
         for _place in 0..bidders {
@@ -168,7 +176,8 @@ impl Numbers<'_> {
     fn choices(&mut self, alloc: Global, goods: u8, count: u8) -> Result<Option<Choice>, NoMemory>
         requires { IsRange 1 6 goods }
         ensures fit { IfOk result (λ r. IfSome r (AreChoicesOf goods count)) }
-        ensures back { (clock : ℕ) (js : List ℕ) (choices : List (List ℕ)) (behind : List ℤ) → length js ≡ count → AreChoicesOf goods count choices →
+        ensures back { (clock : ℕ) (js : List ℕ) (choices : List (List ℕ)) (behind : List ℤ) → length js ≡ count
+            → AreChoicesOf goods count choices →
             self.old.rest.now ≡ choices_numbers clock js choices ++ behind → IfOk result (λ r. (r ≡ Some choices) × (self.new.rest.now ≡ behind)) }
     {
         let mut bundles = Vec::new(alloc);
@@ -185,7 +194,8 @@ impl Numbers<'_> {
     fn choice(&mut self, goods: u8) -> Option<Bundle>
         requires { IsRange 1 6 goods }
         ensures fit { IfSome result (IsBundleOf goods) }
-        ensures back { (clock bidder : ℕ) (bundle : List ℕ) (behind : List ℤ) → IsBundleOf goods bundle → self.old.rest.now ≡ choice_numbers clock bidder bundle ++ behind → (result ≡ Some bundle) × (self.new.rest.now ≡ behind) }
+        ensures back { (clock bidder : ℕ) (bundle : List ℕ) (behind : List ℤ) → IsBundleOf goods bundle
+            → self.old.rest.now ≡ choice_numbers clock bidder bundle ++ behind → (result ≡ Some bundle) × (self.new.rest.now ≡ behind) }
     {
         self.next()?;
         self.next()?;
@@ -216,7 +226,9 @@ impl Numbers<'_> {
         requires goods { IsRange 1 6 goods }
         requires within { clock ≤ bidders }
         ensures fit { IfOk result (λ r. IfSome r (IsClockOf goods bidders clock)) }
-        ensures back { (row : ClockValue) (behind : List ℤ) → IsClockOf goods bidders clock row → self.old.rest.now ≡ clock_numbers bidders clock row ++ behind → IfOk result (λ r. (r ≡ Some row) × (self.new.rest.now ≡ behind)) }
+        ensures back { (row : ClockValue) (behind : List ℤ) → IsClockOf goods bidders clock row
+            → self.old.rest.now ≡ clock_numbers bidders clock row ++ behind
+            → IfOk result (λ r. (r ≡ Some row) × (self.new.rest.now ≡ behind)) }
     {
         let (steps, prices) = match self.clock_head(goods) {
             Some(head) => head,
@@ -243,7 +255,9 @@ impl Numbers<'_> {
         requires goods { IsRange 1 6 goods }
         requires bidders { bidders ≤ 12 }
         ensures fit { IfOk result (λ r. IfSome r (AreClocksOf goods bidders)) }
-        ensures back { (rows : List ClockValue) (behind : List ℤ) → AreClocksOf goods bidders rows → self.old.rest.now ≡ clocks_numbers bidders 0 rows ++ behind → IfOk result (λ r. (r ≡ Some rows) × (self.new.rest.now ≡ behind)) }
+        ensures back { (rows : List ClockValue) (behind : List ℤ) → AreClocksOf goods bidders rows
+            → self.old.rest.now ≡ clocks_numbers bidders 0 rows ++ behind
+            → IfOk result (λ r. (r ≡ Some rows) × (self.new.rest.now ≡ behind)) }
     {
         let mut rows = Vec::new(alloc);
         for clock in 0..bidders + 1 {
@@ -264,7 +278,8 @@ pub(crate) fn outcome_of(
     shows_opening: bool,
 ) -> Result<Option<Outcome>, NoMemory>
     ensures fit { IfOk result (λ r. IfSome r IsReadable) }
-    ensures back { (o : OutcomeValue) → IsReadable o → is_some o.opening ≡ shows_opening → numbers.now ≡ outcome_numbers o → IfOk result (λ r. r ≡ Some o) }
+    ensures back { (o : OutcomeValue) → IsReadable o → is_some o.opening ≡ shows_opening → numbers.now ≡ outcome_numbers o
+        → IfOk result (λ r. r ≡ Some o) }
 {
     let mut numbers = Numbers { rest: numbers };
     let head = match numbers.head(shows_opening) {

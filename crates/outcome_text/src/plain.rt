@@ -104,7 +104,8 @@ fn write_choices(
     clock: usize,
     choices: &Choice,
 ) -> Result<(), AllocError>
-    ensures { OnOk result (string_bytes text.new ≡ string_bytes text.old ++ text_of (choice_lines clock (members bidders clock) choices.now)) }
+    ensures { OnOk result (string_bytes text.new ≡ string_bytes text.old ++ text_of
+        (choice_lines clock (members bidders clock) choices.now)) }
 {
     let mut place = 0;
     for step in 0..bidders {

@@ -36,7 +36,8 @@ pub fn read_reports<D: Disk>(
     ensures recovered { IfOk result (λ r. IsTrue (is_told (D.shown disk.new))
         → IsRecovered (owner_of terms.now clock digest.now) r.reports.items r.broken (told_moments (D.shown disk.old)).now.read) }
     ensures scan { IfOk result (λ r. IsTrue (is_told (D.shown disk.new)) → IsScan r.scan (told_moments (D.shown disk.old)).now.read) }
-    ensures synced { IsTrue (is_told (D.shown disk.new)) → IsSyncedBy result (told_moments (D.shown disk.old)) (told_moments (D.shown disk.new)) }
+    ensures synced { IsTrue (is_told (D.shown disk.new))
+        → IsSyncedBy result (told_moments (D.shown disk.old)) (told_moments (D.shown disk.new)) }
     ensures later { IsLater (D.shown disk.old) (D.shown disk.new) }
     ensures faults { CountsFaults (D.shown disk.old).faults (D.shown disk.new).faults result }
     // Whatever the disk tells:

@@ -65,7 +65,8 @@ impl Model for Reports {
       window = r.window;
     } };
 
-    ghost invariant = { λ r. IsInOrder r.scan × (r.given ≤ length (places_in r.scan)) × (r.broken ≡ None → HasOwnHeader (owner_of r.terms r.clock r.digest) r.scan) };
+    ghost invariant = { λ r. IsInOrder r.scan × (r.given ≤ length (places_in r.scan))
+        × (r.broken ≡ None → HasOwnHeader (owner_of r.terms r.clock r.digest) r.scan) };
 }
 
 impl Reports {
@@ -80,7 +81,8 @@ impl Reports {
         ensures begun { IfOk result (HasBegun (owner_of terms.now clock digest.now)) }
         ensures given { IfOk result (λ r. HasGiven (IsTrue (is_told (D.shown disk.new))) r [] (told_moments (D.shown disk.new)).now.read) }
         ensures in_order { IfOk result (λ r. IsInOrder r.scan) }
-        ensures synced { IsTrue (is_told (D.shown disk.new)) → IsSyncedBy result (told_moments (D.shown disk.old)) (told_moments (D.shown disk.new)) }
+        ensures synced { IsTrue (is_told (D.shown disk.new))
+            → IsSyncedBy result (told_moments (D.shown disk.old)) (told_moments (D.shown disk.new)) }
         ensures later { IsLater (D.shown disk.old) (D.shown disk.new) }
         ensures faults { CountsFaults (D.shown disk.old).faults (D.shown disk.new).faults result }
     {
@@ -119,7 +121,8 @@ impl Reports {
     /// The next report of the file, or the first broken record, or the end. A broken record and the end are answered again. On a
     /// refusal nothing changes but what was read ahead.
     pub fn next<D: Disk>(&mut self, alloc: Global, disk: &mut D) -> Result<Next, RecoverFault>
-        ensures answer { (given : List ReportValue) → HasGiven (IsTrue (is_told (D.shown disk.old))) self.old given (told_moments (D.shown disk.old)).now.read
+        ensures answer { (given : List ReportValue)
+            → HasGiven (IsTrue (is_told (D.shown disk.old))) self.old given (told_moments (D.shown disk.old)).now.read
             → Answers (IsTrue (is_told (D.shown disk.new))) self.new given (told_moments (D.shown disk.new)).now.read result }
         ensures goes_on { GoesOn self.old self.new result }
         ensures again { AnswersAgain self.old result }
@@ -147,7 +150,8 @@ impl Reports {
     ) -> Result<Next, RecoverFault>
         requires unbroken { self.old.broken ≡ None }
         requires next { slice_get (places_in self.old.scan) self.old.given ≡ Some place }
-        ensures answer { (given : List ReportValue) → HasGiven (IsTrue (is_told (D.shown disk.old))) self.old given (told_moments (D.shown disk.old)).now.read
+        ensures answer { (given : List ReportValue)
+            → HasGiven (IsTrue (is_told (D.shown disk.old))) self.old given (told_moments (D.shown disk.old)).now.read
             → Answers (IsTrue (is_told (D.shown disk.new))) self.new given (told_moments (D.shown disk.new)).now.read result }
         ensures goes_on { GoesOn self.old self.new result }
         ensures reads { OnlyReads D.shown disk.old disk.new }
@@ -223,7 +227,8 @@ fn damaged_number(scan: &Scanned) -> Option<u32>
 fn scanned<D: Disk>(alloc: Global, disk: &mut D) -> Result<Scanned, RecoverFault>
     ensures found { IfOk result (λ s. IsTrue (is_told (D.shown disk.new)) → IsScan s (told_moments (D.shown disk.old)).now.read) }
     ensures in_order { IfOk result IsInOrder }
-    ensures synced { IsTrue (is_told (D.shown disk.new)) → IsSyncedBy result (told_moments (D.shown disk.old)) (told_moments (D.shown disk.new)) }
+    ensures synced { IsTrue (is_told (D.shown disk.new))
+        → IsSyncedBy result (told_moments (D.shown disk.old)) (told_moments (D.shown disk.new)) }
     ensures later { IsLater (D.shown disk.old) (D.shown disk.new) }
     ensures faults { CountsFaults (D.shown disk.old).faults (D.shown disk.new).faults result }
 {

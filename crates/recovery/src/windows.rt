@@ -71,8 +71,10 @@ impl Window {
     /// Reads on from this place, where it has not the whole payload there. After a fault it has no bytes.
     pub(crate) fn cover<D: Disk>(&mut self, disk: &mut D, place: Place) -> Result<(), Failed>
         requires { place.length ≤ GREATEST_PAYLOAD }
-        ensures window { IsTrue (is_told (D.shown disk.new)) → IsWindow self.old (told_moments (D.shown disk.old)).now.read → IsWindow self.new (told_moments (D.shown disk.old)).now.read }
-        ensures covers { OnOk result (IsTrue (is_told (D.shown disk.new)) → length (payload_at (told_moments (D.shown disk.old)).now.read place) ≡ place.length → Covers self.new place) }
+        ensures window { IsTrue (is_told (D.shown disk.new)) → IsWindow self.old (told_moments (D.shown disk.old)).now.read
+            → IsWindow self.new (told_moments (D.shown disk.old)).now.read }
+        ensures covers { OnOk result (IsTrue (is_told (D.shown disk.new))
+            → length (payload_at (told_moments (D.shown disk.old)).now.read place) ≡ place.length → Covers self.new place) }
         ensures reads { OnlyReads D.shown disk.old disk.new }
         ensures cause { HasCause (D.shown disk.old).faults (D.shown disk.new).faults result }
     {

@@ -50,7 +50,8 @@ impl Chunk {
     /// Reads the file from this offset on.
     fn load<D: Disk>(&mut self, disk: &mut D, at: u32) -> Result<(), Failed>
         ensures at { OnOk result (self.new.at ≡ at) }
-        ensures chunk { OnOk result (IsTrue (is_told (D.shown disk.new)) → IsChunk self.new.bytes.items self.new.at self.new.filled (told_moments (D.shown disk.old)).now.read) }
+        ensures chunk { OnOk result (IsTrue (is_told (D.shown disk.new))
+            → IsChunk self.new.bytes.items self.new.at self.new.filled (told_moments (D.shown disk.old)).now.read) }
         ensures filled { OnOk result (IsTrue (is_told (D.shown disk.new))
             → self.new.filled ≡ min (vec_len self.new.bytes) (length (told_moments (D.shown disk.old)).now.read - at)) }
         ensures reads { OnlyReads D.shown disk.old disk.new }
@@ -87,12 +88,14 @@ pub fn read_head<D: Disk>(
     gate: u32,
     head: &mut [u8; 5],
 ) -> Result<usize, Failed>
-    requires chunk { IsTrue (is_told (D.shown disk.old)) → IsChunk chunk.old.bytes.items chunk.old.at chunk.old.filled (told_moments (D.shown disk.old)).now.read }
+    requires chunk { IsTrue (is_told (D.shown disk.old))
+        → IsChunk chunk.old.bytes.items chunk.old.at chunk.old.filled (told_moments (D.shown disk.old)).now.read }
     ensures count { IfOk result (λ n. n ≤ 5) }
     ensures bytes { IfOk result (λ n. IsTrue (is_told (D.shown disk.new))
         → (n ≡ min 5 (length (told_moments (D.shown disk.old)).now.read - gate))
         × (take n head.new ≡ take n (drop gate (told_moments (D.shown disk.old)).now.read))) }
-    ensures chunk { OnOk result (IsTrue (is_told (D.shown disk.new)) → IsChunk chunk.new.bytes.items chunk.new.at chunk.new.filled (told_moments (D.shown disk.old)).now.read) }
+    ensures chunk { OnOk result (IsTrue (is_told (D.shown disk.new))
+        → IsChunk chunk.new.bytes.items chunk.new.at chunk.new.filled (told_moments (D.shown disk.old)).now.read) }
     ensures reads { OnlyReads D.shown disk.old disk.new }
     ensures cause { HasCause (D.shown disk.old).faults (D.shown disk.new).faults result }
 {

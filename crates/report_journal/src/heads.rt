@@ -27,7 +27,8 @@ pub enum Next {
 fn reaches<D: Disk>(disk: &mut D, known: &mut u64, end: u32) -> Result<bool, Failed>
     requires { IsTrue (is_told (D.shown disk.old)) → known.old ≤ length (told_moments (D.shown disk.old)).now.read }
     ensures known { OnOk result (IsTrue (is_told (D.shown disk.new)) → known.new ≤ length (told_moments (D.shown disk.old)).now.read) }
-    ensures reaches { IfOk result (λ does. IsTrue (is_told (D.shown disk.new)) → (IsTrue does ↔ end ≤ length (told_moments (D.shown disk.old)).now.read)) }
+    ensures reaches { IfOk result (λ does. IsTrue (is_told (D.shown disk.new))
+        → (IsTrue does ↔ end ≤ length (told_moments (D.shown disk.old)).now.read)) }
     ensures reads { OnlyReads D.shown disk.old disk.new }
     ensures cause { HasCause (D.shown disk.old).faults (D.shown disk.new).faults result }
 {

@@ -64,7 +64,8 @@ impl<D: Disk> Model for Journal<D> {
       laid = j.laid;
     } };
 
-    ghost invariant = { λ j. IsWithin j.header j.places.items j.end j.spare j.buffer.items (vec_capacity j.places) (vec_capacity j.buffer) j.pending
+    ghost invariant = { λ j. IsWithin j.header j.places.items j.end j.spare j.buffer.items (vec_capacity j.places) (vec_capacity j.buffer)
+        j.pending
         × (IsTrue (is_told (D.shown j.disk)) → IsKept (said j.header j.places.items (told_moments (D.shown j.disk)).now.read)
         j.places.items j.end (in_doubt j.buffer.items j.pending) (told_moments (D.shown j.disk))
         × LiesAhead j.ahead j.buffer.items j.end (told_moments (D.shown j.disk)).now.read)
@@ -146,7 +147,8 @@ impl<D: Disk> Journal<D> {
     ) -> Result<u32, JournalFault>
         requires { length payload.now ≤ GREATEST_PAYLOAD }
         ensures answer { Appends payload.now self.old self.new result }
-        ensures writes { (next : List ℕ) × IsAsked (H.says hint.now) next result × Writes D.shown payload.now next self.old self.new result }
+        ensures writes { (next : List ℕ) × IsAsked (H.says hint.now) next result
+            × Writes D.shown payload.now next self.old self.new result }
         ensures later { IsLater (D.shown self.old.disk) (D.shown self.new.disk) }
         ensures faults { CountsFaults (D.shown self.old.disk).faults (D.shown self.new.disk).faults result }
     {
@@ -169,7 +171,8 @@ impl<D: Disk> Journal<D> {
         requires ready { IsReady payload.now self.old }
         requires spare { 1 ≤ self.old.spare }
         ensures answer { Appends payload.now self.old self.new result }
-        ensures writes { (next : List ℕ) × IsAsked (H.says hint.now) next result × Writes D.shown payload.now next self.old self.new result }
+        ensures writes { (next : List ℕ) × IsAsked (H.says hint.now) next result
+            × Writes D.shown payload.now next self.old self.new result }
         ensures later { IsLater (D.shown self.old.disk) (D.shown self.new.disk) }
         ensures faults { CountsFaults (D.shown self.old.disk).faults (D.shown self.new.disk).faults result }
     {
@@ -215,7 +218,8 @@ impl<D: Disk> Journal<D> {
         ensures end { IsTrue (is_told (D.shown self.new.disk)) → MendEnds self.old.pending self.old.contents self.new.contents self.old.end
             (told_moments (D.shown self.old.disk)) (told_moments (D.shown self.new.disk)) result }
         ensures moments { IsTrue (is_told (D.shown self.new.disk))
-            → MendLeaves self.old.pending self.old.contents self.old.end (told_moments (D.shown self.old.disk)) (told_moments (D.shown self.new.disk)) }
+            → MendLeaves self.old.pending self.old.contents self.old.end (told_moments (D.shown self.old.disk))
+            (told_moments (D.shown self.new.disk)) }
         ensures later { IsLater (D.shown self.old.disk) (D.shown self.new.disk) }
         ensures faults { CountsFaults (D.shown self.old.disk).faults (D.shown self.new.disk).faults result }
     {
@@ -251,7 +255,8 @@ impl<D: Disk> Journal<D> {
         requires { (1 ≤ number) × (number ≤ length self.old.contents.payloads) }
         ensures payload { IfOk result (λ payload. IsTrue (is_told (D.shown self.new.disk))
             → slice_get self.old.contents.payloads (number - 1) ≡ Some payload.items) }
-        ensures long { IfOk result (λ payload. IfSome (slice_get self.old.places (number - 1)) (λ place. length payload.items ≡ place.length)) }
+        ensures long { IfOk result (λ payload. IfSome (slice_get self.old.places (number - 1))
+            (λ place. length payload.items ≡ place.length)) }
         ensures keeps { KeepsAll D.shown self.old self.new }
         ensures reads { OnlyReads D.shown self.old.disk self.new.disk }
         ensures faults { CountsReading (D.shown self.old.disk).faults (D.shown self.new.disk).faults result }
@@ -267,7 +272,8 @@ impl<D: Disk> Journal<D> {
         requires claimed { IsTrue (D.shown disk).claimed }
         requires formed { IsFormed scan }
         requires in_order { IsInOrder scan }
-        requires scanned { IsTrue (is_told (D.shown disk)) → IsSettled (told_moments (D.shown disk)).now × IsScan scan (told_moments (D.shown disk)).now.read }
+        requires scanned { IsTrue (is_told (D.shown disk)) → IsSettled (told_moments (D.shown disk)).now
+            × IsScan scan (told_moments (D.shown disk)).now.read }
         ensures { Attaches D.shown disk scan result }
     {
         let Scanned::Formed {
@@ -297,7 +303,8 @@ impl<D: Disk> Journal<D> {
     pub fn form(alloc: Global, disk: D, header: &Header) -> Result<Journal<D>, NotFormed<D>>
         requires claimed { IsTrue (D.shown disk).claimed }
         requires header { IsHeader header.now }
-        requires unformed { IsTrue (is_told (D.shown disk)) → IsSettled (told_moments (D.shown disk)).now × IsUnformed (told_moments (D.shown disk)).now.read }
+        requires unformed { IsTrue (is_told (D.shown disk)) → IsSettled (told_moments (D.shown disk)).now
+            × IsUnformed (told_moments (D.shown disk)).now.read }
         ensures ok { IfOk result (λ j. Forms D.shown header.now disk j) }
         ensures err { IfErr result (λ e. FailsToForm D.shown header.now disk e.disk e.fault) }
     {

@@ -119,7 +119,8 @@ fn scan_records<D: Disk>(
 pub fn scan<D: Disk>(alloc: Global, disk: &mut D) -> Result<Scanned, JournalFault>
     ensures found { IfOk result (λ s. IsTrue (is_told (D.shown disk.new)) → IsScan s (told_moments (D.shown disk.old)).now.read) }
     ensures in_order { IfOk result IsInOrder }
-    ensures synced { IsTrue (is_told (D.shown disk.new)) → IsSyncedBy result (told_moments (D.shown disk.old)) (told_moments (D.shown disk.new)) }
+    ensures synced { IsTrue (is_told (D.shown disk.new))
+        → IsSyncedBy result (told_moments (D.shown disk.old)) (told_moments (D.shown disk.new)) }
     ensures later { IsLater (D.shown disk.old) (D.shown disk.new) }
     ensures faults { CountsReading (D.shown disk.old).faults (D.shown disk.new).faults result }
 {

@@ -21,7 +21,8 @@ pub fn write_synced<D: Disk>(disk: &mut D, at: u64, bytes: &[u8]) -> Result<(), 
     ensures done { OnOk result (IsTrue (is_told (D.shown disk.new))
         → (told_moments (D.shown disk.new)).now ≡ settled (overlaid (told_moments (D.shown disk.old)).now.read at bytes.now)) }
     ensures moments { IsTrue (is_told (D.shown disk.new))
-        → AtEach (Torn at (length bytes.now) (told_moments (D.shown disk.old)).now.read) (told_moments (D.shown disk.old)) (told_moments (D.shown disk.new)) }
+        → AtEach (Torn at (length bytes.now) (told_moments (D.shown disk.old)).now.read) (told_moments (D.shown disk.old))
+        (told_moments (D.shown disk.new)) }
     ensures later { IsLater (D.shown disk.old) (D.shown disk.new) }
     ensures cause { HasCause (D.shown disk.old).faults (D.shown disk.new).faults result }
 {
@@ -40,9 +41,11 @@ fn put_after_gate<D: Disk>(disk: &mut D, gate: u64, bytes: &[u8]) -> Result<(), 
     ensures done { OnOk result (IsTrue (is_told (D.shown disk.new))
         → (told_moments (D.shown disk.new)).now ≡ settled (overlaid (told_moments (D.shown disk.old)).now.read gate (OPEN ∷ bytes.now))) }
     ensures moments { IsTrue (is_told (D.shown disk.new))
-        → AtEach (IsStage gate bytes.now (told_moments (D.shown disk.old)).now.read) (told_moments (D.shown disk.old)) (told_moments (D.shown disk.new)) }
+        → AtEach (IsStage gate bytes.now (told_moments (D.shown disk.old)).now.read) (told_moments (D.shown disk.old))
+        (told_moments (D.shown disk.new)) }
     ensures range { IsTrue (is_told (D.shown disk.new))
-        → AtEach (Torn gate (1 + length bytes.now) (told_moments (D.shown disk.old)).now.read) (told_moments (D.shown disk.old)) (told_moments (D.shown disk.new)) }
+        → AtEach (Torn gate (1 + length bytes.now) (told_moments (D.shown disk.old)).now.read) (told_moments (D.shown disk.old))
+        (told_moments (D.shown disk.new)) }
     ensures later { IsLater (D.shown disk.old) (D.shown disk.new) }
     ensures cause { HasCause (D.shown disk.old).faults (D.shown disk.new).faults result }
 {
@@ -62,11 +65,13 @@ fn write_record<D: Disk>(
     requires claimed { IsTrue (D.shown disk.old).claimed }
     requires room { gate < 2 ^ 63 }
     requires file { IsTrue (is_told (D.shown disk.old)) → IsSettledTo (gate + 1) (told_moments (D.shown disk.old)).now }
-    requires there { IsTrue lies_there → IsTrue (is_told (D.shown disk.old)) → LieAt (gate + 1) bytes.now (told_moments (D.shown disk.old)).now.read }
+    requires there { IsTrue lies_there → IsTrue (is_told (D.shown disk.old))
+        → LieAt (gate + 1) bytes.now (told_moments (D.shown disk.old)).now.read }
     ensures done { OnOk result (IsTrue (is_told (D.shown disk.new))
         → (told_moments (D.shown disk.new)).now ≡ settled (overlaid (told_moments (D.shown disk.old)).now.read (gate + 1) bytes.now)) }
     ensures moments { IsTrue (is_told (D.shown disk.new))
-        → AtEach (Torn (gate + 1) (length bytes.now) (told_moments (D.shown disk.old)).now.read) (told_moments (D.shown disk.old)) (told_moments (D.shown disk.new)) }
+        → AtEach (Torn (gate + 1) (length bytes.now) (told_moments (D.shown disk.old)).now.read) (told_moments (D.shown disk.old))
+        (told_moments (D.shown disk.new)) }
     ensures later { IsLater (D.shown disk.old) (D.shown disk.new) }
     ensures cause { HasCause (D.shown disk.old).faults (D.shown disk.new).faults result }
 {
@@ -79,11 +84,14 @@ fn write_record<D: Disk>(
 /// Opens the gate, and writes bytes at an offset behind it, if there are any, with one sync.
 fn open_and_lay<D: Disk>(disk: &mut D, gate: u64, from: u64, bytes: &[u8]) -> Result<(), Failed>
     requires claimed { IsTrue (D.shown disk.old).claimed }
-    requires file { IsTrue (is_told (D.shown disk.old)) → IsSettledTo gate (told_moments (D.shown disk.old)).now × IsSettledTo from (told_moments (D.shown disk.old)).now }
+    requires file { IsTrue (is_told (D.shown disk.old)) → IsSettledTo gate (told_moments (D.shown disk.old)).now
+        × IsSettledTo from (told_moments (D.shown disk.old)).now }
     ensures done { OnOk result (IsTrue (is_told (D.shown disk.new))
-        → (told_moments (D.shown disk.new)).now ≡ settled (overlaid (overlaid (told_moments (D.shown disk.old)).now.read gate (OPEN ∷ [])) from bytes.now)) }
+        → (told_moments (D.shown disk.new)).now ≡ settled
+        (overlaid (overlaid (told_moments (D.shown disk.old)).now.read gate (OPEN ∷ [])) from bytes.now)) }
     ensures moments { IsTrue (is_told (D.shown disk.new))
-        → AtEach (TornTwice gate 1 from (length bytes.now) (told_moments (D.shown disk.old)).now.read) (told_moments (D.shown disk.old)) (told_moments (D.shown disk.new)) }
+        → AtEach (TornTwice gate 1 from (length bytes.now) (told_moments (D.shown disk.old)).now.read) (told_moments (D.shown disk.old))
+        (told_moments (D.shown disk.new)) }
     ensures later { IsLater (D.shown disk.old) (D.shown disk.new) }
     ensures cause { HasCause (D.shown disk.old).faults (D.shown disk.new).faults result }
 {
@@ -102,7 +110,8 @@ fn open_record<D: Disk>(disk: &mut D, gate: u64, payload: &[u8], bytes: &[u8]) -
     requires room { (gate < 2 ^ 63) × (length payload.now ≤ GREATEST_PAYLOAD) }
     requires spelled { HasRecord payload.now bytes.now }
     requires there { IsTrue (is_told (D.shown disk.old))
-        → IsSettledTo (gate + 1) (told_moments (D.shown disk.old)).now × HasRecord payload.now (drop (gate + 1) (told_moments (D.shown disk.old)).now.read) }
+        → IsSettledTo (gate + 1) (told_moments (D.shown disk.old)).now
+        × HasRecord payload.now (drop (gate + 1) (told_moments (D.shown disk.old)).now.read) }
     ensures opens { Opens D.shown gate payload.now bytes.now disk.old disk.new result }
     ensures later { IsLater (D.shown disk.old) (D.shown disk.new) }
     ensures cause { HasCause (D.shown disk.old).faults (D.shown disk.new).faults result }
@@ -127,11 +136,13 @@ pub fn put_record<D: Disk, H: Hint>(
     requires fits { (gate + 6 + length payload.now ≤ GREATEST_FILE) × (length payload.now ≤ GREATEST_PAYLOAD) }
     requires buffer { (bytes.old.items ≡ body payload.now ++ 0 ∷ []) × (LONGEST_RECORD ≤ vec_capacity bytes.old) }
     requires there { IsTrue (is_told (D.shown disk.old))
-        → IsSettledTo (gate + 1) (told_moments (D.shown disk.old)).now × (IsTrue lies_there → HasRecord payload.now (drop (gate + 1) (told_moments (D.shown disk.old)).now.read)) }
+        → IsSettledTo (gate + 1) (told_moments (D.shown disk.old)).now
+        × (IsTrue lies_there → HasRecord payload.now (drop (gate + 1) (told_moments (D.shown disk.old)).now.read)) }
     ensures puts { (next : List ℕ) × IsAsked (H.says hint.now) next result
         × OnOk result (bytes.new.items ≡ put_of gate laid payload.now next)
         × Opens D.shown gate payload.now (put_of gate laid payload.now next) disk.old disk.new result }
-    ensures buffer { HasRecord payload.now bytes.new.items × (gate + 1 + length bytes.new.items ≤ GREATEST_FILE) × (vec_capacity bytes.old ≤ vec_capacity bytes.new) }
+    ensures buffer { HasRecord payload.now bytes.new.items × (gate + 1 + length bytes.new.items ≤ GREATEST_FILE)
+        × (vec_capacity bytes.old ≤ vec_capacity bytes.new) }
     ensures later { IsLater (D.shown disk.old) (D.shown disk.new) }
     ensures cause { HasCause (D.shown disk.old).faults (D.shown disk.new).faults result }
 {
@@ -147,11 +158,14 @@ pub fn put_record<D: Disk, H: Hint>(
 /// Closes the first gate of an unformed file that is too short.
 pub fn shut_gate<D: Disk>(disk: &mut D) -> Result<(), Failed>
     requires claimed { IsTrue (D.shown disk.old).claimed }
-    requires file { IsTrue (is_told (D.shown disk.old)) → IsSettled (told_moments (D.shown disk.old)).now × IsUnformed (told_moments (D.shown disk.old)).now.read }
+    requires file { IsTrue (is_told (D.shown disk.old)) → IsSettled (told_moments (D.shown disk.old)).now
+        × IsUnformed (told_moments (D.shown disk.old)).now.read }
     ensures done { OnOk result (IsTrue (is_told (D.shown disk.new))
         → IsSettled (told_moments (D.shown disk.new)).now × IsShut (told_moments (D.shown disk.new)).now.read) }
-    ensures moments { IsTrue (is_told (D.shown disk.new)) → AtEach IsUnformed (told_moments (D.shown disk.old)) (told_moments (D.shown disk.new)) }
-    ensures written { OnOk result (IsTrue (is_told (D.shown disk.new)) → ((told_moments (D.shown disk.new)).now.read ≡ (told_moments (D.shown disk.old)).now.read)
+    ensures moments { IsTrue (is_told (D.shown disk.new))
+        → AtEach IsUnformed (told_moments (D.shown disk.old)) (told_moments (D.shown disk.new)) }
+    ensures written { OnOk result (IsTrue (is_told (D.shown disk.new))
+        → ((told_moments (D.shown disk.new)).now.read ≡ (told_moments (D.shown disk.old)).now.read)
         ⊎ ((told_moments (D.shown disk.new)).now.read ≡ overlaid (told_moments (D.shown disk.old)).now.read 0 (0 ∷ []))) }
     ensures range { IsTrue (is_told (D.shown disk.new))
         → AtEach (Torn 0 1 (told_moments (D.shown disk.old)).now.read) (told_moments (D.shown disk.old)) (told_moments (D.shown disk.new)) }
@@ -167,7 +181,8 @@ pub fn shut_gate<D: Disk>(disk: &mut D) -> Result<(), Failed>
 /// Writes the header after the closed first gate, and then opens the gate.
 pub fn put_header<D: Disk>(disk: &mut D, bytes: &[u8]) -> Result<(), Failed>
     requires claimed { IsTrue (D.shown disk.old).claimed }
-    requires file { IsTrue (is_told (D.shown disk.old)) → IsSettled (told_moments (D.shown disk.old)).now × IsShut (told_moments (D.shown disk.old)).now.read }
+    requires file { IsTrue (is_told (D.shown disk.old)) → IsSettled (told_moments (D.shown disk.old)).now
+        × IsShut (told_moments (D.shown disk.old)).now.read }
     ensures formed { OnOk result (IsTrue (is_told (D.shown disk.new)) → (header : Header)
         → IsHead header bytes.now → StandsFor (empty header) (told_moments (D.shown disk.new)).now.read) }
     ensures moments { IsTrue (is_told (D.shown disk.new)) → (header : Header)
@@ -175,7 +190,8 @@ pub fn put_header<D: Disk>(disk: &mut D, bytes: &[u8]) -> Result<(), Failed>
     ensures done { OnOk result (IsTrue (is_told (D.shown disk.new))
         → (told_moments (D.shown disk.new)).now ≡ settled (overlaid (told_moments (D.shown disk.old)).now.read 0 (OPEN ∷ bytes.now))) }
     ensures range { IsTrue (is_told (D.shown disk.new))
-        → AtEach (Torn 0 (1 + length bytes.now) (told_moments (D.shown disk.old)).now.read) (told_moments (D.shown disk.old)) (told_moments (D.shown disk.new)) }
+        → AtEach (Torn 0 (1 + length bytes.now) (told_moments (D.shown disk.old)).now.read) (told_moments (D.shown disk.old))
+        (told_moments (D.shown disk.new)) }
     ensures later { IsLater (D.shown disk.old) (D.shown disk.new) }
     ensures cause { HasCause (D.shown disk.old).faults (D.shown disk.new).faults result }
 {
@@ -185,7 +201,8 @@ pub fn put_header<D: Disk>(disk: &mut D, bytes: &[u8]) -> Result<(), Failed>
 /// Forms an unformed file.
 pub fn form_file<D: Disk>(disk: &mut D, bytes: &[u8]) -> Result<(), Failed>
     requires claimed { IsTrue (D.shown disk.old).claimed }
-    requires file { IsTrue (is_told (D.shown disk.old)) → IsSettled (told_moments (D.shown disk.old)).now × IsUnformed (told_moments (D.shown disk.old)).now.read }
+    requires file { IsTrue (is_told (D.shown disk.old)) → IsSettled (told_moments (D.shown disk.old)).now
+        × IsUnformed (told_moments (D.shown disk.old)).now.read }
     ensures formed { OnOk result (IsTrue (is_told (D.shown disk.new)) → (header : Header)
         → IsHead header bytes.now → StandsFor (empty header) (told_moments (D.shown disk.new)).now.read) }
     ensures moments { IsTrue (is_told (D.shown disk.new)) → (header : Header)
@@ -193,7 +210,8 @@ pub fn form_file<D: Disk>(disk: &mut D, bytes: &[u8]) -> Result<(), Failed>
     ensures done { OnOk result (IsTrue (is_told (D.shown disk.new))
         → (told_moments (D.shown disk.new)).now ≡ settled (overlaid (told_moments (D.shown disk.old)).now.read 0 (OPEN ∷ bytes.now))) }
     ensures range { IsTrue (is_told (D.shown disk.new))
-        → AtEach (Torn 0 (1 + length bytes.now) (told_moments (D.shown disk.old)).now.read) (told_moments (D.shown disk.old)) (told_moments (D.shown disk.new)) }
+        → AtEach (Torn 0 (1 + length bytes.now) (told_moments (D.shown disk.old)).now.read) (told_moments (D.shown disk.old))
+        (told_moments (D.shown disk.new)) }
     ensures later { IsLater (D.shown disk.old) (D.shown disk.new) }
     ensures cause { HasCause (D.shown disk.old).faults (D.shown disk.new).faults result }
 {
@@ -206,7 +224,8 @@ pub fn form_file<D: Disk>(disk: &mut D, bytes: &[u8]) -> Result<(), Failed>
 /// Syncs, and then reads whether the gate is open.
 fn is_open_now<D: Disk>(disk: &mut D, gate: u64) -> Result<bool, Failed>
     ensures moments { IsTrue (is_told (D.shown disk.new)) → IsSynced (told_moments (D.shown disk.old)) (told_moments (D.shown disk.new)) }
-    ensures synced { OnOk result (IsTrue (is_told (D.shown disk.new)) → told_moments (D.shown disk.new) ≡ synced_at (told_moments (D.shown disk.old))) }
+    ensures synced { OnOk result (IsTrue (is_told (D.shown disk.new))
+        → told_moments (D.shown disk.new) ≡ synced_at (told_moments (D.shown disk.old))) }
     ensures open { IfOk result (λ is_open. IsTrue (is_told (D.shown disk.new))
         → (IsTrue is_open ↔ (slice_index (told_moments (D.shown disk.old)).now.read gate ≡ OPEN))) }
     ensures within { IfOk result (λ is_open. IsTrue (is_told (D.shown disk.new))
@@ -224,9 +243,11 @@ fn is_open_now<D: Disk>(disk: &mut D, gate: u64) -> Result<bool, Failed>
 /// what the disk has not, read it, and sync it no more.
 pub fn settle_gate<D: Disk>(disk: &mut D, gate: u64) -> Result<bool, Failed>
     requires { IsTrue (D.shown disk.old).claimed }
-    ensures moments { IsTrue (is_told (D.shown disk.new)) → IsReopened gate (told_moments (D.shown disk.old)) (told_moments (D.shown disk.new)) }
+    ensures moments { IsTrue (is_told (D.shown disk.new))
+        → IsReopened gate (told_moments (D.shown disk.old)) (told_moments (D.shown disk.new)) }
     ensures settled { OnOk result (IsTrue (is_told (D.shown disk.new))
-        → IsSettled (told_moments (D.shown disk.new)).now × ((told_moments (D.shown disk.new)).now.read ≡ (told_moments (D.shown disk.old)).now.read)) }
+        → IsSettled (told_moments (D.shown disk.new)).now
+        × ((told_moments (D.shown disk.new)).now.read ≡ (told_moments (D.shown disk.old)).now.read)) }
     ensures open { IfOk result (λ is_open. IsTrue (is_told (D.shown disk.new))
         → (IsTrue is_open ↔ (slice_index (told_moments (D.shown disk.old)).now.read gate ≡ OPEN))) }
     ensures later { IsLater (D.shown disk.old) (D.shown disk.new) }

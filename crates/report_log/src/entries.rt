@@ -69,7 +69,8 @@ fn take_report(
     requires { clock.now.history.terms ≡ terms.now }
     ensures some { IfOk result (λ o. IfSome o (Spells terms.now payload.now)) }
     ensures take { IfOk result (λ o. IfSome o (λ r. judgement_of clock.now.history r ≡ Take)) }
-    ensures none { IfOk result (λ o. IfNone o ((r : ReportValue) → Spells terms.now payload.now r → judgement_of clock.now.history r ≡ Take → ⊥)) }
+    ensures none { IfOk result (λ o. IfNone o
+        ((r : ReportValue) → Spells terms.now payload.now r → judgement_of clock.now.history r ≡ Take → ⊥)) }
 {
     let report = match read_report(alloc, terms, payload)? {
         Some(report) => report,

@@ -8,8 +8,10 @@ ghost use Rattle.report_log.specs.Logs.{AreBytes, IsLogOf, IsFaultyAt, entry_of}
 /// Bytes are a log of one history, or they have one first faulty entry, and not both. So what `run` says of a log says which
 /// answer it gives.
 pub fn log_law()
-    ensures either { (terms : Terms) (bytes : List ℕ) → AreBytes bytes → ((c : ClockHistory) × IsLogOf terms c bytes) ⊎ ((place : ℕ) × IsFaultyAt terms bytes place) }
-    ensures not_both { (terms : Terms) (bytes : List ℕ) (c : ClockHistory) (place : ℕ) → IsLogOf terms c bytes → IsFaultyAt terms bytes place → ⊥ }
+    ensures either { (terms : Terms) (bytes : List ℕ) → AreBytes bytes → ((c : ClockHistory) × IsLogOf terms c bytes)
+        ⊎ ((place : ℕ) × IsFaultyAt terms bytes place) }
+    ensures not_both { (terms : Terms) (bytes : List ℕ) (c : ClockHistory) (place : ℕ) → IsLogOf terms c bytes
+        → IsFaultyAt terms bytes place → ⊥ }
     ensures one { (terms : Terms) (bytes : List ℕ) (c d : ClockHistory) → IsLogOf terms c bytes → IsLogOf terms d bytes → c ≡ d }
     ensures one_place { (terms : Terms) (bytes : List ℕ) (place other : ℕ) →
         AreBytes bytes → IsFaultyAt terms bytes place → IsFaultyAt terms bytes other → place ≡ other }

@@ -65,7 +65,8 @@ pub(crate) struct Front<F> {
 fn read_front<F: Frame>(alloc: Global, bytes: &[u8]) -> Result<Front<F>, NoMemory>
     ensures within { IfOk result (λ r. r.length ≤ length bytes.now) }
     ensures size { IfOk result (λ r. length (stream_of (map (sent_of F.kind_of F.payload_of) r.frames.items) []) ≡ r.length) }
-    ensures reads { IfOk result (λ r. Reads F.direction bytes.now (map (sent_of F.kind_of F.payload_of) r.frames.items) (drop r.length bytes.now) r.fault) }
+    ensures reads { IfOk result (λ r. Reads F.direction bytes.now (map (sent_of F.kind_of F.payload_of) r.frames.items)
+        (drop r.length bytes.now) r.fault) }
 {
     let mut frames = Vec::new(alloc);
     let mut at = 0;
@@ -173,8 +174,11 @@ impl<F: Frame> Reader<F> {
     pub fn feed(&mut self, piece: &[u8]) -> Result<Feed<F>, NoMemory>
         ensures err { OnErr result (self.new ≡ self.old) }
         ensures broken { IfOk result (λ f. IsSome self.old.fault → (self.new ≡ self.old) × (f.frames.items ≡ [])) }
-        ensures reads { IfOk result (λ f. self.old.fault ≡ None → Reads F.direction (self.old.rest ++ piece.now) (map (sent_of F.kind_of F.payload_of) f.frames.items) self.new.rest self.new.fault) }
-        ensures place { IfOk result (λ f. self.old.fault ≡ None → self.new.place ≡ (self.old.place + length (stream_of (map (sent_of F.kind_of F.payload_of) f.frames.items) [])) % 2 ^ 64) }
+        ensures reads { IfOk result (λ f. self.old.fault ≡ None
+            → Reads F.direction (self.old.rest ++ piece.now) (map (sent_of F.kind_of F.payload_of) f.frames.items) self.new.rest
+            self.new.fault) }
+        ensures place { IfOk result (λ f. self.old.fault ≡ None
+            → self.new.place ≡ (self.old.place + length (stream_of (map (sent_of F.kind_of F.payload_of) f.frames.items) [])) % 2 ^ 64) }
         ensures fault { IfOk result (λ f. f.fault ≡ fault_of self.new) }
     {
         if let Some(kind) = self.fault {

@@ -113,7 +113,8 @@ fn push_report_frame(
     demand: &RawDemand,
 ) -> Result<(), AllocError>
     requires { IsMessage to_house 3 (report_payload clock round demand.now.goods demand.now.quantities) }
-    ensures { OnOk result (bytes.new.items ≡ bytes.old.items ++ spelling 3 (report_payload clock round demand.now.goods demand.now.quantities)) }
+    ensures { OnOk result (bytes.new.items ≡ bytes.old.items ++ spelling 3
+        (report_payload clock round demand.now.goods demand.now.quantities)) }
 {
     let length = 8 + 2 * demand.quantities.as_slice().len();
     push_head(bytes, length as u32, 3)?;

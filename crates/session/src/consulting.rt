@@ -23,7 +23,8 @@ pub(crate) fn look_at<H: Hall, T: Wait>(rt: &T, hall: &mut H, clock: u8) -> ToBi
     requires goods { IsRange 1 6 (length (H.supply hall.old)) }
     ensures order { H.in_order hall.new }
     ensures stays { H.stays hall.old hall.new }
-    ensures answer { (look : _) × (result ≡ reply_of (Asked.Look clock look)) × H.allows (H.meaning hall.old) (Asked.Look clock look) (H.meaning hall.new) }
+    ensures answer { (look : _) × (result ≡ reply_of (Asked.Look clock look))
+        × H.allows (H.meaning hall.old) (Asked.Look clock look) (H.meaning hall.new) }
     ensures formed { IsMessage to_bidder (bidder_kind result) (bidder_payload result) }
 {
     let look = hall.look(rt, clock);
@@ -52,7 +53,9 @@ pub(crate) fn offer_at<H: Hall, T: Wait>(
     requires demand { IsDemand (H.supply hall.old) demand }
     ensures order { H.in_order hall.new }
     ensures stays { H.stays hall.old hall.new }
-    ensures answer { (offered : _) × (result ≡ reply_of (Asked.Offer clock bidder round demand offered)) × IsOffered (bidder ≡ clock) offered × H.allows (H.meaning hall.old) (Asked.Offer clock bidder round demand offered) (H.meaning hall.new) }
+    ensures answer { (offered : _) × (result ≡ reply_of (Asked.Offer clock bidder round demand offered))
+        × IsOffered (bidder ≡ clock) offered
+        × H.allows (H.meaning hall.old) (Asked.Offer clock bidder round demand offered) (H.meaning hall.new) }
     ensures formed { IsMessage to_bidder (bidder_kind result) (bidder_payload result) }
 {
     let offered = hall.offer(rt, alloc, clock, bidder, round, demand);

@@ -60,8 +60,11 @@ impl Session {
     ) -> Answer
         requires formed { IsMessage to_house (house_kind frame.now) (house_payload frame.now) }
         requires seated { IsSeated auction.now self.old (H.in_order hall.old) (H.supply hall.old) (H.bidders hall.old) }
-        ensures turn { (asked : Option AskedValue) × IsTurn H.allows auction.now self.old (H.meaning hall.old) (record { frame = frame.now; asked = asked; reply = result.reply; now = H.meaning hall.new }) }
-        ensures goes { (result.goes_on ≡ goes_on auction.now self.old frame.now) × (self.new ≡ bidder_after auction.now self.old frame.now) }
+        ensures turn { (asked : Option AskedValue)
+            × IsTurn H.allows auction.now self.old (H.meaning hall.old)
+            (record { frame = frame.now; asked = asked; reply = result.reply; now = H.meaning hall.new }) }
+        ensures goes { (result.goes_on ≡ goes_on auction.now self.old frame.now)
+            × (self.new ≡ bidder_after auction.now self.old frame.now) }
         ensures formed { IsMessage to_bidder (bidder_kind result.reply) (bidder_payload result.reply) }
         ensures seated { IsSeated auction.now self.new (H.in_order hall.new) (H.supply hall.new) (H.bidders hall.new) }
         ensures stays { H.stays hall.old hall.new }

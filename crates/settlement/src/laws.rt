@@ -28,7 +28,8 @@ pub fn order_law()
 /// What is efficient has one price of each good, and at the same awards each bidder has one payment. So where valuations explain
 /// the clocks, the economic clause alone refuses any other number.
 pub fn efficient_law()
-    ensures prices { (u : ℕ → List ℕ → ℤ) (terms : TermsValue) (o p : Outcome) → IsEfficient u terms o → IsEfficient u terms p → o.prices ≡ p.prices }
+    ensures prices { (u : ℕ → List ℕ → ℤ) (terms : TermsValue) (o p : Outcome) → IsEfficient u terms o → IsEfficient u terms p
+        → o.prices ≡ p.prices }
     ensures payments { (u : ℕ → List ℕ → ℤ) (terms : TermsValue) (o p : Outcome) → IsEfficient u terms o → IsEfficient u terms p →
         map (λ row. row.award) o.rows ≡ map (λ row. row.award) p.rows → map (λ row. row.pays) o.rows ≡ map (λ row. row.pays) p.rows }
 {}

@@ -83,9 +83,11 @@ pub(crate) fn lead(
     requires terms { clock.old.history.terms ≡ terms.now }
     requires columns { AreColumns terms.now.goods columns.old.items }
     requires led { IsLed (bidders_of terms.now.goods valuations.now) before.now clock.old.history }
-    requires carried { AreCarried terms.now (bidders_of terms.now.goods valuations.now) (steps_of clock.old.history - 1) before.now surpluses.old }
+    requires carried { AreCarried terms.now (bidders_of terms.now.goods valuations.now) (steps_of clock.old.history - 1) before.now
+        surpluses.old }
     ensures gone { OnOk result (HasGone (bidders_of terms.now.goods valuations.now) clock.old.history clock.new.history) }
-    ensures carried { OnOk result (AreCarried terms.now (bidders_of terms.now.goods valuations.now) (steps_of clock.new.history) (prices_of clock.new.history) surpluses.new) }
+    ensures carried { OnOk result (AreCarried terms.now (bidders_of terms.now.goods valuations.now) (steps_of clock.new.history)
+        (prices_of clock.new.history) surpluses.new) }
     ensures columns { AreColumns terms.now.goods columns.new.items }
 {
     let number = clock.number();
@@ -107,7 +109,8 @@ pub(crate) fn lead(
 /// For how many steps on the set every bidder but one demands what it demands now.
 fn least_steady(surpluses: &[Surplus], without: u8, set: GoodSet, column: &Column) -> u32
     requires { (place : ℕ) → place < length surpluses.now → IsColumn (surplus_at surpluses.now place).supply set.0 column.now.units.items }
-    ensures { (place n : ℕ) → place < length surpluses.now → place + 1 ≢ without → n ≤ result → IsSteady set.0 n (surplus_at surpluses.now place) }
+    ensures { (place n : ℕ) → place < length surpluses.now → place + 1 ≢ without → n ≤ result
+        → IsSteady set.0 n (surplus_at surpluses.now place) }
 {
     let mut least = MOST_REPEATED;
     for place in 0..surpluses.len() {
@@ -120,7 +123,8 @@ fn least_steady(surpluses: &[Surplus], without: u8, set: GoodSet, column: &Colum
 
 /// The prices rose by one on each good of the set, so many times.
 pub(crate) fn step_all(surpluses: &mut [Surplus], set: GoodSet, column: &Column, times: u32)
-    requires column { (place : ℕ) → place < length surpluses.old → IsColumn (surplus_at surpluses.old place).supply set.0 column.now.units.items }
+    requires column { (place : ℕ) → place < length surpluses.old
+        → IsColumn (surplus_at surpluses.old place).supply set.0 column.now.units.items }
     requires few { (place : ℕ) → place < length surpluses.old → (surplus_at surpluses.old place).steps + times < 2 ^ 32 }
     ensures { AreStepped set.0 times surpluses.old surpluses.new }
 {

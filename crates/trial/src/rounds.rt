@@ -88,7 +88,8 @@ fn tell_round(
 ) -> Result<(), NoMemory>
     requires terms { clock.old.history.terms ≡ terms.now }
     requires fresh { IsFresh (bidders_of terms.now.goods valuations.now) clock.old.history }
-    requires carried { AreCarried terms.now (bidders_of terms.now.goods valuations.now) (steps_of clock.old.history) (prices_of clock.old.history) surpluses.now }
+    requires carried { AreCarried terms.now (bidders_of terms.now.goods valuations.now) (steps_of clock.old.history)
+        (prices_of clock.old.history) surpluses.now }
     ensures told { OnOk result (clock.new.history ≡ told (bidders_of terms.now.goods valuations.now) clock.old.history) }
     ensures turned { OnOk result (IsTurned clock.old.history clock.new.history) }
 {

@@ -75,7 +75,8 @@ pub(crate) fn run_workers<T: Threads + Sync>(
     workers: u32,
 ) -> Result<Run, TrialFault>
     requires count { length valuations.now ≡ terms.now.bidders }
-    ensures substitutes { IfOk result (λ _. AllStrongSubstitutes terms.now.goods (bidders_of terms.now.goods valuations.now) (all_bidders terms.now.bidders)) }
+    ensures substitutes { IfOk result (λ _. AllStrongSubstitutes terms.now.goods (bidders_of terms.now.goods valuations.now)
+        (all_bidders terms.now.bidders)) }
     ensures trial { IfOk result (λ run. IsTrial terms.now (bidders_of terms.now.goods valuations.now) (histories run.clocks.items)) }
     ensures rows { IfOk result (λ run. AllZip IsFoundOf (histories run.clocks.items) run.rows.items) }
     ensures refused { IfErr result (IsRefusal terms.now (bidders_of terms.now.goods valuations.now)) }
@@ -198,7 +199,8 @@ fn conclude(
 ) -> Result<Run, TrialFault>
     requires count { length valuations.now ≡ terms.now.bidders }
     requires parts { AreParts terms.now (bidders_of terms.now.goods valuations.now) parts.items }
-    ensures substitutes { IfOk result (λ _. AllStrongSubstitutes terms.now.goods (bidders_of terms.now.goods valuations.now) (all_bidders terms.now.bidders)) }
+    ensures substitutes { IfOk result (λ _. AllStrongSubstitutes terms.now.goods (bidders_of terms.now.goods valuations.now)
+        (all_bidders terms.now.bidders)) }
     ensures trial { IfOk result (λ run. IsTrial terms.now (bidders_of terms.now.goods valuations.now) (histories run.clocks.items)) }
     ensures rows { IfOk result (λ run. AllZip IsFoundOf (histories run.clocks.items) run.rows.items) }
     ensures refused { IfErr result (IsRefusal terms.now (bidders_of terms.now.goods valuations.now)) }
@@ -264,8 +266,10 @@ fn judge(
 ) -> Result<(), TrialFault>
     requires count { length valuations.now ≡ terms.now.bidders }
     requires verdicts { AreRight terms.now (bidders_of terms.now.goods valuations.now) verdicts.now }
-    ensures substitutes { OnOk result (AllStrongSubstitutes terms.now.goods (bidders_of terms.now.goods valuations.now) (all_bidders terms.now.bidders)) }
-    ensures refused { IfErr result (λ fault. (fault ≢ TrialFault.NoMemory) × IsRefusal terms.now (bidders_of terms.now.goods valuations.now) fault) }
+    ensures substitutes { OnOk result (AllStrongSubstitutes terms.now.goods (bidders_of terms.now.goods valuations.now)
+        (all_bidders terms.now.bidders)) }
+    ensures refused { IfErr result (λ fault. (fault ≢ TrialFault.NoMemory)
+        × IsRefusal terms.now (bidders_of terms.now.goods valuations.now) fault) }
 {
     for place in 0..terms.bidders {
         let bidder = place + 1;

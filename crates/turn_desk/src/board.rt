@@ -46,7 +46,8 @@ impl<B: Book> Board<B> {
     /// A board with this book on it, and its first seat.
     pub(crate) fn open(alloc: Global, book: B) -> Result<(Board<B>, Place<B>), B>
         ensures key { IfOk result (λ r. r.0.table.shared.key.value ≡ book) }
-        ensures seat { IfOk result (λ r. (r.1.table_id ≡ r.0.table.shared.table_id) × (r.1.me ≡ (founder (B.history book) (B.origin book), []))) }
+        ensures seat { IfOk result (λ r. (r.1.table_id ≡ r.0.table.shared.table_id)
+            × (r.1.me ≡ (founder (B.history book) (B.origin book), []))) }
         ensures err { IfErr result (λ b. b ≡ book) }
     {
         let about = Snapshot::of(&book);

@@ -11,10 +11,13 @@ use crate::book::Book;
 
 /// While the book lies on the desk, all that `AtHome` lists is so.
 pub fn desk_at_home<B: Book>()
-    ensures { (first book : B) (s : State (Option B) (View B.Entry B.Origin)) → KeepsRule B.history B.origin B.gauge first s → s.homes ≡ some (Some book) ∷ [] → AtHome B.history B.origin B.gauge first book s }
+    ensures { (first book : B) (s : State (Option B) (View B.Entry B.Origin)) → KeepsRule B.history B.origin B.gauge first s
+        → s.homes ≡ some (Some book) ∷ [] → AtHome B.history B.origin B.gauge first book s }
 {}
 
 /// While a view holds the turn, all that `InTurn` lists is so.
 pub fn desk_in_turn<B: Book>()
-    ensures { (first : B) (place : ℕ) (w : View B.Entry B.Origin) (s : State (Option B) (View B.Entry B.Origin)) → KeepsRule B.history B.origin B.gauge first s → get_elem? s.views place ≡ some w → holding w.stage ≡ 1 → InTurn B.history B.origin B.gauge first place w s }
+    ensures { (first : B) (place : ℕ) (w : View B.Entry B.Origin) (s : State (Option B) (View B.Entry B.Origin))
+        → KeepsRule B.history B.origin B.gauge first s → get_elem? s.views place ≡ some w → holding w.stage ≡ 1
+        → InTurn B.history B.origin B.gauge first place w s }
 {}

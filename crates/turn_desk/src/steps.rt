@@ -37,7 +37,8 @@ impl<B: Book> Board<B> {
         requires turn { holding seat.old.me.0.stage ≡ 1 }
         requires more { (e : B.Entry) × StartsWith (in_hand B.history seat.old.me.1) (reached seat.old.me.0.stage ++ e ∷ []) }
         ensures same { (seat.new.table_id ≡ seat.old.table_id) × (seat.new.id ≡ seat.old.id) × (seat.new.me.1 ≡ seat.old.me.1) }
-        ensures grown { (e : B.Entry) × StartsWith (in_hand B.history seat.old.me.1) (reached seat.old.me.0.stage ++ e ∷ []) × (seat.new.me.0 ≡ grown seat.old.me.0 e) }
+        ensures grown { (e : B.Entry) × StartsWith (in_hand B.history seat.old.me.1) (reached seat.old.me.0.stage ++ e ∷ [])
+            × (seat.new.me.0 ≡ grown seat.old.me.0 e) }
     {
         self.table.shared.fetch_add::<Append<B>>(seat, COUNT, 1);
     }
@@ -46,7 +47,8 @@ impl<B: Book> Board<B> {
     pub(crate) fn tell(&self, seat: &mut Place<B>, gauge: u64)
         requires desk { seat.old.table_id ≡ self.now.table.shared.table_id }
         requires turn { holding seat.old.me.0.stage ≡ 1 }
-        requires book { (b : B) × (B.history b ≡ reached seat.old.me.0.stage) × (seat.old.me.0.origin ≡ Some (B.origin b)) × (gauge ≡ B.gauge (B.origin b) (B.history b)) }
+        requires book { (b : B) × (B.history b ≡ reached seat.old.me.0.stage) × (seat.old.me.0.origin ≡ Some (B.origin b))
+            × (gauge ≡ B.gauge (B.origin b) (B.history b)) }
         ensures same { (seat.new.table_id ≡ seat.old.table_id) × (seat.new.id ≡ seat.old.id) }
         ensures told { seat.new.me ≡ (shown_to seat.old.me.0, seat.old.me.1) }
     {
@@ -67,7 +69,8 @@ impl<B: Book> Board<B> {
     pub(crate) fn pass_on(&self, seat: &mut Place<B>) -> u64
         requires desk { seat.old.table_id ≡ self.now.table.shared.table_id }
         requires turn { holding seat.old.me.0.stage ≡ 1 }
-        requires book { (b : B) × (seat.old.me.1 ≡ (0, Some b) ∷ []) × (B.history b ≡ reached seat.old.me.0.stage) × (seat.old.me.0.origin ≡ Some (B.origin b)) }
+        requires book { (b : B) × (seat.old.me.1 ≡ (0, Some b) ∷ []) × (B.history b ≡ reached seat.old.me.0.stage)
+            × (seat.old.me.0.origin ≡ Some (B.origin b)) }
         requires told { seat.old.me.0.seen ≡ reached seat.old.me.0.stage }
         ensures same { (seat.new.table_id ≡ seat.old.table_id) × (seat.new.id ≡ seat.old.id) }
         ensures rests { seat.new.me ≡ (rested seat.old.me.0, []) }

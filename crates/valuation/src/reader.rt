@@ -254,7 +254,8 @@ fn values_in(
 /// The valuations that the bytes of a valuation file say, one for each bidder, or the first fault in the order of the format.
 pub fn read(alloc: Global, terms: &Terms, bytes: &[u8]) -> Result<Vec<Valuation>, ValuesFault>
     ensures read { IfOk result (λ v. values_of terms.now.goods terms.now.bidders terms.now.ceiling bytes.now ≡ Ok v.items) }
-    ensures refused { IfErr result (λ fault. fault ≢ ValuesFault.NoMemory → values_of terms.now.goods terms.now.bidders terms.now.ceiling bytes.now ≡ Err fault) }
+    ensures refused { IfErr result (λ fault. fault ≢ ValuesFault.NoMemory
+        → values_of terms.now.goods terms.now.bidders terms.now.ceiling bytes.now ≡ Err fault) }
 
     // So there is one for each bidder, and each has a value below the ceiling for each bundle, 0 for the empty one.
     ensures count { IfOk result (λ v. length v.items ≡ terms.now.bidders) }

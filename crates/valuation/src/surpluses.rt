@@ -42,7 +42,8 @@ impl Model for Surplus {
 
     ghost view = { λ s. record { supply = s.goods; steps = s.steps; worth = s.worth.items } };
 
-    ghost invariant = { λ s. IsSupply s.goods × (length s.worth.items ≡ box_size s.goods) × AllAbove (2 ^ 50 + s.steps * 2047) s.worth.items };
+    ghost invariant = { λ s. IsSupply s.goods × (length s.worth.items ≡ box_size s.goods)
+        × AllAbove (2 ^ 50 + s.steps * 2047) s.worth.items };
 }
 
 impl Surplus {
@@ -74,7 +75,8 @@ impl Surplus {
         requires few { self.old.steps + times < 2 ^ 32 }
         ensures goods { self.new.supply ≡ self.old.supply }
         ensures steps { self.new.steps ≡ self.old.steps + times }
-        ensures carries { (u : List ℕ → ℤ) (p : List ℕ) → length p ≡ length self.old.supply → Carries self.old u p → Carries self.new u (raised_by times set.0 p) }
+        ensures carries { (u : List ℕ → ℤ) (p : List ℕ) → length p ≡ length self.old.supply → Carries self.old u p
+            → Carries self.new u (raised_by times set.0 p) }
     {
         pay(&mut self.worth, &column.units, times, self.steps);
         self.steps += times;
@@ -163,7 +165,8 @@ fn greatest(worth: &[u64]) -> u64
 /// The quantities of the bundles whose surplus is this one, one bundle after another.
 fn collect(alloc: Global, goods: &Goods, worth: &[u64], best: u64) -> Result<Vec<u16>, NoMemory>
     requires { length worth.now ≡ box_size goods.now }
-    ensures { IfOk result (λ found. found.items ≡ concat (filter (λ x. slice_index worth.now (index_of goods.now x) == best) (box goods.now))) }
+    ensures { IfOk result (λ found. found.items ≡ concat
+        (filter (λ x. slice_index worth.now (index_of goods.now x) == best) (box goods.now))) }
 {
     let mut found = Vec::new(alloc);
     for place in 0..goods.box_size() {
