@@ -35,17 +35,23 @@ pub record BookOf (D : Type 0) : Type 0 where
 -- was answered it stood for a front of them, or for such a front and a report in doubt there. A disk that tells told then. The marks are
 -- at most the faults of the disk, which are counted in 64 bits.
 pub record IsKept {D : Type 0} (shown : D → DiskShown) (b : BookOf D) : Type 0 where
+  -- the clock's history is a legal one of the owner, and the desk's history counts its reports
   pub legal : IsLegal b.state.clock
   pub terms : b.state.clock.terms ≡ b.origin.terms
   pub number : b.state.clock.number ≡ b.origin.clock
   pub reports : reports_in b.state.history ≡ b.state.clock.reports
+  -- one fault of the disk at least for each mark
   pub marks : min (marks_in b.state.history) (2 ^ 64 - 1) ≤ (shown b.disk).faults
+  -- the records and the gate behind them end within a file's limit
   pub limit : length (front (contents_of (owner_in b.origin) b.state.clock.reports)) + 1 ≤ GREATEST_FILE
+  -- a report that is pending is one that the clock would take next, and in doubt by the desk's history
   pub next : IfSome b.state.pending (IsNext b.state.clock)
   pub doubt : IfSome b.state.pending (IsInDoubt b.state.history)
+  -- what the disk's file stands for, at each image now and at each moment since the opening; a disk that tells told then
   pub stands : IsTrue (is_told (shown b.disk)) → Leaves (IsEither (owner_in b.origin) b.state.clock.reports b.state.pending) (told_moments (shown b.disk)).now
   pub past : IsTrue (is_told (shown b.disk)) → KeepsPast b.origin b.state.clock b.state.history (told_moments (shown b.disk))
   pub first : IsTrue (is_told (shown b.disk)) → IsTrue b.origin.told
+  -- nobody else writes the file
   pub claimed : IsTrue (shown b.disk).claimed
 
 -- the quantities of these reports
@@ -76,17 +82,23 @@ pub record IsWaiting (n : NotedOf) (r : Report) : Type 0 where
 
 -- The same of its parts: its journal is that of its clock, its marks are at most the faults of its disk, and it has room.
 pub record IsBook {D : Type 0} (j : JournalOf D) (told : Type 0) (ms : Moments) (faults : ℕ) (n : NotedOf) (pending : Option Report) (origin : Origin) : Type 0 where
+  -- the clock is that of the origin, and its reports begin with those at the opening
   pub terms : n.clock.terms ≡ origin.terms
   pub number : n.clock.number ≡ origin.clock
   pub are : AreReportsOf origin.terms n.clock.reports
   pub opened : origin.reports ≤ length n.clock.reports
+  -- the journal ends where the records of these reports end, and what it has in doubt is the pending report
   pub end : j.end ≡ length (front (contents_of (owner_in origin) n.clock.reports))
   pub in_doubt : j.pending ≡ option_map (payload_of (length origin.terms.goods)) pending
+  -- the pending report is one that the clock takes next, and in doubt by the desk's history
   pub waits : IfSome pending (IsWaiting n)
   pub doubt : IfSome pending (IsInDoubt n.history)
+  -- the desk's history counts the clock's reports, and each of its marks a fault
   pub reports : reports_in n.history ≡ n.clock.reports
   pub marks : min (marks_in n.history) (2 ^ 64 - 1) ≤ faults
+  -- there is room for as many reports as the journal has places for
   pub room : HasRoom n (j.spare + kept_for pending)
+  -- what the journal has, and what its file stood for since the opening, where the disk tells
   pub contents : told → j.contents ≡ contents_of (owner_in origin) n.clock.reports
   pub past : told → KeepsPast origin n.clock n.history ms
   pub first : told → IsTrue origin.told

@@ -157,19 +157,25 @@ pub record IsSameNet {N : Type 0} (told_before told_after : Option N) (counted_b
 module _ {D R L M : Type 0} (shown : D → DiskShown) (told : R → Option (DoorLinks M)) (faults : R → ℕ) (link_told : M → Option LinkBytes) (link_faults : M → ℕ) (auction : Auction) (address : List ℕ) (count sessions : ℕ) where
   -- A house was opened on these disks, one for each clock, served at doors of the net, and closed. The disks came back in order.
   pub record IsHosted (old disks : List D) (answer : Result Hosted Ended) (told_before told_after : Option (NetLists R L)) (counted_before counted : ℕ) : Type 0 where
+    -- a disk came back for each, and there is a clock for each
     pub disks_count : length disks ≡ length old
     pub clocks : List ClockRun
     pub count_is : length clocks ≡ length old
+    -- what each clock and its journal came to, the journal where its disk tells
     pub clocks_are : (k : ℕ) (c : ClockRun) → k < length clocks → IsClockRun (owner_of auction.terms k auction.digest) (slice_index_or clocks k c)
     pub journals_are : (k : ℕ) (c : ClockRun) (d : D) → k < length clocks → IsTrue (is_told (shown (slice_index_or disks k d)))
         → IsJournalRun (owner_of auction.terms k auction.digest) (slice_index_or clocks k c) (told_moments (shown (slice_index_or old k d))) (told_moments (shown (slice_index_or disks k d)))
+    -- each disk is claimed, and has counted a fault for each mark
     pub claimed : (k : ℕ) (d : D) → k < length clocks → IsTrue (shown (slice_index_or disks k d)).claimed
     pub marks : (k : ℕ) (c : ClockRun) (d : D) → k < length clocks → min (marks_in (slice_index_or clocks k c).closed.history) (2 ^ 64 - 1) ≤ (shown (slice_index_or disks k d)).faults
+    -- each door began with new passes of the clocks' books, and served so many sessions, or failed
     pub runs : List (DoorRun R M)
     pub new : BeginNew clocks runs
     pub ran : DoorsRan {L = L} told faults link_told link_faults auction address count sessions runs told_before told_after
+    -- what the turns at all doors come to at each clock
     pub joins : (k : ℕ) (c : ClockRun) → k < length clocks
         → Joins (slice_index_or clocks k c).opening (slice_index_or clocks k c).closed.history (flat_map turns_of runs) k
+    -- what is answered
     pub answer_is : ServedAnswer (map (λ (c : ClockRun). c.closed.clock) clocks) runs answer counted_before counted
 
 module _ {D N : Type 0} (shown : D → DiskShown) (terms : Terms) (digest : List ℕ) (old disks : List D) (told_before told_after : Option N) (counted_before counted : ℕ) (end : Ended) where

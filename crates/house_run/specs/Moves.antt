@@ -45,15 +45,19 @@ pub record IsOneAuction (shelf : ShelfSeen) (old new : List ℕ) : Type 0 where
 -- Both files were read, the auction can go on under the second, and its journals have these histories. The targets are journals of these
 -- terms and of this digest.
 pub record IsMove (shelf : ShelfSeen) (old journals new : List ℕ) (histories : List ClockHistory) (terms : Terms) (digest : List ℕ) : Type 0 where
+  -- what the two files say
   pub first : Listing
   pub second : Listing
+  -- they were read, and are of one auction
   pub old_is : IsAuctionAt shelf old first
   pub new_is : IsAuctionAt shelf new second
   pub same : IsSameListing first second
+  -- the terms of both, and the digest of the second
   pub before : Terms
   pub before_are : IsTermsOf first before
   pub terms_are : IsTermsOf second terms
   pub digest_is : digest ≡ second.digest
+  -- the journals are of the first, and stand for these histories
   pub from_journals : AreFromJournals shelf.files before first.digest journals (before.bidders + 1) histories
 
 -- each target stands for a legal history, or is unformed
@@ -98,17 +102,21 @@ pub record IsFull (clock needed : ℕ) (shelf : ShelfSeen) (old journals new tar
 -- Nothing keeps journals from being moved: the auction can go on under the second file, each target is unformed or stands for a front of
 -- its history, and has room for all of it.
 pub record AreGoodTargets (files : List NamedFile) (auction journals : List ℕ) (m : Moving) : Type 0 where
+  -- what the two files say; the second is within its limit, and of the same auction
   pub first : Listing
   pub second : Listing
   pub short : length (content files m.auction) ≤ auction_limit
   pub first_says : auction_of (content files auction) ≡ Ok first
   pub second_says : auction_of (content files m.auction) ≡ Ok second
   pub same : IsSameListing first second
+  -- the terms of both
   pub before : Terms
   pub before_are : IsTermsOf first before
   pub terms : Terms
   pub terms_are : IsTermsOf second terms
+  -- each target stands for a front of its clock's history, or for nothing yet
   pub fronts : (histories : List ClockHistory) → AreFromJournals (Some files) before first.digest journals (before.bidders + 1) histories
       → (k : ℕ) → k ≤ terms.bidders → IsFrontAt files m.journals terms second.digest histories k
+  -- the record of each report fits into its target
   pub room : (histories : List ClockHistory) → AreFromJournals (Some files) before first.digest journals (before.bidders + 1) histories
       → (k needed : ℕ) (c : ClockHistory) → k ≤ terms.bidders → IsFullAt needed (owner_of terms k second.digest) (slice_index_or histories k c).reports → ⊥

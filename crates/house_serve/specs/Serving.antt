@@ -32,14 +32,19 @@ pub record IsPulledLast {M : Type 0} (auction : Auction) (turns : List (Turn M))
 
 -- What was taken begins with the frames that had their turns. What was written is the bytes of their replies, as the end says.
 pub record Served {M : Type 0} (auction : Auction) (turns : List (Turn M)) (end : SessionEnd) (before after : LinkBytes) : Type 0 where
+  -- what was taken, what was given, and what is less than a frame behind the frames
   pub taken : List ℕ
   pub given : List ℕ
   pub tail : List ℕ
+  -- a front of what came was taken, and what was given is behind what was written before
   pub left : before.left ≡ taken ++ after.left
   pub written : after.written ≡ before.written ++ given
+  -- what was taken is the frames that had their turns, and the rest
   pub front : taken ≡ stream_of (map house_sent (frames_of turns)) tail
+  -- how the end comes; each reply but the last was given whole
   pub ends : EndsBy auction None (frames_of turns) tail (length (stream_of (map house_sent (frames_of turns)) []) % 2 ^ 64) after.left (bytes_of turns) given end
   pub whole : AreWhole turns given
+  -- how much may be taken, and how much the last pull brought
   pub takes : TakesBy (length taken) end
   pub pulls : IsPulledLast auction turns taken
 

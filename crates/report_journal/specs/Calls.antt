@@ -64,16 +64,20 @@ pub record FormLeaves (header : Header) (old new : Moments) : Type 0 where
 
 -- a journal of no payloads, formed on this disk: every image has it, and the bytes of its header were written and no others
 pub record Forms {D : Type 0} (shown : D → DiskShown) (header : Header) (old : D) (new : JournalOf D) : Type 0 where
+  -- the journal has this header and no record, and ends at its first gate
   pub contents : new.contents ≡ empty header
   pub places : new.places ≡ []
   pub end : new.end ≡ first_gate header
   pub pending : new.pending ≡ None
   pub spare : new.spare ≡ 0
   pub laid : new.laid ≡ first_gate header + 1
+  -- no call failed
   pub steady : (shown new.disk).faults ≡ (shown old).faults
   pub later : IsLater (shown old) (shown new.disk)
+  -- each image stands for it, and what a read gives is the old file under the gate, the header and a closed gate
   pub every_image : IsTrue (is_told (shown new.disk)) → Leaves (StandsFor (empty header)) (told_moments (shown new.disk)).now
   pub written : IsTrue (is_told (shown new.disk)) → (told_moments (shown new.disk)).now.read ≡ overlaid (told_moments (shown old)).now.read 0 (OPEN ∷ header_bytes header ++ 0 ∷ [])
+  -- at each moment of the call a file that is unformed, or this one
   pub leaves : IsTrue (is_told (shown new.disk)) → FormLeaves header (told_moments (shown old)) (told_moments (shown new.disk))
 
 -- why a forming is refused: for a fault of the disk, or for memory, and then the disk is as it was

@@ -54,21 +54,28 @@ module _ {E O : Type 0} where
 module _ {B E O : Type 0} (history : B → List E) (origin : B → O) (gauge : O → List E → ℕ) (first : B) where
   -- what every step keeps, of a desk that was opened with the book `first`
   pub record KeepsRule (s : State (Option B) (View E O)) : Type 0 where
+    -- what the four words and the home are read as: tickets that were drawn and served, the entries, those that are shown, the book
     pub ticket : ℕ
     pub serving : ℕ
     pub log : List E
     pub shown : List E
     pub out : Bool
     pub book : B
+    -- they are just these
     pub words_are : s.words ≡ ticket % 2 ^ 64 ∷ serving % 2 ^ 64 ∷ length log % 2 ^ 64 ∷ gauge (origin first) shown ∷ []
     pub homes_are : s.homes ≡ home out book ∷ []
+    -- where nobody has the turn, the book is at home with all entries
     pub book_is : out ≡ false → (history book ≡ log) × (origin book ≡ origin first)
+    -- the history began as the book was opened, and what is shown is a front of it: all of it, where nobody has the turn
     pub goes_on : StartsWith log (history first)
     pub shown_in : StartsWith log shown
     pub settled : out ≡ false → shown ≡ log
+    -- who has the turn has the book, and each view fits
     pub holders : total (λ (v : View E O). holding v.stage) s.views ≡ one_if out
     pub each : (j : ℕ) (v : View E O) → get_elem? s.views j ≡ some v → Fits serving log shown (origin first) (length (history first)) v
+    -- each place beyond the opening is the own place of just one view
     pub places : (k : ℕ) → total (λ (v : View E O). times_at k v.own) s.views ≡ between (length (history first)) (length log) k
+    -- the views that wait stand in line behind the ticket that is served, and the views are of one crew
     pub queue : IsQueue serving ticket s.views
     pub crew : IsCrew s.views
 
