@@ -1,5 +1,6 @@
 #!/usr/bin/env python3
-"""Tries on real files what no proof reaches: two houses on one folder, looks beside a house, a sync that fails, and reading without rights.
+"""Tries on real files and sockets what no proof reaches: two houses on one folder, where a house listens, looks beside a house and at
+copies of its folder, a sync that fails, and reading without rights.
 
     edge_test.py PROGRAM [--looks N]
 
@@ -10,6 +11,7 @@ import argparse
 import multiprocessing
 import os
 import shutil
+import socket
 import struct
 import subprocess
 import sys
@@ -22,13 +24,13 @@ from load import AGAIN, BIDDERS, DISK_FAILED, REFUSED, REPORT, TAKEN, Session, e
 PORT = 27_341
 UNITS = 2_000
 NOBODY = 65_534
-DISK_FAULT = 6
+DISK_FAULT, NET_FAULT = 6, 7
 SHIM = Path(__file__).resolve().parent / "dropped_pages.c"
 
 # How many bundles a report of some bytes has, and one of 3 KB.
 SHORT, LONG = 1, 1_500
 
-# So many looks at one house: a look reads its journals whole, and they grow.
+# So many looks at one house, or copies of its folder: each reads its journals whole, and they grow.
 SPELL = 50
 
 
@@ -83,6 +85,28 @@ def two_houses(program, folder):
     return second.returncode == DISK_FAULT and text == "disk fault clock 0\n" and same and kinds == [TAKEN, TAKEN, AGAIN]
 
 
+def is_reached(host):
+    try:
+        socket.create_connection((host, PORT), 1).close()
+        return True
+    except OSError:
+        return False
+
+
+def addresses(program, folder, other):
+    """A house is reached where it was told to listen and nowhere else, and says that it is open; a second one there ends, and says why."""
+    first = serve(program, folder)
+    Session(PORT, 1, wait=5.0)
+    elsewhere = is_reached("127.0.0.2")
+    second = serve(program, other)
+    text, why = second.communicate(timeout=10)
+    first.kill()
+    _, said = first.communicate()
+    print(f"addresses: reached elsewhere {elsewhere}, the first said {said.strip()!r}, the second {second.returncode} {text.strip()!r} {why.strip()!r}")
+    is_open = said.startswith(f"127.0.0.1:{PORT}: doors are open\n")
+    return not elsewhere and is_open and second.returncode == NET_FAULT and why.startswith(f"127.0.0.1:{PORT}: bind: ")
+
+
 def bid(bidder, stop):
     clocks = [clock for clock in range(BIDDERS + 1) if clock != bidder]
     session = Session(PORT, bidder, wait=5.0)
@@ -91,8 +115,9 @@ def bid(bidder, stop):
             report(session, clock, session.round_of(clock), LONG)
 
 
-def spell(program, folder):
-    """How many looks beside a house tell no standing, and how often one goes back behind an earlier one; and the last round that was seen."""
+def spell(program, folder, of_copies):
+    """How many looks beside a house, or at copies of its folder, tell no standing, and how often one goes back behind an earlier one; and the
+    last round that was seen."""
     house = serve(program, folder)
     stop = multiprocessing.Event()
     bidders = [multiprocessing.Process(target=bid, args=(b, stop)) for b in range(1, BIDDERS + 1)]
@@ -100,7 +125,10 @@ def spell(program, folder):
         process.start()
     rounds, refused, back = [0] * (BIDDERS + 1), 0, 0
     for _ in range(SPELL):
-        answer = read(program, folder, "standing")
+        if of_copies:
+            subprocess.run(["cp", "-r", "journals", "copy"], cwd=folder, check=True)
+        answer = read(program, folder, "standing", "copy" if of_copies else "journals")
+        shutil.rmtree(folder / "copy", ignore_errors=True)
         lines = [line.split() for line in answer.stdout.splitlines()]
         if answer.returncode or len(lines) != BIDDERS + 1:
             print(answer.returncode, answer.stdout.strip(), answer.stderr.strip())
@@ -118,12 +146,13 @@ def spell(program, folder):
     return refused, back, max(rounds)
 
 
-def looks(program, fresh, count):
-    """Each standing beside a house under twelve bidders is one of some front, and none goes back."""
-    spells = [spell(program, fresh(f"looks-{number}")) for number in range(-(-count // SPELL))]
+def looks(program, fresh, count, of_copies):
+    """Each standing beside a house under twelve bidders, or of a copy of its folder, is one of some front, and none goes back."""
+    what = "copies" if of_copies else "looks"
+    spells = [spell(program, fresh(f"{what}-{number}"), of_copies) for number in range(-(-count // SPELL))]
     refused, back = sum(s[0] for s in spells), sum(s[1] for s in spells)
     least, most = min(s[2] for s in spells), max(s[2] for s in spells)
-    print(f"looks {len(spells) * SPELL}: refused {refused}, gone back {back}, last rounds {least} to {most}")
+    print(f"{what} {len(spells) * SPELL}: refused {refused}, gone back {back}, last rounds {least} to {most}")
     return refused == back == 0 and least > 1
 
 
@@ -171,8 +200,9 @@ def without_rights(program, folder):
     own = [read(program, folder, command, journals).returncode for command in ("standing", "settle") for journals in ("journals", "none")]
     them = [read(program, folder, command, journals, user=NOBODY, group=NOBODY).returncode for command in ("standing", "settle") for journals in ("journals", "none")]
     kept = names(folder) == before
-    print(f"reading without rights: statuses {them}, with rights {own}, the same names {kept}")
-    return own == them == [0, 0, 9, 9] and kept
+    said = [read(program, folder, "standing", journals).stderr.strip() for journals in ("journals", "none")]
+    print(f"reading without rights: statuses {them}, with rights {own}, the same names {kept}, said {said}")
+    return own == them == [0, 0, 9, 9] and kept and said == ["", "no journal was found"]
 
 
 def main():
@@ -194,7 +224,9 @@ def main():
             return folder_with_auction(top / label)
 
         good &= two_houses(program, fresh("two"))
-        good &= looks(program, fresh, given.looks)
+        good &= addresses(program, fresh("first"), fresh("second"))
+        good &= looks(program, fresh, given.looks, False)
+        good &= looks(program, fresh, given.looks // 10, True)
         for bundles in (SHORT, LONG):
             for before in (0, 1):
                 good &= failed_sync(program, fresh(f"sync-{bundles}-{before}"), shim, bundles, before)
