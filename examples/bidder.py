@@ -7,6 +7,7 @@ MARGINALS has the worth of the first, second, .. unit of one good, joined by com
 good: `10,4` are a first unit worth 10 and a second one worth 4 more. The bidder reports all bundles that it likes best at the prices of each
 round, of each clock but its own, until all have ended or halted. Then it prints how each clock ended, and quits.
 """
+import argparse
 import itertools
 import socket
 import struct
@@ -90,17 +91,29 @@ def play(house, bidder, goods, clocks):
             time.sleep(0.01)
 
 
+def worths(word):
+    return [int(worth) for worth in word.split(",")]
+
+
 def main():
-    host, port, bidder, token, *words = sys.argv[1:]
-    goods = [[int(worth) for worth in word.split(",")] for word in words]
-    house = House(host, int(port))
-    reply, answer = house.ask(HELLO, bytes([int(bidder)]) + token.encode())
-    assert reply == WELCOME
-    count, clocks = answer
-    if count != len(goods):
-        sys.exit("the auction has %d goods" % count)
-    play(house, int(bidder), goods, clocks)
-    house.ask(QUIT)
+    words = argparse.ArgumentParser(description=__doc__, formatter_class=argparse.RawDescriptionHelpFormatter)
+    words.add_argument("host")
+    words.add_argument("port", type=int)
+    words.add_argument("bidder", type=int, choices=range(1, 13), metavar="bidder")
+    words.add_argument("token")
+    words.add_argument("marginals", type=worths, nargs="+")
+    given = words.parse_args()
+    try:
+        house = House(given.host, given.port)
+        reply, answer = house.ask(HELLO, bytes([given.bidder]) + given.token.encode())
+        assert reply == WELCOME
+        count, clocks = answer
+        if count != len(given.marginals):
+            sys.exit("the auction has %d goods" % count)
+        play(house, given.bidder, given.marginals, clocks)
+        house.ask(QUIT)
+    except OSError as fault:
+        sys.exit("%s:%d: %s" % (given.host, given.port, fault.strerror))
 
 
 if __name__ == "__main__":
