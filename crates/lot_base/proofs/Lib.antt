@@ -3,6 +3,7 @@ pub mod Costs
 pub mod Order
 pub mod Sums
 pub mod Index
+pub mod Strides
 pub mod Ascending
 pub mod Digits
 pub mod Within

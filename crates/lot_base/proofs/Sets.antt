@@ -9,6 +9,7 @@ use Rattle.lot_base.specs.Economy.{demand, indirect_utility, IsStrongSubstitutes
 use Rattle.std.proofs.lemmas.Bool.Decides.{nat_tests}
 use Rattle.lot_base.proofs.Vectors.{Bits, total, set_of}
 use Rattle.lot_base.proofs.Vec.{length-below}
+use Rattle.lot_base.proofs.Cells.{length-lowered}
 use Rattle.lot_base.proofs.Demand.{demand-IsIn}
 use Rattle.lot_base.proofs.Steps.{least_of_step, greatest_of_step}
 use Rattle.lot_base.proofs.Loops.{Bits-set_of}
@@ -116,15 +117,11 @@ raised-reduced (q ∷ p) set h = let d = back (set % 2) h.0 in let r = raised-re
         by false e = refl
         by true e = absurd (let g : true ≡ false = e in cc)
 
-length-reduced : (p : List ℕ) (set : ℕ) → length (lowered p set) ≡ length p
-length-reduced [] set = refl
-length-reduced (q ∷ p) set = ap suc (length-reduced p (set / 2))
-
 -- its mirror image
 pub greatest_step : (s : List ℕ) (u : List ℕ → ℤ) (p : List ℕ) (set : ℕ) → IsStrongSubstitutes s u → length p ≡ length s → AllPriced p set → pos (greatest (demand s u p) set) ≡ indirect_utility s u (lowered p set) -ℤ indirect_utility s u p
 greatest_step s u p set strong l priced =
     let low = lowered p set in
-    let n : length low ≡ length s = length-reduced p set ∙ l in
+    let n : length low ≡ length s = length-lowered p set ∙ l in
     let e : plus low (set_of (length s) set) ≡ p = ap (λ n. plus low (set_of n set)) (sym n) ∙ sym (raised-plus low set) ∙ raised-reduced p set priced in
     let g : greatest (demand s u p) set ≡ greatest_of (cost (set_of (length s) set)) (demand s u p) =
     greatest-same (λ x. quantity_in x set) (cost (set_of (length s) set)) (demand s u p) (λ x m. quantity_in-cost x set ∙ ap (λ n. cost (set_of n set) x) (length-below x s (demand-IsIn s u p x m).0)) in

@@ -1,6 +1,7 @@
 pub mod Goods
 pub mod Padded
 pub mod Box
+pub mod Strides
 pub mod Demands
 pub mod Economy
 pub mod Equilibrium

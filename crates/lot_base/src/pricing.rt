@@ -1,6 +1,6 @@
 //! Prices.
 ghost use Rattle.std.specs.Prelude.{◌≡◌, ◌⊎◌, ℕ, nat_le, position, ◌<◌, ◌≤◌, ◌^◌, ◌%◌, ◌/◌, ◌-◌, ◌+◌, ◌*◌, List, length, slice_index, IfSome, IfNone};
-ghost use Rattle.lot_base.specs.Goods.{cost, raised, zeros, AllBelow};
+ghost use Rattle.lot_base.specs.Goods.{cost, raised, lowered, zeros, AllBelow, AllPriced};
 ghost use Rattle.lot_base.specs.Padded.{padded};
 
 use crate::bundles::Bundle;
@@ -101,6 +101,17 @@ impl Prices {
             count: self.count,
         }
     }
+
+    /// One less on each good of the set.
+    pub fn lower(&self, set: GoodSet) -> Prices
+        requires { AllPriced self.now set.0 }
+        ensures { result ≡ lowered self.now set.0 }
+    {
+        Prices {
+            cells: six_lowered(self.as_slice(), set.0),
+            count: self.count,
+        }
+    }
 }
 
 /// What a bundle costs at the prices.
@@ -149,6 +160,32 @@ fn raise_each(prices: &mut [u32], set: u8)
     for price in prices.iter_mut() {
         if rest % 2 == 1 {
             *price += 1;
+        }
+        rest /= 2;
+    }
+}
+
+/// One less at each place of the set, and zeros behind them.
+fn six_lowered(prices: &[u32], set: u8) -> [u32; 6]
+    requires few { length prices.now ≤ 6 }
+    requires priced { AllPriced prices.now set }
+    ensures { result ≡ padded (lowered prices.now set) }
+{
+    let mut cells = [0u32; 6];
+    cells[..prices.len()].copy_from_slice(prices);
+    lower_each(&mut cells[..prices.len()], set);
+    cells
+}
+
+/// One less at each place of the set.
+fn lower_each(prices: &mut [u32], set: u8)
+    requires { AllPriced prices.old set }
+    ensures { prices.new ≡ lowered prices.old set }
+{
+    let mut rest = set;
+    for price in prices.iter_mut() {
+        if rest % 2 == 1 {
+            *price -= 1;
         }
         rest /= 2;
     }

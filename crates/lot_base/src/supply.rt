@@ -2,6 +2,7 @@
 ghost use Rattle.std.specs.Prelude.{◌≡◌, ◌↔◌, ℕ, ◌+◌, ◌-◌, ◌*◌, ◌^◌, ◌<◌, ◌≤◌, List, length, slice_index, slice_get, Some, IsTrue, ◌==◌, position};
 ghost use Rattle.lot_base.specs.Goods.{quantity_in, box_size, is_within, AtMost, IsSupply};
 ghost use Rattle.lot_base.specs.Box.{box, index_of, bundle_at};
+ghost use Rattle.lot_base.specs.Strides.{AreStrides};
 ghost use Rattle.lot_base.specs.Limits.{supply_of};
 
 use crate::bundles::{Bundle, quantity_in};
@@ -131,6 +132,13 @@ impl Goods {
         x.index_within(self.supply.as_slice())
     }
 
+    /// How far apart in the list of the box a bundle and the one with a unit more of a good stand, for each good.
+    pub fn strides(&self) -> [usize; 6]
+        ensures { AreStrides self.now result }
+    {
+        strides(self.supply.as_slice())
+    }
+
     /// The bundle at a place among all bundles in lexicographic order.
     pub fn bundle(&self, index: u32) -> Bundle
         requires { index < box_size self.now }
@@ -160,6 +168,22 @@ pub(crate) fn box_product(supply: &[u16]) -> u128
         product *= *units as u128 + 1;
     }
     product
+}
+
+/// The number of bundles of the goods behind each good.
+fn strides(supply: &[u16]) -> [usize; 6]
+    requires few { length supply.now ≤ 6 }
+    requires small { box_size supply.now ≤ 2048 }
+    ensures { AreStrides supply.now result }
+{
+    let mut strides = [0; 6];
+    let mut size: usize = 1;
+    for i in 0..supply.len() {
+        let good = supply.len() - 1 - i;
+        strides[good] = size;
+        size *= usize::from(supply[good]) + 1;
+    }
+    strides
 }
 
 #[tactic(auto, using(crate::proofs::Sums::quantity_in_drop))]
