@@ -15,12 +15,12 @@ use Rattle.lyapunov.proofs.Chosen.{IsSet, Chosen, prices_over, NoneEmpty, AllCho
 use Rattle.lyapunov.proofs.Nearest.{IsStill}
 
 -- the number of a set that is given by its digits
-record NumberOf (s f : List ℕ) : Type 0 where
-  number : ℕ
-  below : number < 2 ^ length s
-  is : set_of (length s) number ≡ f
+pub record NumberOf (s f : List ℕ) : Type 0 where
+  pub number : ℕ
+  pub below : number < 2 ^ length s
+  pub is : set_of (length s) number ≡ f
 
-number_of : (s f : List ℕ) → IsSet s f → NumberOf s f
+pub number_of : (s f : List ℕ) → IsSet s f → NumberOf s f
 number_of s f set =
     let n = numbered f set.0 in
     let P : ℕ → Type 0 = λ k. n.number < 2 ^ k in

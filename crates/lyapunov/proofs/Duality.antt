@@ -19,7 +19,7 @@ cost-zeros (a ∷ p) [] = refl
 cost-zeros (a ∷ p) (c ∷ s) = let i = cost-zeros p s in omega arith
 
 -- the seller gains by the prices, over the opening, at least what it gains on the units that are sold
-cost-within : (o p t s : List ℕ) → AtMost o p → AtMost t s → cost p t + cost o s ≤ cost p s + cost o t
+pub cost-within : (o p t s : List ℕ) → AtMost o p → AtMost t s → cost p t + cost o s ≤ cost p s + cost o t
 cost-within [] [] t s op ts = omega arith
 cost-within [] (a ∷ p) t s op ts = absurd op
 cost-within (b ∷ o) [] t s op ts = absurd op
@@ -54,7 +54,7 @@ cost-sold (b ∷ o) (a ∷ p) (n ∷ t) (m ∷ s) op ts unsold =
     ]
 
 -- the bidders' indirect utilities cover what their bundles are worth beyond their cost
-covered : (s : List ℕ) (u : ℕ → List ℕ → ℤ) (p : List ℕ) (x : ℕ → List ℕ) (js : List ℕ) → AllByRecursion (λ j. AtMost (x j) s) js
+pub covered : (s : List ℕ) (u : ℕ → List ℕ → ℤ) (p : List ℕ) (x : ℕ → List ℕ) (js : List ℕ) → AllByRecursion (λ j. AtMost (x j) s) js
     → total_value u js x ≤ℤ (sum_over (λ j. indirect_utility s (u j) p) js +ℤ pos (cost p (total_bundle s x js)))
 covered s u p x [] h = let i = cost-zeros p s in omega (arith, ints)
 covered s u p x (j ∷ js) h =
@@ -119,7 +119,7 @@ pub demanded-choice : (s : List ℕ) (u : ℕ → List ℕ → ℤ) (p : List �
 demanded-choice s u p x [] h = tt
 demanded-choice s u p x (j ∷ js) h = (h.0, demanded-choice s u p x js h.1)
 
-clears-within : (o p t s : List ℕ) → Clears o p t s → AtMost t s
+pub clears-within : (o p t s : List ℕ) → Clears o p t s → AtMost t s
 clears-within [] [] [] [] h = tt
 clears-within [] [] [] (m ∷ s) h = absurd h
 clears-within [] [] (n ∷ t) s h = absurd h
@@ -129,7 +129,7 @@ clears-within (b ∷ o) (a ∷ p) [] s h = absurd h
 clears-within (b ∷ o) (a ∷ p) (n ∷ t) [] h = absurd h
 clears-within (b ∷ o) (a ∷ p) (n ∷ t) (m ∷ s) h = (h.0, clears-within o p t s h.2)
 
-clears-unsold : (o p t s : List ℕ) → AtMost o p → Clears o p t s → (k : ℕ) → at t k < at s k → at p k ≡ at o k
+pub clears-unsold : (o p t s : List ℕ) → AtMost o p → Clears o p t s → (k : ℕ) → at t k < at s k → at p k ≡ at o k
 clears-unsold [] [] [] [] op h k less = refl
 clears-unsold [] [] [] (m ∷ s) op h k less = absurd h
 clears-unsold [] [] (n ∷ t) s op h k less = absurd h

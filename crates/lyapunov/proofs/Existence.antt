@@ -1,5 +1,6 @@
 -- Where no set of goods is in excess demand and none overshoots, the demands have a clearing choice: the supply lies, on each set of
--- goods, between two sums of a demanded bundle of each bidder and of what may stay unsold. At the end of a path this is so.
+-- goods, between two sums of a demanded bundle of each bidder and of what may stay unsold. At prices that minimise the Lyapunov
+-- function this is so, as at the end of a path.
 use Rattle.std.proofs.Common.{◌≡◌, inl, inr, ℕ, zero, suc, ◌+◌, ◌≤◌, List, [], ◌∷◌, length, map, arith, ap, sym, subst, ◌∙◌}
 use Rattle.std.specs.Prelude.{ℤ, pos, ◌-ℤ◌}
 use Rattle.std.proofs.lemmas.Int.{ints}
@@ -19,7 +20,7 @@ use Rattle.lyapunov.specs.Paths.{true_step, prices_along, AllSteps}
 use Rattle.lyapunov.proofs.Convex.{length-above, length-plus, length-inside, Bits-inside}
 use Rattle.lyapunov.proofs.Entrywise.{at-rest, at-sum, same-at, AtMost-at}
 use Rattle.lyapunov.proofs.Descent.{lyapunov-plus}
-use Rattle.lyapunov.proofs.Digits.{still, length-prices}
+use Rattle.lyapunov.proofs.Lattice.{AtMost-more, AtMost-raised}
 use Rattle.lyapunov.proofs.Moments.{ended-least}
 use Rattle.lyapunov.proofs.Duality.{clearing-walrasian}
 use Rattle.lyapunov.proofs.Bidders.{map-bundle_of, length-choice}
@@ -90,19 +91,19 @@ true_demands s u p (j ∷ js) strong =
       true_demands s u p js strong.1,
     )
 
-greatest_sum : (s : List ℕ) (u : ℕ → List ℕ → ℤ) (q e js : List ℕ) → AllStrongSubstitutes s u js → Bits e
+pub greatest_sum : (s : List ℕ) (u : ℕ → List ℕ → ℤ) (q e js : List ℕ) → AllStrongSubstitutes s u js → Bits e
     → pos (total_units (λ j. greatest_of (cost e) (demand s (u j) (plus q e))) js) ≡ sum_over (λ j. indirect_utility s (u j) q) js -ℤ sum_over (λ j. indirect_utility s (u j) (plus q e)) js
 greatest_sum s u q e [] strong b = omega (arith, ints)
 greatest_sum s u q e (j ∷ js) strong b = let i = greatest_sum s u q e js strong.1 b in let k = greatest_of_step s (u j) strong.0 q e b in omega (arith, ints)
 
-at-priced : (e w : List ℕ) (k : ℕ) → length e ≡ length w → IsPriced e w → at e k ≤ at w k
+pub at-priced : (e w : List ℕ) (k : ℕ) → length e ≡ length w → IsPriced e w → at e k ≤ at w k
 at-priced [] w k l h = omega arith
 at-priced (a ∷ e) [] k l h = absurd (omega arith)
 at-priced (a ∷ e) (b ∷ w) zero l h = h.0
 at-priced (a ∷ e) (b ∷ w) (suc k) l h = let l' : length e ≡ length w = omega arith in at-priced e w k l' h.1
 
 -- at a minimiser no set of risen goods overshoots: lowering the prices on it would not raise the function
-no_overshoot : (s o : List ℕ) (u : ℕ → List ℕ → ℤ) (js p : List ℕ) → AllStrongSubstitutes s u js → length o ≡ length s
+pub no_overshoot : (s o : List ℕ) (u : ℕ → List ℕ → ℤ) (js p : List ℕ) → AllStrongSubstitutes s u js → length o ≡ length s
     → IsMinimiser o (lyapunov s u js) p → HasNoOvershoot s (λ j. demand s (u j) p) js (above p o)
 unfolding lyapunov
 no_overshoot s o u js p strong lo m e es priced =
@@ -120,17 +121,28 @@ no_overshoot s o u js p strong lo m e es priced =
     let k = ap (λ r. cost r s) f in
     omega (arith, ints)
 
--- a path that has ended has a clearing choice
+-- nor is any set in excess demand: raising the prices on it would not either
+pub no_excess : (s o : List ℕ) (u : ℕ → List ℕ → ℤ) (js p : List ℕ) → AllStrongSubstitutes s u js → length o ≡ length s
+    → IsMinimiser o (lyapunov s u js) p → HasNoExcess s (λ j. demand s (u j) p) js
+no_excess s o u js p strong lo m e es =
+    let l : length e ≡ length p = es.1 ∙ sym lo ∙ length-below o p m.0 in
+    let i = lyapunov-plus s u js strong p e es.0 in
+    let j = m.1 (plus p e) (AtMost-more o p (plus p e) m.0 (AtMost-raised p e l)) in
+    omega (arith, ints)
+
+-- so at a minimiser, the least or not, some choice clears
+pub minimiser-clears : (s o : List ℕ) (u : ℕ → List ℕ → ℤ) (js p : List ℕ) → AllStrongSubstitutes s u js → length o ≡ length s
+    → IsMinimiser o (lyapunov s u js) p → (xs : List (List ℕ)) × IsClearingChoice s o p (map (λ j. demand s (u j) p) js) xs
+minimiser-clears s o u js p strong lo m =
+    clearing_exists o p s (λ j. demand s (u j) p) js m.0 lo (true_demands s u p js strong) (no_excess s o u js p strong lo m)
+    (no_overshoot s o u js p strong lo m)
+
+-- a path that has ended has one, since it has ended at a minimiser
 pub choice_exists : (s : List ℕ) (u : ℕ → List ℕ → ℤ) (js : List ℕ) → AllStrongSubstitutes s u js → (o sets : List ℕ) → length o ≡ length s
     → AllSteps s u js o sets → true_step s u js (prices_along o sets) ≡ 0
     → (xs : List (List ℕ)) × IsClearingChoice s o (prices_along o sets) (map (λ j. demand s (u j) (prices_along o sets)) js) xs
 choice_exists s u js strong o sets lo steps none =
-    let p = prices_along o sets in
-    let m = (ended-least s u js strong o sets lo steps none).0 in
-    let rest = still s u js strong p (length-prices o sets ∙ lo) none in
-    clearing_exists o p s (λ j. demand s (u j) p) js m.0 lo (true_demands s u p js strong)
-    (λ e is_set. let i = lyapunov-plus s u js strong p e is_set.0 in let j = rest e is_set in omega (arith, ints))
-    (no_overshoot s o u js p strong lo m)
+    minimiser-clears s o u js (prices_along o sets) strong lo (ended-least s u js strong o sets lo steps none).0
 
 -- and where its bidders are all different, a Walrasian equilibrium
 pub ended-walrasian : (s : List ℕ) (u : ℕ → List ℕ → ℤ) (js : List ℕ) → AllDifferent js → AllStrongSubstitutes s u js → (o sets : List ℕ)

@@ -15,7 +15,7 @@ use Rattle.lyapunov.proofs.Bidders.{AllDifferent-without, map-bundle_of, length-
 use Rattle.lyapunov.proofs.Moments.{account-rises, stands}
 use Rattle.lyapunov.proofs.Duality.{clearing-walrasian, cost-zeros, met, walrasian-worth, walrasian-welfare, welfare-one, cost-sold}
 
-cost-total : (s p : List ℕ) (x : ℕ → List ℕ) (js : List ℕ) → pos (cost p (total_bundle s x js)) ≡ sum_over (λ j. pos (cost p (x j))) js
+pub cost-total : (s p : List ℕ) (x : ℕ → List ℕ) (js : List ℕ) → pos (cost p (total_bundle s x js)) ≡ sum_over (λ j. pos (cost p (x j))) js
 cost-total s p x [] = ap pos (cost-zeros p s)
 cost-total s p x (j ∷ js) = let i = cost-total s p x js in let k = cost-plus_right p (x j) (total_bundle s x js) in omega (arith, ints)
 

@@ -2,6 +2,7 @@
 -- the supply of it. The least quantities of one bidder are a table too. Entry E of a table is that of the set with number E,
 -- and the entries behind the last set are 0.
 use Rattle.std.specs.Prelude.{◌≡◌, ◌≤◌, ◌<◌, ℕ, ◌+◌, ◌^◌, List, [], ◌∷◌, length, slice_index, slice_index_or, ℤ, pos, negsuc, ◌+ℤ◌, ◌-ℤ◌, ◌≤ℤ◌}
+use Rattle.lot_base.specs.declared.limits.TheConstants.{MOST_UNITS}
 use Rattle.lot_base.specs.Goods.{quantity_in}
 use Rattle.lot_base.specs.declared.tables.LeastTable.{LeastTable}
 
@@ -24,9 +25,9 @@ pub record IsAdded (goods table : List ℕ) (old new : List ℤ) : Type 0 where
   pub entries : (set : ℕ) → set < 2 ^ length goods → entry new set ≡ entry old set +ℤ pos (slice_index table set)
   pub others : (set : ℕ) → 2 ^ length goods ≤ set → entry new set ≡ entry old set
 
--- no entry is above what a box of 2,048 bundles holds of any set
+-- no entry is above the most units of any set, which is the most of one good
 pub record IsSmall (table : List ℕ) : Type 0 where
-  pub entries : (set : ℕ) → slice_index table set ≤ 2047
+  pub entries : (set : ℕ) → slice_index table set ≤ MOST_UNITS
 
 -- each entry leaves room for one more small table among twelve
 pub record HasRoom (table : List ℤ) : Type 0 where

@@ -30,7 +30,8 @@ pub fn path_examples()
 /// up, it sums to no more than over those two.
 pub fn convexity_law()
     ensures { (supply js p q : List ℕ) (u : ℕ → List ℕ → ℤ) → AllStrongSubstitutes supply u js →
-        (lyapunov supply u js (halfway_down p q) +ℤ lyapunov supply u js (halfway_up p q)) ≤ℤ (lyapunov supply u js p +ℤ lyapunov supply u js q) }
+        (lyapunov supply u js (halfway_down p q) +ℤ lyapunov supply u js (halfway_up p q))
+        ≤ℤ (lyapunov supply u js p +ℤ lyapunov supply u js q) }
 {}
 
 /// Raising the prices on a set of goods lowers the Lyapunov function by the excess demand for the set. So a step that is not
@@ -123,7 +124,15 @@ pub fn welfare_law()
         IsWelfare supply opening u js w → IsWelfare supply opening u js v → w ≡ v }
 {}
 
-/// Where a path has ended, some choice of demanded bundles clears.
+/// At any prices from the opening on that minimise the Lyapunov function, the least such prices or not, some choice of demanded
+/// bundles clears.
+pub fn minimiser_law()
+    ensures { (supply opening js p : List ℕ) (u : ℕ → List ℕ → ℤ) →
+        AllStrongSubstitutes supply u js → length opening ≡ length supply → IsMinimiser opening (lyapunov supply u js) p →
+        ((choice : List (List ℕ)) × IsClearingChoice supply opening p (map (λ j. demand supply (u j) p) js) choice) }
+{}
+
+/// Where a path has ended, some choice of demanded bundles clears: its prices minimise the Lyapunov function.
 pub fn existence_law()
     ensures { (supply js opening sets : List ℕ) (u : ℕ → List ℕ → ℤ) →
         IsPath supply u js opening sets → HasEnded supply u js opening sets →
