@@ -1,5 +1,6 @@
 //! Sums over the steps of a clock.
 ghost use Rattle.std.specs.Prelude.{◌≡◌, ◌≢◌, ℕ, ℤ, pos, ◌+ℤ◌, ◌-ℤ◌, ◌≤ℤ◌, ◌+◌, ◌*◌, ◌^◌, ◌<◌, ◌≤◌, None, length, slice_index, slice_index_or};
+ghost use Rattle.lot_base.specs.declared.limits.TheConstants.{MOST_STEPS};
 ghost use Rattle.lot_base.specs.Economy.{total_units};
 ghost use Rattle.credit_book.specs.Account.{least_in, others, units_left, sum_without};
 
@@ -45,7 +46,7 @@ impl Account {
     /// Adds a step on a set of goods. Bidder j's least quantities in the step's round are at place j, None for one who is no
     /// member; place 0 is nobody's.
     pub fn add(&mut self, goods: &Goods, set: GoodSet, tables: &[Option<LeastTable>; 13])
-        requires room { self.old.steps < 60000 }
+        requires room { self.old.steps < MOST_STEPS }
         requires set { set.0 < 2 ^ length goods.now }
         ensures steps { self.new.steps ≡ self.old.steps + 1 }
         ensures sums { (bidder : ℕ) → sum_without self.new bidder ≡ sum_without self.old bidder +ℤ units_left goods.now tables.now set.0

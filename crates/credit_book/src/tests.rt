@@ -1,4 +1,5 @@
 use crate::{Account, payment};
+use lot_base::limits::MOST_STEPS;
 use lot_base::{Bundle, GoodSet, Goods, LeastTable, Prices};
 use std::test::Fail;
 
@@ -26,7 +27,7 @@ fn leaves_each_bidder_out_in_turn(rt: HostRuntime) -> Result<(), Fail> {
         tables[1] = least(first);
         tables[2] = least(second);
         tables[3] = least(third);
-        assert!(rt; account.steps() < 60_000);
+        assert!(rt; account.steps() < MOST_STEPS);
         account.add(&goods, GoodSet(1), &tables);
     }
     assert_eq!(rt; account.steps(), 6);
