@@ -35,14 +35,14 @@ find-none {X} test (x ∷ xs) y e f = by (test x) (λ g. find-none test xs y g f
     by false rest e = rest e
 
 -- a demand that is there stays
-demand-stays : (reports : List Report) (r : Report) (round j : ℕ) → is_some (demand_in reports round j) ≡ true → demand_in (reports ++ r ∷ []) round j ≡ demand_in reports round j
+pub demand-stays : (reports : List Report) (r : Report) (round j : ℕ) → is_some (demand_in reports round j) ≡ true → demand_in (reports ++ r ∷ []) round j ≡ demand_in reports round j
 demand-stays reports r round j e = by (find (is_named round j) reports) refl e
   where
     by : (o : Option Report) → find (is_named round j) reports ≡ o → is_some (option_map (λ r. r.demand) o) ≡ true → option_map (λ r. r.demand) (find (is_named round j) (reports ++ r ∷ [])) ≡ option_map (λ r. r.demand) (find (is_named round j) reports)
     by None f e = absurd (let g : false ≡ true = e in cc)
     by (Some v) f e = ap (option_map (λ r. r.demand)) (find-some (is_named round j) reports r v f ∙ sym f)
 
-full-stays : (ms : List ℕ) (reports : List Report) (r : Report) (round : ℕ) → is_full ms reports round ≡ true → is_full ms (reports ++ r ∷ []) round ≡ true
+pub full-stays : (ms : List ℕ) (reports : List Report) (r : Report) (round : ℕ) → is_full ms reports round ≡ true → is_full ms (reports ++ r ∷ []) round ≡ true
 full-stays [] reports r round e = refl
 full-stays (j ∷ ms) reports r round e =
     let h = both (is_some (demand_in reports round j)) (is_full ms reports round) e in
@@ -131,6 +131,14 @@ pub takes-more : (c : ClockHistory) (rs : List Report) (r : Report) → TakesAll
 takes-more c [] r all take = (ap (λ reports. judgement_of (record c { reports = reports }) r) (sym (append-nil c.reports)) ∙ take, tt)
 takes-more c (x ∷ rs) r all take =
     (all.0, takes-more (with_report c x) rs r all.1 (ap (λ reports. judgement_of (record c { reports = reports }) r) (append_assoc c.reports (x ∷ []) rs) ∙ take))
+
+-- each report of a legal history is judged so after those before it
+pub takes-at : (c : ClockHistory) (before : List Report) (r : Report) (more : List Report) → TakesAll c (before ++ r ∷ more)
+    → judgement_of (record c { reports = c.reports ++ before }) r ≡ Take
+takes-at c [] r more all = ap (λ reports. judgement_of (record c { reports = reports }) r) (append-nil c.reports) ∙ all.0
+takes-at c (x ∷ before) r more all =
+    ap (λ reports. judgement_of (record c { reports = reports }) r) (sym (append_assoc c.reports (x ∷ []) before))
+    ∙ takes-at (with_report c x) before r more all.1
 
 pub legal-push : (c : ClockHistory) (r : Report) → TakesAll (record c { reports = [] }) c.reports → judgement_of c r ≡ Take → TakesAll (record c { reports = [] }) (c.reports ++ r ∷ [])
 legal-push c r legal take = takes-more (record c { reports = [] }) c.reports r legal take

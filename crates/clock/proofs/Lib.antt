@@ -27,3 +27,5 @@ pub mod AgainRounds
 pub mod SameSets
 pub mod SameTables
 pub mod Counting
+pub mod OnlyOnce
+pub mod LatestPlaces

@@ -17,11 +17,11 @@ pub none-from : (o : Option ℕ) → is_none o ≡ true → o ≡ None
 none-from None e = refl
 none-from (Some x) e = absurd (let f : false ≡ true = e in cc)
 
-up-below : (ceiling : ℕ) (ps : List ℕ) → AllByRecursion (λ price. price < ceiling) ps → AllUpTo ceiling ps
+pub up-below : (ceiling : ℕ) (ps : List ℕ) → AllByRecursion (λ price. price < ceiling) ps → AllUpTo ceiling ps
 up-below ceiling [] below = tt
 up-below ceiling (p ∷ ps) below = (let b = below.0 in omega arith, up-below ceiling ps below.1)
 
-total-up : (ceiling : ℕ) (ps : List ℕ) → AllUpTo ceiling ps → total ps ≤ length ps * ceiling
+pub total-up : (ceiling : ℕ) (ps : List ℕ) → AllUpTo ceiling ps → total ps ≤ length ps * ceiling
 total-up ceiling [] up = omega arith
 total-up ceiling (p ∷ ps) up = let e = total-up ceiling ps up.1 in omega (arith, up.0)
 

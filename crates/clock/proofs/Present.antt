@@ -36,7 +36,7 @@ reported c round b member full =
     let high : b ≤ c.terms.bidders = (let t = k.0 in grind (arith, nat_tests)) in
     each-passes (λ j. is_some (demand_in c.reports round j)) (λ j. not (nat_eq j c.number)) 1 c.terms.bidders b low (omega arith) k.1 full
 
-not-taken : (round : ℕ) (demand : List (List ℕ)) (o : Option (List (List ℕ))) → is_some o ≡ true → repeat_of round demand o ≡ Take → ⊥
+pub not-taken : (round : ℕ) (demand : List (List ℕ)) (o : Option (List (List ℕ))) → is_some o ≡ true → repeat_of round demand o ≡ Take → ⊥
 not-taken round demand None e take = (let f : false ≡ true = e in cc)
 not-taken round demand (Some before) e take = by (same_demand before demand) take
   where
@@ -44,7 +44,7 @@ not-taken round demand (Some before) e take = by (same_demand before demand) tak
     by true f = (let g : Again ≡ Take = f in cc)
     by false f = (let g : Conflict round ≡ Take = f in cc)
 
-some-round : (m z : Bool) (j : Judgement) → cond m (cond z NoRound j) NotMember ≡ Take → z ≡ false
+pub some-round : (m z : Bool) (j : Judgement) → cond m (cond z NoRound j) NotMember ≡ Take → z ≡ false
 some-round false z j e = absurd (let f : NotMember ≡ Take = e in cc)
 some-round true true j e = absurd (let f : NoRound ≡ Take = e in cc)
 some-round true false j e = refl

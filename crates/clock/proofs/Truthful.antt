@@ -124,7 +124,7 @@ least-near u c explains =
     let Q : List ℕ → Type 0 = λ q. IsLeastNear c.terms.opening (steps_of c) (lyapunov c.terms.goods u (members_of c)) q in
     subst Q (sym (prices-along c (steps_of c))) (subst P (length-sets_of c (steps_of c)) near)
 
-ended-by : (full empty : Bool) (good : Option ℕ) → phase_by full empty good ≡ Ended → (full ≡ true) × (empty ≡ true)
+pub ended-by : (full empty : Bool) (good : Option ℕ) → phase_by full empty good ≡ Ended → (full ≡ true) × (empty ≡ true)
 ended-by false empty good e = absurd (let f : Running ≡ Ended = e in cc)
 ended-by true true good e = (refl, refl)
 ended-by true false None e = absurd (let f : Running ≡ Ended = e in cc)

@@ -1,6 +1,7 @@
 -- What a clock keeps beside its reports: how it stands, what is known of the last or current round, and room.
 use Rattle.std.specs.Prelude.{◌-◌, ◌≡◌, ◌≤◌, ◌<◌, ◌+◌, ◌*◌, ◌/◌, ◌^◌, ℕ, true, false, List, length, take, drop, slice_get, slice_index_or, if◌then◌else◌, Option, Some, None, is_some, ℤ, pos}
 use Rattle.std.specs.List.{AllByRecursion}
+use Rattle.lot_base.specs.declared.limits.TheConstants.{MOST_STEPS}
 use Rattle.lot_base.specs.declared.phases.Phase.{Phase}
 use Rattle.lot_base.specs.declared.tables.LeastTable.{LeastTable}
 use Rattle.demand_set.specs.declared.reports.Report.{Report}
@@ -29,7 +30,7 @@ pub record HasStanding (c : ClockHistory) (current steps : ℕ) (phase : Phase) 
   pub legal : IsLegal c
   -- so many steps were made
   pub steps_are : steps ≡ steps_of c
-  pub few : steps ≤ 60000
+  pub few : steps ≤ MOST_STEPS
   -- the clock stands so, at these prices
   pub phase_is : phase ≡ phase_after c steps
   pub prices_are : prices ≡ prices_after c steps

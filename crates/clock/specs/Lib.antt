@@ -11,3 +11,4 @@ pub mod Replays
 pub mod RowsClocks
 pub mod Growth
 pub mod Repeats
+pub mod Latest

@@ -1,6 +1,7 @@
 //! A clock.
-ghost use Rattle.std.specs.Prelude.{◌≡◌, ◌+◌, ◌-◌, ◌<◌, ◌≤◌, ◌++◌, [], ◌∷◌, ℕ, List, length, max, slice_get, Some, OnOk, OnErr, IfOk, IfErr, IfSome, IsTrue, option_copied};
+ghost use Rattle.std.specs.Prelude.{◌≡◌, ◌+◌, ◌-◌, ◌<◌, ◌≤◌, ◌++◌, [], ◌∷◌, ℕ, List, length, max, slice_get, Some, OnOk, OnErr, IfOk, IfErr, IfSome, IsTrue, option_copied, ◌↔◌};
 ghost use Rattle.lyapunov.specs.Excesses.{IsExcessOf, HasRoom};
+ghost use Rattle.lot_base.specs.declared.limits.TheConstants.{MOST_STEPS};
 ghost use Rattle.lot_base.specs.Goods.{IsSupply};
 ghost use Rattle.lot_base.specs.Demands.{IsDemand, IsTable, least};
 ghost use Rattle.clock.specs.Kept.{CountsIn};
@@ -81,12 +82,12 @@ impl Clock {
     ghost use Rattle.lot_base.specs.Goods.{at};
     ghost use Rattle.lot_base.specs.Demands.{IsDemand, IsTable, least};
     ghost use Rattle.std.specs.Prelude.{ℤ, pos, ◌≤ℤ◌, ◌+ℤ◌, ◌-ℤ◌};
-    ghost use Rattle.lot_base.specs.Economy.{lyapunov, without};
     ghost use Rattle.lot_base.specs.declared.phases.Phase.TheVariants.{Halted};
     ghost use Rattle.lyapunov.specs.Paths.{highest_rise};
     ghost use Rattle.std.specs.List.{concat};
-    ghost use Rattle.clock.specs.Reports.{demand_in, with_report, applied, members_of, most_reports};
-    ghost use Rattle.clock.specs.Explained.{Explains, ShowsLeast};
+    ghost use Rattle.clock.specs.Reports.{demand_in, with_report, applied, most_reports};
+    ghost use Rattle.clock.specs.Latest.{IsRepeat};
+    ghost use Rattle.clock.specs.Explained.{Explains, ShowsLeast, lyapunov_of, lyapunov_without};
     ghost use Rattle.clock.specs.Standing.{HasSteps, steps_of, last_round, phase_of, prices_after, prices_of, missing_of};
     ghost use Rattle.clock.specs.Judging.{judgement_of, IsJudgement, IsLegal, IsAgain};
     ghost use Rattle.clock.specs.Accounts.{account_without};
@@ -262,6 +263,25 @@ impl Clock {
             .report(alloc, &self.terms.goods, number as usize - 1)
     }
 
+    /// Whose report has a number, from 1. Takes no memory.
+    pub fn bidder(&self, number: u32) -> u8
+        requires from_one { 1 ≤ number }
+        requires to_last { number ≤ length self.now.history.reports }
+        ensures { IfSome (slice_get self.now.history.reports (number - 1)) (λ r. result ≡ r.bidder) }
+    {
+        self.past.bidder(number as usize - 1)
+    }
+
+    /// Whether the report of a number, from 1, demands what the latest report of its bidder before it demanded: not where it is the
+    /// bidder's first. Takes no memory.
+    pub fn is_repeat(&self, number: u32) -> bool
+        requires from_one { 1 ≤ number }
+        requires to_last { number ≤ length self.now.history.reports }
+        ensures { IsTrue result ↔ IsRepeat self.now.history.reports (number - 1) }
+    {
+        self.past.is_repeat(number as usize - 1)
+    }
+
     /// The prices of a round, from 1 to the last or current one. Takes no memory.
     pub fn prices_at(&self, round: u32) -> Prices
         requires from_one { 1 ≤ round }
@@ -270,6 +290,16 @@ impl Clock {
     {
         let sets = self.past.sets();
         prices_along(&self.terms.opening, &sets[..round as usize - 1])
+    }
+
+    /// The prices of the round behind this one, from those of this one. Takes no memory, and raises them once.
+    pub fn next_prices(&self, round: u32, prices: &Prices) -> Prices
+        requires from_one { 1 ≤ round }
+        requires before_last { round < last_round self.now.history }
+        requires prices { prices.now ≡ prices_after self.now.history (round - 1) }
+        ensures { result ≡ prices_after self.now.history round }
+    {
+        prices.raise(self.past.sets()[round as usize - 1])
     }
 
     /// The number of the clock.
@@ -284,14 +314,15 @@ impl Clock {
     pub fn steps(&self) -> u32
         ensures value { result ≡ steps_of self.now.history }
         ensures made { HasSteps self.now.history result }
-        ensures few { result ≤ 60000 }
+        ensures few { result ≤ MOST_STEPS }
 
         // Where valuations explain the reports: each step lowers the Lyapunov function, and some price rose in every step, so there
         // are as many as the greatest rise of a price.
         ensures lowers { (u : ℕ → List ℕ → ℤ) (n : ℕ) → Explains u self.now.history → n < result →
-            (lyapunov self.now.history.terms.goods u (members_of self.now.history) (prices_after self.now.history (n + 1)) +ℤ pos 1) ≤ℤ lyapunov self.now.history.terms.goods u (members_of self.now.history) (prices_after self.now.history n) }
+            (lyapunov_of u self.now.history (prices_after self.now.history (n + 1)) +ℤ pos 1)
+            ≤ℤ lyapunov_of u self.now.history (prices_after self.now.history n) }
         ensures bound { (u : ℕ → List ℕ → ℤ) → Explains u self.now.history
-            → pos result ≤ℤ lyapunov self.now.history.terms.goods u (members_of self.now.history) self.now.history.terms.opening }
+            → pos result ≤ℤ lyapunov_of u self.now.history self.now.history.terms.opening }
         ensures highest { (u : ℕ → List ℕ → ℤ) → Explains u self.now.history
             → result ≡ highest_rise self.now.history.terms.opening (prices_of self.now.history) }
     {
@@ -305,7 +336,8 @@ impl Clock {
 
         // Where valuations explain the reports, the account is how far the Lyapunov function of those in it rose.
         ensures rise { (u : ℕ → List ℕ → ℤ) (bidder : ℕ) → Explains u self.now.history →
-            sum_without result.now bidder ≡ lyapunov self.now.history.terms.goods u (without bidder (members_of self.now.history)) (prices_of self.now.history) -ℤ lyapunov self.now.history.terms.goods u (without bidder (members_of self.now.history)) self.now.history.terms.opening }
+            sum_without result.now bidder ≡ lyapunov_without bidder u self.now.history (prices_of self.now.history)
+            -ℤ lyapunov_without bidder u self.now.history self.now.history.terms.opening }
     {
         &self.account
     }

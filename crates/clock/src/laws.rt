@@ -1,10 +1,10 @@
 //! Laws on clocks: where a notion is said in two ways, both say the same, and each has one answer.
-ghost use Rattle.std.specs.Prelude.{◌≡◌, ◌↔◌, ℕ, ◌+◌, ◌-◌, is_none};
+ghost use Rattle.std.specs.Prelude.{◌≡◌, ◌↔◌, ℕ, ◌+◌, ◌-◌, is_none, slice_get, Some};
 ghost use Rattle.std.specs.List.{Contains, AllByRecursion};
 ghost use Rattle.demand_set.specs.declared.reports.Report.{Report};
 ghost use Rattle.clock.specs.Reports.{ClockHistory, demands_in, members_of};
 ghost use Rattle.clock.specs.Standing.{HasSteps, steps_of, step_set_after, leads_on, good_at_ceiling};
-ghost use Rattle.clock.specs.Judging.{IsMember, IsJudgement, judgement_of};
+ghost use Rattle.clock.specs.Judging.{IsMember, IsJudgement, IsLegal, judgement_of};
 ghost use Rattle.clock.specs.declared.judging.Judgement.{Judgement};
 ghost use Rattle.clock.specs.declared.judging.Judgement.TheVariants.{Take};
 ghost use Rattle.clock.specs.Growth.{Grows};
@@ -30,6 +30,12 @@ pub fn judgement_law()
 /// A report that is taken changes nothing of the rounds before the present one, and the clock goes on from where it stood.
 pub fn growth_law()
     ensures { (c : ClockHistory) (r : Report) → judgement_of c r ≡ Take → Grows c r }
+{}
+
+/// A legal history names a bidder and a round once: two of its reports of one bidder in one round stand at one place.
+pub fn once_law()
+    ensures { (c : ClockHistory) (i j : ℕ) (r s : Report) → IsLegal c → slice_get c.reports i ≡ Some r → slice_get c.reports j ≡ Some s
+        → r.bidder ≡ s.bidder → r.round ≡ s.round → i ≡ j }
 {}
 
 /// Rounds of the same demands have the same step set. So has a round that repeats the round before, and only the ceiling ends it.

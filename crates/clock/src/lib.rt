@@ -8,7 +8,7 @@ mod packing;
 mod places;
 pub mod repeating;
 pub mod replaying;
-mod rounds;
+pub mod rounds;
 mod standing;
 
 pub use clocks::{Clock, Look, NotApplied};

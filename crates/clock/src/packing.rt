@@ -1,6 +1,6 @@
 //! The reports of a clock, packed: the quantities of all demands in one buffer, a place for each report, and the step set of each
 //! step. Reports of one demand may share its quantities.
-ghost use Rattle.std.specs.Prelude.{◌≡◌, ◌<◌, ◌≤◌, ◌+◌, ◌*◌, ◌==◌, ◌^◌, [], ◌∷◌, true, ℕ, List, length, map, take, drop, max, find, is_some, option_map, slice_get, Some, OnOk, OnErr, IfOk, IfSome};
+ghost use Rattle.std.specs.Prelude.{◌≡◌, ◌<◌, ◌≤◌, ◌+◌, ◌*◌, ◌==◌, ◌^◌, [], ◌∷◌, true, ℕ, List, length, map, take, drop, max, find, is_some, option_map, slice_get, Some, OnOk, OnErr, IfOk, IfSome, IsTrue, ◌↔◌};
 ghost use Rattle.std.specs.List.{AllByRecursion, concat};
 ghost use Rattle.lot_base.specs.Demands.{IsDemand};
 ghost use Rattle.demand_set.specs.Same.{same_demand};
@@ -8,10 +8,12 @@ ghost use Rattle.demand_set.specs.declared.reports.Report.{Report as ReportValue
 ghost use Rattle.lot_base.specs.declared.supply.GoodSet.{GoodSet as GoodSetValue};
 ghost use Rattle.clock.specs.Reports.{members};
 ghost use Rattle.clock.specs.Tables.{is_member_of};
+ghost use Rattle.clock.specs.Latest.{IsRepeat};
 ghost use Rattle.clock.specs.Past.{PastOf, again_among, with_again, with_spare, pushed, raised_on};
 
 use crate::places::{
-    Place, is_demand, keep, make_room, place_again, place_of, quantities_at, shared_start,
+    Place, has_same, is_demand, keep, latest_place, make_room, place_again, place_of,
+    quantities_at, shared_start,
 };
 use demand_set::{Demand, Report};
 use lot_base::{GoodSet, Goods, NoMemory};
@@ -191,6 +193,27 @@ impl Past {
                 let kept = quantities_at(&self.quantities, self.goods, place);
                 Some(is_demand(kept, self.goods, place.count, demand))
             }
+        }
+    }
+
+    /// Whose report has a number, from 0.
+    pub(crate) fn bidder(&self, number: usize) -> u8
+        requires { number < length self.now.reports }
+        ensures { IfSome (slice_get self.now.reports number) (λ (r : ReportValue). result ≡ r.bidder) }
+    {
+        self.places[number].bidder
+    }
+
+    /// Whether the report of a number, from 0, demands what the latest report of its bidder before it demanded.
+    pub(crate) fn is_repeat(&self, number: usize) -> bool
+        requires { number < length self.now.reports }
+        ensures { IsTrue result ↔ IsRepeat self.now.reports number }
+    {
+        let place = self.places[number];
+        let earlier = self.places.split_at(number).0;
+        match latest_place(earlier, place.bidder) {
+            None => false,
+            Some(before) => has_same(&self.quantities, self.goods, before, &place),
         }
     }
 

@@ -1,5 +1,5 @@
 //! Where the quantities of reports stand in a buffer.
-ghost use Rattle.std.specs.Prelude.{◌≡◌, ◌<◌, ◌≤◌, ◌+◌, ◌*◌, ◌==◌, ◌^◌, ℕ, List, length, take, drop, find, option_copied, Some, OnOk, IfSome};
+ghost use Rattle.std.specs.Prelude.{◌≡◌, ◌<◌, ◌≤◌, ◌+◌, ◌*◌, ◌==◌, ◌^◌, ℕ, List, length, take, drop, find, reverse, option_copied, Some, OnOk, IfSome, IsTrue, ◌↔◌};
 ghost use Rattle.std.specs.Vec.{vec_len, vec_capacity};
 ghost use Rattle.std.specs.List.{concat};
 ghost use Rattle.demand_set.specs.Reading.{groups};
@@ -28,6 +28,27 @@ pub(crate) fn place_of(places: &[Place], bidder: u8) -> Option<&Place>
     ensures { option_copied result ≡ find (λ (p : PlaceValue). p.bidder == bidder) places.now }
 {
     places.iter().find(|place| place.bidder == bidder)
+}
+
+/// The latest place of a bidder.
+pub(crate) fn latest_place(places: &[Place], bidder: u8) -> Option<&Place>
+    ensures { option_copied result ≡ find (λ (p : PlaceValue). p.bidder == bidder) (reverse places.now) }
+{
+    places.iter().rev().find(|place| place.bidder == bidder)
+}
+
+/// Whether the quantities at two places are as many bundles and the same. Where they share their quantities, it looks at none.
+pub(crate) fn has_same(quantities: &[u16], goods: u8, first: &Place, second: &Place) -> bool
+    requires first { Fits goods quantities.now first.now }
+    requires second { Fits goods quantities.now second.now }
+    ensures { IsTrue result ↔ ((first.now.count ≡ second.now.count)
+        × (quantities_of goods quantities.now first.now ≡ quantities_of goods quantities.now second.now)) }
+{
+    if first.count != second.count {
+        return false;
+    }
+    first.start == second.start
+        || quantities_at(quantities, goods, first) == quantities_at(quantities, goods, second)
 }
 
 /// The first place of a bidder once more, in another round.

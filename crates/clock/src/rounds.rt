@@ -1,5 +1,6 @@
 //! What the reports of a round say.
 ghost use Rattle.std.specs.Prelude.{◌≡◌, ◌<◌, ◌≤◌, ℕ, length, take, find, is_none, option_copied, slice_index};
+ghost use Rattle.lot_base.specs.declared.limits.TheConstants.{MOST_BIDDERS};
 ghost use Rattle.lot_base.specs.Goods.{AllBelow};
 ghost use Rattle.lyapunov.specs.Paths.{prices_along as along};
 ghost use Rattle.clock.specs.Reports.{members, most_reports, is_named, demand_in, set_numbers};
@@ -8,7 +9,7 @@ use demand_set::{Demand, Report};
 use lot_base::{GoodSet, Prices, Terms};
 
 /// The demand of the first report of a bidder in a round.
-pub(crate) fn find_demand(reports: &[Report], round: u32, bidder: u8) -> Option<&Demand>
+pub fn find_demand(reports: &[Report], round: u32, bidder: u8) -> Option<&Demand>
     ensures { option_copied result ≡ demand_in reports.now round bidder }
 {
     match find_report(reports, round, bidder) {
@@ -36,8 +37,8 @@ fn is_absent(reports: &[Report], round: u32, bidder: u8) -> bool
 }
 
 /// The first member without a report in a round.
-pub(crate) fn missing_in(bidders: u8, clock: u8, reports: &[Report], round: u32) -> Option<u8>
-    requires { bidders ≤ 12 }
+pub fn missing_in(bidders: u8, clock: u8, reports: &[Report], round: u32) -> Option<u8>
+    requires { bidders ≤ MOST_BIDDERS }
     ensures { result ≡ find (λ j. is_none (demand_in reports.now round j)) (members bidders clock) }
 {
     for step in 0..bidders {
@@ -50,7 +51,7 @@ pub(crate) fn missing_in(bidders: u8, clock: u8, reports: &[Report], round: u32)
 }
 
 /// How many members a clock has.
-pub(crate) fn member_count(bidders: u8, clock: u8) -> u8
+pub fn member_count(bidders: u8, clock: u8) -> u8
     requires { clock ≤ bidders }
     ensures { result ≡ length (members bidders clock) }
 {

@@ -1,5 +1,6 @@
 //! Where a round leads.
 ghost use Rattle.std.specs.Prelude.{◌≡◌, ◌≢◌, ◌<◌, ◌≤◌, ◌^◌, ℕ, None, length};
+ghost use Rattle.lot_base.specs.declared.limits.TheConstants.{MOST_STEPS};
 ghost use Rattle.lot_base.specs.Goods.{AllBelow};
 ghost use Rattle.lot_base.specs.Steps.{IsStepSet};
 ghost use Rattle.lyapunov.specs.Excesses.{entry};
@@ -36,8 +37,8 @@ impl Standing {
     ) -> Standing
         requires below { (set : ℕ) → AllBelow 4294967295 prices.now set }
         requires few { (set : ℕ) → left ≡ 0 → IsStepSet (length terms.now.goods) (entry excess.now.0) set → set ≢ 0
-            → good_from 0 terms.now.ceiling prices.now set ≡ None → account.old.steps < 60000 }
-        requires steps { steps ≤ 60000 }
+            → good_from 0 terms.now.ceiling prices.now set ≡ None → account.old.steps < MOST_STEPS }
+        requires steps { steps ≤ MOST_STEPS }
         ensures waits { left ≢ 0 → Waits steps prices.now account.old account.new result }
         ensures turns { left ≡ 0 → IsTurn terms.now.goods terms.now.ceiling steps prices.now excess.now.0 tables.now account.old account.new
             result }
@@ -65,8 +66,8 @@ impl Standing {
     ) -> Standing
         requires below { (set : ℕ) → AllBelow 4294967295 prices.now set }
         requires few { (set : ℕ) → IsStepSet (length terms.now.goods) (entry excess.now.0) set → set ≢ 0
-            → good_from 0 terms.now.ceiling prices.now set ≡ None → account.old.steps < 60000 }
-        requires steps { steps ≤ 60000 }
+            → good_from 0 terms.now.ceiling prices.now set ≡ None → account.old.steps < MOST_STEPS }
+        requires steps { steps ≤ MOST_STEPS }
         ensures { IsTurn terms.now.goods terms.now.ceiling steps prices.now excess.now.0 tables.now account.old account.new result }
     {
         let set = step_choice::choose(&terms.goods, excess);
