@@ -12,7 +12,7 @@ use Rattle.turn_desk.specs.declared.view.View.{View}
 use Rattle.turn_desk.specs.Histories.{total, one_if}
 use Rattle.turn_desk.specs.Views.{at_ticket, active, holding, ticket_of, numbered}
 use Rattle.turn_desk.specs.Rule.{IsQueue, IsCrew}
-use Rattle.turn_desk.specs.Steps.{parent, child, both_of, nobody}
+use Rattle.turn_desk.specs.Steps.{parent, child, witness, both_of, nobody}
 use Rattle.turn_desk.proofs.Totals.{total_set, total_at, same_total, between_next, between_first, total_snoc, total_only}
 use Rattle.turn_desk.proofs.Stages.{hold_active, hold_ticket, none_of}
 
@@ -76,6 +76,19 @@ module _ {E O : Type 0} where
             let step : one_if (ltb n m) + one_if (n == m) ≤ one_if (ltb n (m + 1)) = grind (arith, nat_tests, one_if) in
             subst (λ (z : ℕ). total (numbered n) (set vs id w ++ c ∷ []) ≤ one_if (ltb n z)) (sym mades) (omega arith);
         few = omega (arith, made.1);
+      }
+
+  -- a view that stands for no seat and made none is added
+  pub crew_adds : (vs : List (View E O)) (id : ℕ) (v : View E O) → get_elem? vs id ≡ some v → IsCrew vs → IsCrew (set vs id v ++ witness v ∷ [])
+  crew_adds vs id v at k =
+      let c : View E O = witness v in
+      let same : (f : View E O → ℕ) → f c ≡ 0 → total f (set vs id v ++ c ∷ []) ≡ total f vs = λ f z. (let a = total_snoc f (set vs id v) c in let b = same_total f vs id v v at refl in omega arith) in
+      let mades = same (λ (u : View E O). u.made) refl in record {
+        maker = k.maker;
+        others = λ j u e ne. ⊎_elim (λ t. ⊎_elim (λ r. ap (λ (z : View E O). z.made) (sym r.1) ∙ k.others id v at (λ p. ne (r.0 ∙ p))) (λ r. k.others j u r.1 ne) (at_set vs id j v u t)) (λ t. ap (λ (z : View E O). z.made) (sym t)) (at_snoc (set vs id v) c u j e);
+        seats = same (λ (u : View E O). u.seats) refl ∙ (k.seats ∙ sym mades);
+        numbers = λ n. let a = same (numbered n) refl in let b = k.numbers n in subst (λ (m : ℕ). total (numbered n) (set vs id v ++ c ∷ []) ≤ one_if (ltb n m)) (sym mades) (omega arith);
+        few = let b = k.few in omega arith;
       }
 
   -- a seat that is not spent takes in another

@@ -49,6 +49,7 @@ module _ {E O : Type 0} where
     seats = whole;
     made = omega arith;
     seen = λ history s t. (s, tt);
+    also = λ history t. (t, tt);
   }
 
   pub gather_more : (desk : TableId) (v w : View E O) (ps : List (Known E O)) → w.seats ≡ 1 → Gathers v ps → Gathers (both_of v w) (known desk w ∷ ps)
@@ -59,6 +60,7 @@ module _ {E O : Type 0} where
     seats = let z = g.seats in omega arith;
     made = let z = g.made in omega arith;
     seen = λ history s t. (t.0, g.seen history s (each_back (StartsWith history) w.also v.also t.1));
+    also = λ history t. (each_front (StartsWith history) w.also v.also t.1, g.also history (each_back (StartsWith history) w.also v.also t.1));
   }
 
   times_owns : (k : ℕ) (ps : List (Known E O)) → times_at k (owns ps) ≡ total (λ (p : Known E O). times_at k p.own) ps
@@ -75,6 +77,7 @@ module _ {B E O : Type 0} (history : B → List E) (origin : B → O) (first : B
     origin_is = k.origin_is;
     goes_on = k.goes_on;
     seen = g.seen (history b) k.seen k.also;
+    also = g.also (history b) k.also;
     own = stand_each (history b) ps (subst (StandIn (history b)) g.own k.own);
     places = λ n. sym (times_owns n ps) ∙ (ap (times_at n) (sym g.own) ∙ k.places n);
   }
@@ -90,14 +93,14 @@ module _ {E O : Type 0} (desk : TableId) (history : List E) (origin : O) where
   later_snoc k (q ∷ ps) p h is = (h.0, later_snoc (k + 1) ps p h.1 (is ∙ ap (new_pass desk history origin 0) (omega arith)))
 
   -- one more, split from the first
-  pub more_new : (n : ℕ) (ps : List (Known E O)) (p p' q : Known E O) → AreNew n desk history origin ps → 0 < length ps → p ≡ get_or ps 0 p → p' ≡ record p { made = p.made + 1 } → q ≡ record p { number = p.made; own = []; turn = None; made = 0 }
+  pub more_new : (n : ℕ) (ps : List (Known E O)) (p p' q : Known E O) → AreNew n desk history origin ps → 0 < length ps → p ≡ get_or ps 0 p → p' ≡ record p { made = p.made + 1 } → q ≡ record p { number = p.made; also = []; own = []; turn = None; made = 0 }
       → AreNew (n + 1) desk history origin (set ps 0 p' ++ q ∷ [])
   more_new n [] p p' q new some_pass is grows made = absurd (omega arith)
   more_new n (r ∷ ps) p p' q new some_pass is grows made =
       let here : p ≡ new_pass desk history origin n 0 = is ∙ new.1 in (
         (let a = length-append ps (q ∷ []) in let c = new.0 in omega arith),
         grows ∙ ap (λ (z : Known E O). record z { made = z.made + 1 }) here,
-        later_snoc 1 ps q new.2 (made ∙ (ap (λ (z : Known E O). record z { number = z.made; own = []; turn = None; made = 0 }) here ∙ ap (new_pass desk history origin 0) (let c = new.0 in omega arith))),
+        later_snoc 1 ps q new.2 (made ∙ (ap (λ (z : Known E O). record z { number = z.made; also = []; own = []; turn = None; made = 0 }) here ∙ ap (new_pass desk history origin 0) (let c = new.0 in omega arith))),
       )
 
   later_made : (k : ℕ) (ps : List (Known E O)) → AreLater desk history origin k ps → total (λ (p : Known E O). p.made) ps ≡ 0

@@ -89,5 +89,5 @@ module _ {B E O : Type 0} (history : B → List E) (origin : B → O) (gauge : O
           queue = queue_set k.serving k.ticket vs id v w at refl (λ n. refl) k.queue;
           crew = crew_set vs id v w at refl refl refl k.crew;
         },
-        (record { origin = origin first; origin_is = fit.origin_is part; history = k.shown; goes_on = fit.seen; gauge_is = found; sees = refl }, refl),
+        (record { origin = origin first; origin_is = fit.origin_is part; history = k.shown; goes_on = fit.seen; also = fit.also; gauge_is = found; sees = refl }, refl),
       )

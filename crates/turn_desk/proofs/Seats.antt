@@ -1,4 +1,4 @@
--- The split and the join of a seat keep the rule.
+-- The split of a seat or of a witness, and the join of a seat, keep the rule.
 use Rattle.std.proofs.Common.{◌≡◌, ℕ, ◌+◌, ◌<◌, List, [], ◌∷◌, ◌++◌, length, set, refl, sym, subst, ◌∙◌, arith, ⊎_elim}
 use mathlib.Core.Option.{some}
 use lib.ListN.{get_elem?}
@@ -9,10 +9,10 @@ use Rattle.turn_desk.specs.declared.view.View.{View}
 use Rattle.turn_desk.specs.Histories.{total, times_at}
 use Rattle.turn_desk.specs.Views.{at_ticket, active, holding}
 use Rattle.turn_desk.specs.Rule.{Fits, KeepsRule}
-use Rattle.turn_desk.specs.Steps.{parent, child, both_of, nobody}
+use Rattle.turn_desk.specs.Steps.{parent, child, witness, both_of, nobody}
 use Rattle.turn_desk.proofs.Totals.{total_set, same_total, total_snoc, times_at-append}
 use Rattle.turn_desk.proofs.Stages.{each_set, none_of, starts_all_append, stand_append}
-use Rattle.turn_desk.proofs.Crews.{crew_splits, crew_joins}
+use Rattle.turn_desk.proofs.Crews.{crew_adds, crew_splits, crew_joins}
 
 module _ {B E O : Type 0} (history : B → List E) (origin : B → O) (gauge : O → List E → ℕ) (first : B) where
   pub splits : (id : ℕ) (v : View E O) → 0 < v.made → v.made < 64 → 0 < v.seats → Splits (KeepsRule history origin gauge first) id v (parent v) (child v)
@@ -43,6 +43,36 @@ module _ {B E O : Type 0} (history : B → List E) (origin : B → O) (gauge : O
           tickets = λ n. same (λ (u : View E O). at_ticket n u.stage) refl refl ∙ k.queue.tickets n;
         };
         crew = crew_splits vs id v at any room k.crew;
+      }
+
+  pub witnesses : (id : ℕ) (v : View E O) → Splits (KeepsRule history origin gauge first) id v v (witness v)
+  witnesses id v s k at =
+      let vs = s.views in let c : View E O = witness v in
+      let fit = k.each id v at in
+      let F : View E O → Type 0 = Fits k.serving k.log k.shown (origin first) (length (history first)) in
+      let same : (f : View E O → ℕ) → f c ≡ 0 → total f (set vs id v ++ c ∷ []) ≡ total f vs = λ f z. (let a = total_snoc f (set vs id v) c in let b = same_total f vs id v v at refl in omega arith) in
+      let fits : F c = record { turn_is = tt; seen = fit.seen; also = tt; own = tt; origin_is = λ no. absurd (omega arith); start_is = λ no. absurd (omega arith); busy = omega arith; spent = λ _. refl } in
+      record {
+        ticket = k.ticket;
+        serving = k.serving;
+        log = k.log;
+        shown = k.shown;
+        out = k.out;
+        book = k.book;
+        words_are = k.words_are;
+        homes_are = k.homes_are;
+        book_is = k.book_is;
+        goes_on = k.goes_on;
+        shown_in = k.shown_in;
+        settled = k.settled;
+        holders = same (λ (u : View E O). holding u.stage) refl ∙ k.holders;
+        each = λ j u e. ⊎_elim (λ t. each_set F vs id v fit (λ i x ne d. k.each i x d) j u t) (λ t. subst F t fits) (at_snoc (set vs id v) c u j e);
+        places = λ n. same (λ (u : View E O). times_at n u.own) refl ∙ k.places n;
+        queue = record {
+          length_is = let a = same (λ (u : View E O). active u.stage) refl in let b = k.queue.length_is in omega arith;
+          tickets = λ n. same (λ (u : View E O). at_ticket n u.stage) refl ∙ k.queue.tickets n;
+        };
+        crew = crew_adds vs id v at k.crew;
       }
 
   pub joins : (id : ℕ) (v : View E O) (other : ℕ) (w : View E O) → 0 < v.seats → w.stage ≡ Rests → Joins (KeepsRule history origin gauge first) id v other w (both_of v w) nobody

@@ -11,7 +11,7 @@ use Rattle.atomic_table.specs.Table.{State, step, keeps, takes, gives, Allows, s
 use Rattle.atomic_table.proofs.Lists.{set_again, one_turn}
 use Rattle.turn_desk.specs.declared.view.Stage.TheVariants.{Rests, Waits, Holds}
 use Rattle.turn_desk.specs.declared.view.View.{View}
-use Rattle.turn_desk.specs.Histories.{total, one_if, times_at, StartsWith}
+use Rattle.turn_desk.specs.Histories.{total, one_if, times_at, StartsWith, StartsWithAll}
 use Rattle.turn_desk.specs.Views.{at_ticket, active, holding, ticket_of, reached, posed}
 use Rattle.turn_desk.specs.Rule.{home, Fits, KeepsRule}
 use Rattle.turn_desk.specs.Steps.{Seated, drawn, looked, rested, passed}
@@ -110,7 +110,7 @@ module _ {B E O : Type 0} (history : B → List E) (origin : B → O) (gauge : O
           queue = queue_set k.serving k.ticket vs id v w at (sym busy) (λ m. ap (λ (z : ℕ). one_if (m == z)) mine ∙ sym (ap (at_ticket m) waits)) k.queue;
           crew = crew_set vs id v w at refl refl refl k.crew;
         },
-        ((λ _. (b, refl, subst (λ (z : List E). StartsWith z v.seen) (k.settled free ∙ sym has.0) fit.seen, fit.origin_is (let z = fit.busy in omega arith) ∙ ap Some (sym has.1))), λ miss. absurd (miss hit)),
+        ((λ _. (b, refl, subst (λ (z : List E). StartsWith z v.seen) (k.settled free ∙ sym has.0) fit.seen, fit.origin_is (let z = fit.busy in omega arith) ∙ ap Some (sym has.1), subst (λ (z : List E). StartsWithAll z v.also) (k.settled free ∙ sym has.0) fit.also)), λ miss. absurd (miss hit)),
       ))
       (λ miss. (me.0, keeps, tt, stays s 1 id me same at k, ((λ hit. absurd (miss hit)), λ _. refl)))
 

@@ -23,9 +23,16 @@ pub record Known (E O : Type 0) : Type 0 where
   pub origin : Option O
   pub start : ℕ
   pub seen : List E
+  -- what passes that it heard of had seen
+  pub also : List (List E)
   pub own : List (ℕ × E)
   pub turn : Option (List E)
   pub made : ℕ
+
+-- of which desk a witness is, and the history that the pass had seen of which it was made
+pub record Witnessed (E : Type 0) : Type 0 where
+  pub desk : TableId
+  pub seen : List E
 
 -- the history at the take, while the turn lasts
 abbrev pub turn_of : {E : Type 0} → Stage E → Option (List E)
@@ -36,7 +43,7 @@ turn_of (Holds n before more) = Some before
 module _ {E O : Type 0} where
   -- a view, as contracts see it
   abbrev pub known : TableId → View E O → Known E O
-  known desk v = record { desk = desk; number = v.number; origin = v.origin; start = v.start; seen = v.seen; own = v.own; turn = turn_of v.stage; made = v.made }
+  known desk v = record { desk = desk; number = v.number; origin = v.origin; start = v.start; seen = v.seen; also = v.also; own = v.own; turn = turn_of v.stage; made = v.made }
 
   -- what holds of a pass between two calls, beside its number and the count of entries at the take
   pub record IsSteady {B : Type 0} (number count : ℕ) (me : Me (Option B) (View E O)) : Type 0 where
@@ -46,6 +53,19 @@ module _ {E O : Type 0} where
     pub steady : unsteady me.0.stage ≡ 0
     pub whole : me.0.seats ≡ 1
 
+  -- what a witness keeps, whose seat is none of the desk's: it has no turn, no entries, and nothing that it heard of itself
+  pub record IsWitness {B : Type 0} (me : Me (Option B) (View E O)) : Type 0 where
+    pub rests : me.0.stage ≡ Rests
+    pub hands : me.1 ≡ []
+    pub nobody : me.0.seats ≡ 0
+    pub none_made : me.0.made ≡ 0
+    pub none_own : me.0.own ≡ []
+    pub none_also : me.0.also ≡ []
+
+  -- the pass has heard of this history
+  abbrev pub heard : Known E O → List E → Known E O
+  heard p history = record p { also = history ∷ p.also }
+
   -- the pass has the turn, which began with this history
   abbrev pub at_turn : Known E O → List E → Known E O
   at_turn p history = record p { turn = Some history }
@@ -54,18 +74,20 @@ module _ {E O : Type 0} where
   abbrev pub after_giving : Known E O → List E → Known E O
   after_giving p history = let before = unwrap_or p.turn [] in record p { turn = None; seen = history; own = p.own ++ placed (length before) (drop (length before) history) }
 
-  -- A glance by a pass: it tells the gauge of a history that begins with what the pass has seen. Afterwards it has seen this history.
+  -- A glance by a pass: it tells the gauge of a history that begins with all that the pass has seen and heard of. Afterwards it has seen this
+  -- history.
   pub record PassGlances (gauge : O → List E → ℕ) (p : Known E O) (found : ℕ) (p' : Known E O) : Type 0 where
     pub origin : O
     pub origin_is : p.origin ≡ Some origin
     pub history : List E
     pub goes_on : StartsWith history p.seen
+    pub also : StartsWithAll history p.also
     pub gauge_is : found ≡ gauge origin history
     pub sees : p' ≡ record p { seen = history }
 
   -- a new pass, which rests: the first of n is `new_pass desk history origin n 0`
   abbrev pub new_pass : TableId → List E → O → ℕ → ℕ → Known E O
-  new_pass desk history origin made number = record { desk = desk; number = number; origin = Some origin; start = length history; seen = history; own = []; turn = None; made = made }
+  new_pass desk history origin made number = record { desk = desk; number = number; origin = Some origin; start = length history; seen = history; also = []; own = []; turn = None; made = made }
 
   -- new passes with the numbers from k on
   abbrev pub AreLater : TableId → List E → O → ℕ → List (Known E O) → Type 0
@@ -97,12 +119,14 @@ module _ {E O : Type 0} where
     pub seats : v.seats ≡ length passes
     pub made : v.made ≡ total (λ (p : Known E O). p.made) passes
     pub seen : (history : List E) → StartsWith history v.seen → StartsWithAll history v.also → AllByRecursion (λ (p : Known E O). StartsWith history p.seen) passes
+    pub also : (history : List E) → StartsWithAll history v.also → AllByRecursion (λ (p : Known E O). StartsWithAll history p.also) passes
 
 -- the book of a closed desk, of which `first` was the book at the start and these were the passes
 pub record Closes {B E O : Type 0} (history : B → List E) (origin : B → O) (first : B) (passes : List (Known E O)) (book : B) : Type 0 where
   pub origin_is : origin book ≡ origin first
   pub goes_on : StartsWith (history book) (history first)
   pub seen : AllByRecursion (λ (p : Known E O). StartsWith (history book) p.seen) passes
+  pub also : AllByRecursion (λ (p : Known E O). StartsWithAll (history book) p.also) passes
   pub own : AllByRecursion (λ (p : Known E O). StandIn (history book) p.own) passes
   -- each place beyond the first book's history is the own place of exactly one pass, and no other place is
   pub places : (k : ℕ) → total (λ (p : Known E O). times_at k p.own) passes ≡ between (length (history first)) (length (history book)) k

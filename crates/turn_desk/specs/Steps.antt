@@ -1,6 +1,6 @@
 -- The steps of the desk: what each tells the seat that takes it, of the view before and the view after.
--- There are ten kinds: draw a ticket, read which is served, take the book out, append one entry, put the book back, write the gauge, pass on,
--- read the gauge, split a seat, join a seat. Taking out and putting back change the slot in the holder's hands, and no view.
+-- There are eleven kinds: draw a ticket, read which is served, take the book out, append one entry, put the book back, write the gauge, pass on,
+-- read the gauge, split a seat, split a witness, join a seat. Taking out and putting back change the slot in the holder's hands, and no view.
 use Rattle.std.specs.Prelude.{◌≡◌, ◌≢◌, ℕ, ◌+◌, ◌%◌, ◌^◌, List, [], ◌∷◌, ◌++◌, length, drop, Option, Some, None}
 use Rattle.atomic_table.specs.Table.{Me, Step, rest}
 use Rattle.turn_desk.specs.declared.view.Stage.TheVariants.{Rests, Waits, Holds}
@@ -31,12 +31,13 @@ module _ {E O : Type 0} where
   abbrev pub shown_to : View E O → View E O
   shown_to v = record v { seen = reached v.stage }
 
-  -- a glance at a history that begins with what was seen, and then all of it is
+  -- a glance at a history that begins with what was seen and heard of, and then all of it is seen
   pub record Glances (gauge : O → List E → ℕ) (v : View E O) (found : ℕ) (w : View E O) : Type 0 where
     pub origin : O
     pub origin_is : v.origin ≡ Some origin
     pub history : List E
     pub goes_on : StartsWith history v.seen
+    pub also : StartsWithAll history v.also
     pub gauge_is : found ≡ gauge origin history
     pub sees : w ≡ record v { seen = history }
 
@@ -55,6 +56,10 @@ module _ {E O : Type 0} where
   abbrev pub both_of : View E O → View E O → View E O
   both_of v w = record v { also = w.seen ∷ (w.also ++ v.also); own = w.own ++ v.own; seats = v.seats + w.seats; made = v.made + w.made }
 
+  -- a view that stands for no seat, and has seen what this one has
+  abbrev pub witness : View E O → View E O
+  witness v = record { stage = Rests; seen = v.seen; also = []; own = []; origin = None; start = 0; number = 0; seats = 0; made = 0 }
+
   abbrev pub nobody : View E O
   nobody = record { stage = Rests; seen = []; also = []; own = []; origin = None; start = 0; number = 0; seats = 0; made = 0 }
 
@@ -70,10 +75,10 @@ module _ {B E O : Type 0} where
   abbrev pub drawn : Step (Option B) → Seated B E O → ℕ → Seated B E O → Type 0
   drawn st m found m' = (n : ℕ) × (found ≡ n % 2 ^ 64) × (m' ≡ (posed m.0 (Waits n), m.1))
 
-  -- the turn begins, with a book that goes on from what was seen and has the origin that the view knows
+  -- the turn begins, with a book that goes on from what was seen and heard of and has the origin that the view knows
   abbrev pub Begins : (B → List E) → (B → O) → Seated B E O → Seated B E O → Type 0
   Begins history origin m m' =
-      (b : B) × (m' ≡ (posed m.0 (Holds (ticket_of m.0.stage) (history b) []), (0, Some b) ∷ m.1)) × StartsWith (history b) m.0.seen × (m.0.origin ≡ Some (origin b))
+      (b : B) × (m' ≡ (posed m.0 (Holds (ticket_of m.0.stage) (history b) []), (0, Some b) ∷ m.1)) × StartsWith (history b) m.0.seen × (m.0.origin ≡ Some (origin b)) × StartsWithAll (history b) m.0.also
 
   -- the turn begins where the number served is the ticket's own, and else nothing changes
   abbrev pub looked : (B → List E) → (B → O) → Step (Option B) → Seated B E O → ℕ → Seated B E O → Type 0

@@ -2,9 +2,9 @@
 ghost use Rattle.std.specs.Prelude.{◌≡◌, ℕ, ◌+◌, ◌<◌, ◌≤◌, List, [], ◌∷◌, Some, None, length, IfOk, IfErr, IsSome, IfSome};
 ghost use Rattle.turn_desk.specs.declared.view.Stage.TheVariants.{Rests};
 ghost use Rattle.turn_desk.specs.declared.notes.TheConstants.{LONGEST_NOTE};
-ghost use Rattle.turn_desk.specs.Histories.{StartsWith, GoesOn};
+ghost use Rattle.turn_desk.specs.Histories.{StartsWith, StartsWithAll, GoesOn};
 ghost use Rattle.turn_desk.specs.Views.{hands_of};
-ghost use Rattle.turn_desk.specs.Passes.{known, AreNew, AreAll, Gathers, Closes, PassGlances, at_turn, after_giving};
+ghost use Rattle.turn_desk.specs.Passes.{known, heard, IsWitness, AreNew, AreAll, Gathers, Closes, PassGlances, at_turn, after_giving};
 
 use crate::board::{Board, Place};
 use crate::book::Book;
@@ -44,6 +44,38 @@ impl<B: Book> Model for Pass<B> {
     ghost view = { λ p. known p.seat.table_id p.seat.me.0 };
 
     ghost invariant = { λ p. IsSteady p.number p.count p.seat.me };
+}
+
+/// What a pass had seen of its desk, for another pass to hear. It stands for no pass, and waits for no turn.
+pub struct Witness<B: Book> {
+    /// A seat at the table of the desk that stands for none.
+    seat: Place<B>,
+}
+
+impl<B: Book> Model for Witness<B> {
+    ghost use Rattle.turn_desk.specs.Passes.{Witnessed, IsWitness};
+
+    ghost Value = { Witnessed B.Entry };
+
+    ghost view = { λ w. record { desk = w.seat.table_id; seen = w.seat.me.0.seen } };
+
+    ghost invariant = { λ w. IsWitness w.seat.me };
+}
+
+impl<B: Book> Drop for Witness<B> {
+    fn drop(self) {
+        let Witness { seat: _ } = self;
+    }
+}
+
+impl<B: Book> Witness<B> {
+    fn into_seat(self) -> Place<B>
+        ensures seat { (result.table_id ≡ self.desk) × (result.me.0.seen ≡ self.seen) }
+        ensures witness { IsWitness result.me }
+    {
+        let Witness { seat } = self;
+        seat
+    }
 }
 
 /// There was no memory for a desk. The book is handed back.
@@ -121,7 +153,7 @@ impl<B: Book> Desk<B> {
     pub fn take<T: Wait>(&self, rt: &T, pass: &mut Pass<B>) -> B
         requires desk { pass.old.desk ≡ self.now.id }
         requires rests { pass.old.turn ≡ None }
-        ensures goes_on { StartsWith (B.history result) pass.old.seen }
+        ensures goes_on { StartsWith (B.history result) pass.old.seen × StartsWithAll (B.history result) pass.old.also }
         ensures origin { pass.old.origin ≡ Some (B.origin result) }
         ensures turn { pass.new ≡ at_turn pass.old (B.history result) }
     {
@@ -150,6 +182,25 @@ impl<B: Book> Desk<B> {
         ensures { PassGlances B.gauge pass.old result pass.new }
     {
         self.board.glance(&mut pass.seat)
+    }
+
+    /// What the pass has seen so far, for other passes to hear: a thread that hands it to another thread, with whatever it tells there, hands
+    /// on how far the history was.
+    pub fn witness(&self, pass: &mut Pass<B>) -> Witness<B>
+        requires desk { pass.old.desk ≡ self.now.id }
+        ensures same { pass.new ≡ pass.old }
+        ensures witness { result ≡ record { desk = pass.old.desk; seen = pass.old.seen } }
+    {
+        let seat = self.board.vouch(&mut pass.seat);
+        Witness { seat }
+    }
+
+    /// Takes in what another pass had seen: the next history that this pass comes to, by a turn or by a glance, begins with it.
+    pub fn hear(&self, pass: &mut Pass<B>, witness: Witness<B>)
+        requires desk { (pass.old.desk ≡ self.now.id) × (witness.desk ≡ self.now.id) }
+        ensures { pass.new ≡ heard pass.old witness.seen }
+    {
+        self.board.join(&mut pass.seat, witness.into_seat());
     }
 
     /// Leaves a note of the first `length` of these bytes, for who has the turn before the one that this thread is about to wait for, and
@@ -181,7 +232,7 @@ impl<B: Book> Desk<B> {
         requires desk { first.old.desk ≡ self.now.id }
         requires number { (first.old.made ≡ number) × (0 < number) × (number < 64) }
         ensures first { first.new ≡ record first.old { made = first.old.made + 1 } }
-        ensures new { result ≡ record first.old { number = first.old.made; own = []; turn = None; made = 0 } }
+        ensures new { result ≡ record first.old { number = first.old.made; also = []; own = []; turn = None; made = 0 } }
     {
         let seat = self.board.split(&mut first.seat);
         Pass {

@@ -79,6 +79,17 @@ impl<B, E, O> Play<Option<B>, View<E, O>> for PassOn {
     ghost then = { passed };
 }
 
+/// A seat gives a witness of what it has seen.
+pub struct Vouch;
+
+impl<E, O> Split<View<E, O>> for Vouch {
+    ghost use Rattle.turn_desk.specs.Steps.{witness};
+
+    ghost left = { λ v. v };
+
+    ghost right = { witness };
+}
+
 /// A seat is split in two, or two are joined.
 pub struct Hand;
 

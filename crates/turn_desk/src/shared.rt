@@ -1,8 +1,8 @@
-//! A desk is shared by threads, and a pass goes to the thread that takes turns with it.
+//! A desk is shared by threads, a pass goes to the thread that takes turns with it, and what it has seen to any other.
 ghost use Rattle.std.specs.Prelude.{◌≡◌};
 
 use crate::book::Book;
-use crate::desk::{Desk, Pass};
+use crate::desk::{Desk, Pass, Witness};
 
 fn may_move<T: Send>(value: T) -> T
     ensures { result ≡ value }
@@ -35,4 +35,11 @@ pub fn pass_may_move<B: Book + Send>(pass: Pass<B>) -> Pass<B>
     ensures { result ≡ pass }
 {
     may_move(pass)
+}
+
+/// What a pass had seen is `Send` where its book is.
+pub fn witness_may_move<B: Book + Send>(witness: Witness<B>) -> Witness<B>
+    ensures { result ≡ witness }
+{
+    may_move(witness)
 }

@@ -3,11 +3,11 @@ ghost use Rattle.std.specs.Prelude.{◌≡◌, ◌≢◌, ℕ, ◌%◌, ◌^◌,
 ghost use Rattle.turn_desk.specs.declared.view.Stage.TheVariants.{Rests, Waits};
 ghost use Rattle.turn_desk.specs.Histories.{StartsWith};
 ghost use Rattle.turn_desk.specs.Views.{holding, reached, ticket_of};
-ghost use Rattle.turn_desk.specs.Steps.{Begins, grown, shown_to, Glances, rested, in_hand, parent, child, both_of, DrawsTicket};
+ghost use Rattle.turn_desk.specs.Steps.{Begins, grown, shown_to, Glances, rested, in_hand, parent, child, witness, both_of, DrawsTicket};
 
 use crate::board::{Board, COUNT, GAUGE, Place, SERVING, TICKET};
 use crate::book::Book;
-use crate::rule::{Append, Draw, Glance, Hand, Look, PassOn, Tell};
+use crate::rule::{Append, Draw, Glance, Hand, Look, PassOn, Tell, Vouch};
 
 impl<B: Book> Board<B> {
     /// Draws a ticket, and answers the number on it.
@@ -87,6 +87,15 @@ impl<B: Book> Board<B> {
         ensures views { (seat.new.me.0 ≡ parent seat.old.me.0) × (result.me.0 ≡ child seat.old.me.0) }
     {
         self.table.shared.split_seat::<Hand>(seat)
+    }
+
+    /// Splits a seat from this one that stands for none, and has seen what this one has.
+    pub(crate) fn vouch(&self, seat: &mut Place<B>) -> Place<B>
+        requires desk { seat.old.table_id ≡ self.now.table.shared.table_id }
+        ensures same { (seat.new.table_id ≡ seat.old.table_id) × (seat.new.id ≡ seat.old.id) × (seat.new.me ≡ seat.old.me) }
+        ensures other { (result.table_id ≡ seat.old.table_id) × (result.me ≡ (witness seat.old.me.0, [])) }
+    {
+        self.table.shared.split_seat::<Vouch>(seat)
     }
 
     /// Joins another seat into this one.

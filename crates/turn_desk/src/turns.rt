@@ -1,7 +1,7 @@
 //! A whole turn of a seat at the board.
 ghost use Rattle.std.specs.Prelude.{◌≡◌, ◌<◌, ◌++◌, List, [], ◌∷◌, Some, None, length};
 ghost use Rattle.turn_desk.specs.declared.view.Stage.TheVariants.{Rests};
-ghost use Rattle.turn_desk.specs.Histories.{StartsWith};
+ghost use Rattle.turn_desk.specs.Histories.{StartsWith, StartsWithAll};
 ghost use Rattle.turn_desk.specs.Views.{holding, began, unsteady};
 ghost use Rattle.turn_desk.specs.Steps.{TakesTurn, after_turn};
 
@@ -24,6 +24,7 @@ impl<B: Book> Board<B> {
         ensures same { (seat.new.table_id ≡ seat.old.table_id) × (seat.new.id ≡ seat.old.id) × (seat.new.me.1 ≡ (0, None) ∷ []) }
         ensures turn { TakesTurn seat.old.me.0 (B.history result) seat.new.me.0 }
         ensures goes_on { StartsWith (B.history result) seat.old.me.0.seen }
+        ensures also { StartsWithAll (B.history result) seat.old.me.0.also }
         ensures origin { seat.old.me.0.origin ≡ Some (B.origin result) }
     {
         let ticket = self.draw(seat);
