@@ -19,9 +19,25 @@ is_told disk = is_some disk.told
 abbrev pub told_moments : DiskShown → Moments
 told_moments disk = unwrap_or disk.told (opened [])
 
+-- it holds of the moments of a disk, where it tells them
+abbrev pub IfDiskTells : DiskShown → (Moments → Type 0) → Type 0
+IfDiskTells disk P = IsTrue (is_told disk) → P (told_moments disk)
+
+-- it holds of the moments of a disk before and after, where it tells them still
+abbrev pub IfDiskTold : DiskShown → DiskShown → (Moments → Moments → Type 0) → Type 0
+IfDiskTold before after P = IsTrue (is_told after) → P (told_moments before) (told_moments after)
+
+-- a disk that tells now told before
+abbrev pub HasTold : DiskShown → DiskShown → Type 0
+HasTold before after = IsTrue (is_told after) → IsTrue (is_told before)
+
+-- it tells these moments
+abbrev pub TellsMoments : DiskShown → Moments → Type 0
+TellsMoments disk moments = IsTrue (is_told disk) × (told_moments disk ≡ moments)
+
 -- A later state of a disk: what is told now was told before, and whether it is claimed stays.
 pub record IsLater (before after : DiskShown) : Type 0 where
-  pub told : IsTrue (is_told after) → IsTrue (is_told before)
+  pub told : HasTold before after
   pub claim : after.claimed ≡ before.claimed
 
 -- a disk that was just opened: it is not claimed, and no call on it has failed
@@ -39,7 +55,6 @@ untold claimed faults = record { told = None; claimed = claimed; faults = faults
 
 -- such a disk shows a read that is an image, where its moments have one
 pub image_shown : (told : Bool) (moments : Moments) (claimed : Bool) (faults : ℕ) → IsImage moments.now moments.now.read
-    → IsTrue (is_told (shown_as told moments claimed faults))
-    → IsImage (told_moments (shown_as told moments claimed faults)).now (told_moments (shown_as told moments claimed faults)).now.read
+    → IfDiskTells (shown_as told moments claimed faults) (λ shown. IsImage shown.now shown.now.read)
 image_shown true moments claimed faults is tells = is
 image_shown false moments claimed faults is tells = absurd (true≢false (sym tells))

@@ -1,7 +1,7 @@
 -- Files by name, and the counts of their faults. Of two files of one name the first counts.
 use Rattle.std.specs.Prelude.{◌≡◌, ◌≢◌, ◌≤◌, ℕ, Bool, if◌then◌else◌, List, [], ◌∷◌, Option, Some, None, Result, Ok, Err, IfErr, OnOk, bytes_eq, find, option_map, unwrap_or, Contains, IsTrue}
 use Rattle.house_io.specs.Moments.{Moments, opened}
-use Rattle.house_io.specs.Disks.{DiskShown, is_told, told_moments}
+use Rattle.house_io.specs.Disks.{DiskShown, is_told, told_moments, TellsMoments}
 use Rattle.house_io.specs.declared.shelves.Refusal.{Refusal}
 use Rattle.house_io.specs.declared.shelves.Refusal.TheVariants as why
 use Rattle.house_io.specs.Faults.{Rose, raised_by}
@@ -41,7 +41,7 @@ IfWasTold (Some files) P = P files
 
 -- A disk that is opened tells, and stands as its file did.
 abbrev pub StandsAs : List ℕ → DiskShown → List NamedFile → Type 0
-StandsAs name disk files = IsTrue (is_told disk) × (told_moments disk ≡ moments_at files name)
+StandsAs name disk files = TellsMoments disk (moments_at files name)
 
 -- A disk, which told, was closed in a name: the file stands as the disk did. One that was absent is there now only if the disk was claimed.
 abbrev pub IsLeftBy : List ℕ → DiskShown → List NamedFile → List NamedFile → Type 0

@@ -1,6 +1,6 @@
 //! A file that is read and written at offsets, and what a crash may leave of it.
 ghost use Rattle.std.specs.Prelude.{◌≡◌, ◌-◌, ◌≤◌, ℕ, List, length, take, drop, min, IsTrue, IfOk, OnOk, OnErr};
-ghost use Rattle.house_io.specs.Disks.{DiskShown, is_told, told_moments, IsLater};
+ghost use Rattle.house_io.specs.Disks.{DiskShown, IfDiskTells, IfDiskTold, HasTold, IsLater};
 ghost use Rattle.house_io.specs.Faults.{HasCause};
 ghost use Rattle.house_io.specs.Moments.{IsImage, wrote, synced_at, HasTorn};
 
@@ -14,8 +14,8 @@ pub trait Disk {
 
     /// The file's length in bytes.
     fn size(&mut self) -> Result<u64, Failed>
-        ensures size { IfOk result (λ n. IsTrue (is_told (shown self.new)) → n ≡ length (told_moments (shown self.old)).now.read) }
-        ensures moments { IsTrue (is_told (shown self.new)) → told_moments (shown self.new) ≡ told_moments (shown self.old) }
+        ensures size { IfOk result (λ n. IfDiskTold (shown self.old) (shown self.new) (λ before _. n ≡ length before.now.read)) }
+        ensures moments { IfDiskTold (shown self.old) (shown self.new) (λ before after. after ≡ before) }
         ensures later { IsLater (shown self.old) (shown self.new) }
         ensures cause { HasCause (shown self.old).faults (shown self.new).faults result };
 
@@ -23,10 +23,10 @@ pub trait Disk {
     /// the buffer behind it, or after a failure, is not said.
     fn read_at(&mut self, at: u64, into: &mut [u8]) -> Result<usize, Failed>
         ensures count { IfOk result (λ n. n ≤ length into.old) }
-        ensures bytes { IfOk result (λ n. IsTrue (is_told (shown self.new))
-            → (n ≡ min (length into.old) (length (told_moments (shown self.old)).now.read - at))
-            × (take n into.new ≡ take n (drop at (told_moments (shown self.old)).now.read))) }
-        ensures moments { IsTrue (is_told (shown self.new)) → told_moments (shown self.new) ≡ told_moments (shown self.old) }
+        ensures bytes { IfOk result (λ n. IfDiskTold (shown self.old) (shown self.new)
+            (λ before _. (n ≡ min (length into.old) (length before.now.read - at))
+            × (take n into.new ≡ take n (drop at before.now.read)))) }
+        ensures moments { IfDiskTold (shown self.old) (shown self.new) (λ before after. after ≡ before) }
         ensures later { IsLater (shown self.old) (shown self.new) }
         ensures cause { HasCause (shown self.old).faults (shown self.new).faults result };
 
@@ -35,30 +35,26 @@ pub trait Disk {
     fn claim(&mut self) -> Result<(), Failed>
         ensures claimed { OnOk result (IsTrue (shown self.new).claimed) }
         ensures failed { OnErr result (IsLater (shown self.old) (shown self.new)) }
-        ensures told { IsTrue (is_told (shown self.new)) → IsTrue (is_told (shown self.old)) }
-        ensures moments { IsTrue (is_told (shown self.new)) → told_moments (shown self.new) ≡ told_moments (shown self.old) }
+        ensures told { HasTold (shown self.old) (shown self.new) }
+        ensures moments { IfDiskTold (shown self.old) (shown self.new) (λ before after. after ≡ before) }
         ensures cause { HasCause (shown self.old).faults (shown self.new).faults result };
 
     /// Writes the whole piece, or fails and may have written anything in its range. A gap after the file's end is filled with
     /// zeros, also before a piece of no bytes.
     fn write_at(&mut self, at: u64, from: &[u8]) -> Result<(), Failed>
         requires { IsTrue (shown self.old).claimed }
-        ensures written { OnOk result (IsTrue (is_told (shown self.new))
-            → told_moments (shown self.new) ≡ wrote at from.now (told_moments (shown self.old))) }
-        ensures torn { OnErr result (IsTrue (is_told (shown self.new))
-            → HasTorn at (length from.now) (told_moments (shown self.old)) (told_moments (shown self.new))) }
+        ensures written { OnOk result (IfDiskTold (shown self.old) (shown self.new) (λ before after. after ≡ wrote at from.now before)) }
+        ensures torn { OnErr result (IfDiskTold (shown self.old) (shown self.new) (HasTorn at (length from.now))) }
         ensures later { IsLater (shown self.old) (shown self.new) }
         ensures cause { HasCause (shown self.old).faults (shown self.new).faults result };
 
     /// After it the only image is what a read gives.
     fn sync(&mut self) -> Result<(), Failed>
-        ensures synced { OnOk result (IsTrue (is_told (shown self.new))
-            → told_moments (shown self.new) ≡ synced_at (told_moments (shown self.old))) }
-        ensures failed { OnErr result (IsTrue (is_told (shown self.new)) → told_moments (shown self.new) ≡ told_moments (shown self.old)) }
+        ensures synced { OnOk result (IfDiskTold (shown self.old) (shown self.new) (λ before after. after ≡ synced_at before)) }
+        ensures failed { OnErr result (IfDiskTold (shown self.old) (shown self.new) (λ before after. after ≡ before)) }
         ensures later { IsLater (shown self.old) (shown self.new) }
         ensures cause { HasCause (shown self.old).faults (shown self.new).faults result };
 
     /// What a read gives is one of the images.
-    ghost reads_an_image: { (disk : Self) → IsTrue (is_told (shown disk))
-        → IsImage (told_moments (shown disk)).now (told_moments (shown disk)).now.read };
+    ghost reads_an_image: { (disk : Self) → IfDiskTells (shown disk) (λ moments. IsImage moments.now moments.now.read) };
 }
