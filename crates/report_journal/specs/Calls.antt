@@ -2,7 +2,7 @@
 -- the new one. What is said of contents, moments and bytes is said where the disk tells them at the call's end; all else always.
 use Rattle.std.specs.Prelude.{◌≡◌, ◌≢◌, ℕ, ◌+◌, ◌-◌, ◌≤◌, ◌<◌, max, Bool, IsTrue, List, [], ◌∷◌, ◌++◌, length, slice_index, Option, Some, None, IsSome, MatchOption, Result, Ok, Err}
 use Rattle.house_io.specs.Faults.{Rose}
-use Rattle.house_io.specs.Disks.{DiskShown, is_told, told_moments, IsLater}
+use Rattle.house_io.specs.Disks.{DiskShown, told_moments, IsLater, IfDiskTells, IfDiskTold}
 use Rattle.house_io.specs.Moments.{Moments, Leaves, AtEach, Torn, overlaid, synced_at}
 use Rattle.lot_base.specs.declared.limits.TheConstants.{GREATEST_FILE}
 use Rattle.report_journal.specs.declared.spellings.TheConstants.{OPEN}
@@ -21,7 +21,7 @@ use Rattle.report_journal.specs.Journals.{JournalOf, KeepsRecords, AddsRecord}
 -- A call that only reads a disk: no moment was added.
 pub record OnlyReads {D : Type 0} (shown : D → DiskShown) (old new : D) : Type 0 where
   pub later : IsLater (shown old) (shown new)
-  pub same : IsTrue (is_told (shown new)) → told_moments (shown new) ≡ told_moments (shown old)
+  pub same : IfDiskTold (shown old) (shown new) (λ before after. after ≡ before)
 
 -- The count of a disk's faults over a call: DiskFault comes only where it rose, and with any other answer it is as before.
 abbrev pub CountsFaults : {T : Type 0} → ℕ → ℕ → Result T JournalFault → Type 0
@@ -54,7 +54,7 @@ pub record KeepsAll {D : Type 0} (shown : D → DiskShown) (old new : JournalOf 
   pub pending : new.pending ≡ old.pending
   pub spare : new.spare ≡ old.spare
   pub laid : new.laid ≡ old.laid
-  pub contents : IsTrue (is_told (shown new.disk)) → new.contents ≡ old.contents
+  pub contents : IfDiskTells (shown new.disk) (λ _. new.contents ≡ old.contents)
 
 -- at each moment of a forming a read and each image are unformed or stand for no payloads, and no byte but those of the header and
 -- of the gates before and after it differs from before
@@ -75,10 +75,10 @@ pub record Forms {D : Type 0} (shown : D → DiskShown) (header : Header) (old :
   pub steady : (shown new.disk).faults ≡ (shown old).faults
   pub later : IsLater (shown old) (shown new.disk)
   -- each image stands for it, and what a read gives is the old file under the gate, the header and a closed gate
-  pub every_image : IsTrue (is_told (shown new.disk)) → Leaves (StandsFor (empty header)) (told_moments (shown new.disk)).now
-  pub written : IsTrue (is_told (shown new.disk)) → (told_moments (shown new.disk)).now.read ≡ overlaid (told_moments (shown old)).now.read 0 (OPEN ∷ header_bytes header ++ 0 ∷ [])
+  pub every_image : IfDiskTells (shown new.disk) (λ moments. Leaves (StandsFor (empty header)) moments.now)
+  pub written : IfDiskTold (shown old) (shown new.disk) (λ before after. after.now.read ≡ overlaid before.now.read 0 (OPEN ∷ header_bytes header ++ 0 ∷ []))
   -- at each moment of the call a file that is unformed, or this one
-  pub leaves : IsTrue (is_told (shown new.disk)) → FormLeaves header (told_moments (shown old)) (told_moments (shown new.disk))
+  pub leaves : IfDiskTold (shown old) (shown new.disk) (FormLeaves header)
 
 -- why a forming is refused: for a fault of the disk, or for memory, and then the disk is as it was
 abbrev pub RefusesToForm : {D : Type 0} → (D → DiskShown) → D → D → JournalFault → Type 0
@@ -91,7 +91,7 @@ RefusesToForm shown old new (Full needed) = ⊥
 pub record FailsToForm {D : Type 0} (shown : D → DiskShown) (header : Header) (old new : D) (fault : JournalFault) : Type 0 where
   pub refuses : RefusesToForm shown old new fault
   pub later : IsLater (shown old) (shown new)
-  pub leaves : IsTrue (is_told (shown new)) → FormLeaves header (told_moments (shown old)) (told_moments (shown new))
+  pub leaves : IfDiskTold (shown old) (shown new) (FormLeaves header)
 
 -- the journal that a scan found on a disk
 pub record Attaches {D : Type 0} (shown : D → DiskShown) (given : D) (scan : Scanned) (new : JournalOf D) : Type 0 where
@@ -138,8 +138,8 @@ pub record AppendLeaves (payload behind : List ℕ) (contents : Contents) (end :
 -- what an append has written, where this payload was likely to come next
 pub record Writes {D : Type 0} (shown : D → DiskShown) (payload next : List ℕ) (old new : JournalOf D) (result : Result ℕ JournalFault) : Type 0 where
   pub laid : LaidBy payload next old new result
-  pub end : IsTrue (is_told (shown new.disk)) → AppendEnds payload (behind payload next old) old.contents new.contents old.end (told_moments (shown old.disk)) (told_moments (shown new.disk)) result
-  pub leaves : old.pending ≡ None → IsTrue (is_told (shown new.disk)) → AppendLeaves payload (behind payload next old) old.contents old.end (told_moments (shown old.disk)) (told_moments (shown new.disk))
+  pub end : IfDiskTold (shown old.disk) (shown new.disk) (λ before after. AppendEnds payload (behind payload next old) old.contents new.contents old.end before after result)
+  pub leaves : old.pending ≡ None → IfDiskTold (shown old.disk) (shown new.disk) (AppendLeaves payload (behind payload next old) old.contents old.end)
 
 -- A mend. A record that it drops is spare again.
 abbrev pub Mends : {D : Type 0} → JournalOf D → JournalOf D → Result Mended JournalFault → Type 0

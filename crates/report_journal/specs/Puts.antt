@@ -1,6 +1,6 @@
 -- What the calls of a journal change of the contents that its file stands for.
 use Rattle.std.specs.Prelude.{◌≡◌, ◌≢◌, ◌⊎◌, ℕ, ◌+◌, ◌<◌, ◌≤◌, max, Bool, IsTrue, List, [], ◌∷◌, ◌++◌, length, drop, slice_index, Result, Ok, Err, OnOk}
-use Rattle.house_io.specs.Disks.{DiskShown, is_told, told_moments}
+use Rattle.house_io.specs.Disks.{DiskShown, IfDiskTold}
 use Rattle.house_io.specs.Moments.{Moment, Moments, AtEach, Torn, IsSettled, overlaid, settled, synced_at}
 use Rattle.report_journal.specs.declared.headers.Header.{Header}
 use Rattle.report_journal.specs.declared.spellings.TheConstants.{OPEN}
@@ -51,9 +51,9 @@ pub record TornTwice (a n b k : ℕ) (old new : List ℕ) : Type 0 where
 -- what opening a gate before these bytes leaves, which begin with the record of a payload: the file with them, at each moment the payloads
 -- before or these and the new one, and no other byte that differs
 pub record Opens {D T E : Type 0} (shown : D → DiskShown) (gate : ℕ) (payload bytes : List ℕ) (old new : D) (result : Result T E) : Type 0 where
-  pub done : OnOk result (IsTrue (is_told (shown new)) → (told_moments (shown new)).now ≡ settled (overlaid (told_moments (shown old)).now.read gate (OPEN ∷ bytes)))
-  pub stand : IsTrue (is_told (shown new)) → (x : Contents) → Takes x payload gate (told_moments (shown old)).now.read → AtEach (IsBeforeOrAfter x payload) (told_moments (shown old)) (told_moments (shown new))
-  pub range : IsTrue (is_told (shown new)) → AtEach (Torn gate (1 + length bytes) (told_moments (shown old)).now.read) (told_moments (shown old)) (told_moments (shown new))
+  pub done : OnOk result (IfDiskTold (shown old) (shown new) (λ before after. after.now ≡ settled (overlaid before.now.read gate (OPEN ∷ bytes))))
+  pub stand : IfDiskTold (shown old) (shown new) (λ before after. (x : Contents) → Takes x payload gate before.now.read → AtEach (IsBeforeOrAfter x payload) before after)
+  pub range : IfDiskTold (shown old) (shown new) (λ before after. AtEach (Torn gate (1 + length bytes) before.now.read) before after)
 
 -- What a crash may leave of a file while these bytes are put after this gate: first they are torn, and once they are there
 -- the gate is.

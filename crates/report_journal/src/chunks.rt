@@ -1,6 +1,6 @@
 //! A disk that is read in chunks.
 ghost use Rattle.std.specs.Prelude.{◌≡◌, ◌+◌, ◌-◌, ◌≤◌, length, take, drop, min, vec_len, IsTrue, IfOk, OnOk};
-ghost use Rattle.house_io.specs.Disks.{is_told, told_moments};
+ghost use Rattle.house_io.specs.Disks.{IfDiskTells, IfDiskTold};
 ghost use Rattle.house_io.specs.Faults.{HasCause};
 ghost use Rattle.report_journal.specs.Calls.{OnlyReads};
 ghost use Rattle.report_journal.specs.Scans.{IsChunk};
@@ -50,10 +50,10 @@ impl Chunk {
     /// Reads the file from this offset on.
     fn load<D: Disk>(&mut self, disk: &mut D, at: u32) -> Result<(), Failed>
         ensures at { OnOk result (self.new.at ≡ at) }
-        ensures chunk { OnOk result (IsTrue (is_told (D.shown disk.new))
-            → IsChunk self.new.bytes.items self.new.at self.new.filled (told_moments (D.shown disk.old)).now.read) }
-        ensures filled { OnOk result (IsTrue (is_told (D.shown disk.new))
-            → self.new.filled ≡ min (vec_len self.new.bytes) (length (told_moments (D.shown disk.old)).now.read - at)) }
+        ensures chunk { OnOk result (IfDiskTold (D.shown disk.old) (D.shown disk.new)
+            (λ before _. IsChunk self.new.bytes.items self.new.at self.new.filled before.now.read)) }
+        ensures filled { OnOk result (IfDiskTold (D.shown disk.old) (D.shown disk.new)
+            (λ before _. self.new.filled ≡ min (vec_len self.new.bytes) (length before.now.read - at))) }
         ensures reads { OnlyReads D.shown disk.old disk.new }
         ensures cause { HasCause (D.shown disk.old).faults (D.shown disk.new).faults result }
     {
@@ -88,14 +88,13 @@ pub fn read_head<D: Disk>(
     gate: u32,
     head: &mut [u8; 5],
 ) -> Result<usize, Failed>
-    requires chunk { IsTrue (is_told (D.shown disk.old))
-        → IsChunk chunk.old.bytes.items chunk.old.at chunk.old.filled (told_moments (D.shown disk.old)).now.read }
+    requires chunk { IfDiskTells (D.shown disk.old) (λ moments. IsChunk chunk.old.bytes.items chunk.old.at chunk.old.filled
+        moments.now.read) }
     ensures count { IfOk result (λ n. n ≤ 5) }
-    ensures bytes { IfOk result (λ n. IsTrue (is_told (D.shown disk.new))
-        → (n ≡ min 5 (length (told_moments (D.shown disk.old)).now.read - gate))
-        × (take n head.new ≡ take n (drop gate (told_moments (D.shown disk.old)).now.read))) }
-    ensures chunk { OnOk result (IsTrue (is_told (D.shown disk.new))
-        → IsChunk chunk.new.bytes.items chunk.new.at chunk.new.filled (told_moments (D.shown disk.old)).now.read) }
+    ensures bytes { IfOk result (λ n. IfDiskTold (D.shown disk.old) (D.shown disk.new)
+        (λ before _. (n ≡ min 5 (length before.now.read - gate)) × (take n head.new ≡ take n (drop gate before.now.read)))) }
+    ensures chunk { OnOk result (IfDiskTold (D.shown disk.old) (D.shown disk.new)
+        (λ before _. IsChunk chunk.new.bytes.items chunk.new.at chunk.new.filled before.now.read)) }
     ensures reads { OnlyReads D.shown disk.old disk.new }
     ensures cause { HasCause (D.shown disk.old).faults (D.shown disk.new).faults result }
 {

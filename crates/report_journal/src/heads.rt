@@ -1,6 +1,6 @@
 //! What stands at a gate.
 ghost use Rattle.std.specs.Prelude.{◌≡◌, ◌+◌, ◌-◌, ◌^◌, ◌≤◌, ◌↔◌, ℕ, length, take, drop, min, IsTrue, IfOk, OnOk};
-ghost use Rattle.house_io.specs.Disks.{is_told, told_moments};
+ghost use Rattle.house_io.specs.Disks.{IfDiskTells, IfDiskTold};
 ghost use Rattle.house_io.specs.Faults.{HasCause};
 ghost use Rattle.lot_base.specs.declared.limits.TheConstants.{GREATEST_PAYLOAD, GREATEST_FILE};
 ghost use Rattle.report_journal.specs.Calls.{OnlyReads, CountsReading};
@@ -25,10 +25,10 @@ pub enum Next {
 /// Whether the file has bytes up to this offset. Of a file that another process writes to no size is the last one: where the one
 /// that is known does not suffice it is asked again.
 fn reaches<D: Disk>(disk: &mut D, known: &mut u64, end: u32) -> Result<bool, Failed>
-    requires { IsTrue (is_told (D.shown disk.old)) → known.old ≤ length (told_moments (D.shown disk.old)).now.read }
-    ensures known { OnOk result (IsTrue (is_told (D.shown disk.new)) → known.new ≤ length (told_moments (D.shown disk.old)).now.read) }
-    ensures reaches { IfOk result (λ does. IsTrue (is_told (D.shown disk.new))
-        → (IsTrue does ↔ end ≤ length (told_moments (D.shown disk.old)).now.read)) }
+    requires { IfDiskTells (D.shown disk.old) (λ moments. known.old ≤ length moments.now.read) }
+    ensures known { OnOk result (IfDiskTold (D.shown disk.old) (D.shown disk.new) (λ before _. known.new ≤ length before.now.read)) }
+    ensures reaches { IfOk result (λ does. IfDiskTold (D.shown disk.old) (D.shown disk.new)
+        (λ before _. IsTrue does ↔ end ≤ length before.now.read)) }
     ensures reads { OnlyReads D.shown disk.old disk.new }
     ensures cause { HasCause (D.shown disk.old).faults (D.shown disk.new).faults result }
 {
@@ -55,14 +55,13 @@ fn read_whole_head<D: Disk>(
     head: &mut [u8; 5],
 ) -> Result<usize, Failed>
     requires room { gate + 6 ≤ 2 ^ 32 }
-    requires file { IsTrue (is_told (D.shown disk.old)) → (known.old ≤ length (told_moments (D.shown disk.old)).now.read)
-        × IsChunk chunk.old.bytes.items chunk.old.at chunk.old.filled (told_moments (D.shown disk.old)).now.read }
+    requires file { IfDiskTells (D.shown disk.old) (λ moments. (known.old ≤ length moments.now.read)
+        × IsChunk chunk.old.bytes.items chunk.old.at chunk.old.filled moments.now.read) }
     ensures count { IfOk result (λ n. n ≤ 5) }
-    ensures bytes { IfOk result (λ n. IsTrue (is_told (D.shown disk.new))
-        → (n ≡ min 5 (length (told_moments (D.shown disk.old)).now.read - gate))
-        × (take n head.new ≡ take n (drop gate (told_moments (D.shown disk.old)).now.read))) }
-    ensures chunk { OnOk result (IsTrue (is_told (D.shown disk.new)) → (known.new ≤ length (told_moments (D.shown disk.old)).now.read)
-        × IsChunk chunk.new.bytes.items chunk.new.at chunk.new.filled (told_moments (D.shown disk.old)).now.read) }
+    ensures bytes { IfOk result (λ n. IfDiskTold (D.shown disk.old) (D.shown disk.new)
+        (λ before _. (n ≡ min 5 (length before.now.read - gate)) × (take n head.new ≡ take n (drop gate before.now.read)))) }
+    ensures chunk { OnOk result (IfDiskTold (D.shown disk.old) (D.shown disk.new)
+        (λ before _. (known.new ≤ length before.now.read) × IsChunk chunk.new.bytes.items chunk.new.at chunk.new.filled before.now.read)) }
     ensures reads { OnlyReads D.shown disk.old disk.new }
     ensures cause { HasCause (D.shown disk.old).faults (D.shown disk.new).faults result }
 {
@@ -81,12 +80,12 @@ pub fn next_record<D: Disk>(
     gate: u32,
 ) -> Result<Next, Failed>
     requires room { gate + 1 ≤ GREATEST_FILE }
-    requires file { IsTrue (is_told (D.shown disk.old)) → (known.old ≤ length (told_moments (D.shown disk.old)).now.read)
-        × IsChunk chunk.old.bytes.items chunk.old.at chunk.old.filled (told_moments (D.shown disk.old)).now.read }
-    ensures found { IfOk result (λ next. IsTrue (is_told (D.shown disk.new)) → IsNext next gate (told_moments (D.shown disk.old)).now.read) }
+    requires file { IfDiskTells (D.shown disk.old) (λ moments. (known.old ≤ length moments.now.read)
+        × IsChunk chunk.old.bytes.items chunk.old.at chunk.old.filled moments.now.read) }
+    ensures found { IfOk result (λ next. IfDiskTold (D.shown disk.old) (D.shown disk.new) (λ before _. IsNext next gate before.now.read)) }
     ensures limits { (n : ℕ) → result ≡ Ok (Next.Record n) → (n ≤ GREATEST_PAYLOAD) × (gate + 6 + n ≤ GREATEST_FILE) }
-    ensures chunk { OnOk result (IsTrue (is_told (D.shown disk.new)) → (known.new ≤ length (told_moments (D.shown disk.old)).now.read)
-        × IsChunk chunk.new.bytes.items chunk.new.at chunk.new.filled (told_moments (D.shown disk.old)).now.read) }
+    ensures chunk { OnOk result (IfDiskTold (D.shown disk.old) (D.shown disk.new)
+        (λ before _. (known.new ≤ length before.now.read) × IsChunk chunk.new.bytes.items chunk.new.at chunk.new.filled before.now.read)) }
     ensures reads { OnlyReads D.shown disk.old disk.new }
     ensures cause { HasCause (D.shown disk.old).faults (D.shown disk.new).faults result }
 {
@@ -125,11 +124,10 @@ pub struct Found {
 
 /// Reads records from the first gate on, up to a closed gate, or to an open one with no record.
 pub fn read_records<D: Disk>(alloc: Global, disk: &mut D, first: u32) -> Result<Found, JournalFault>
-    requires file { IsTrue (is_told (D.shown disk.old)) → first + 1 ≤ length (told_moments (D.shown disk.old)).now.read }
+    requires file { IfDiskTells (D.shown disk.old) (λ moments. first + 1 ≤ length moments.now.read) }
     requires limit { first + 1 ≤ GREATEST_FILE }
-    ensures found { IfOk result (λ found. IsTrue (is_told (D.shown disk.new))
-        → AreRead first found.places.items found.gate (told_moments (D.shown disk.old)).now.read
-        × IsEndOfList found.closed found.gate (told_moments (D.shown disk.old)).now.read) }
+    ensures found { IfOk result (λ found. IfDiskTold (D.shown disk.old) (D.shown disk.new)
+        (λ before _. AreRead first found.places.items found.gate before.now.read × IsEndOfList found.closed found.gate before.now.read)) }
     ensures places { IfOk result (λ found. FollowTo first found.places.items found.gate) }
     ensures reads { OnlyReads D.shown disk.old disk.new }
     ensures faults { CountsReading (D.shown disk.old).faults (D.shown disk.new).faults result }

@@ -1,6 +1,6 @@
 //! A journal of payloads, each on the disk before it is acknowledged.
 ghost use Rattle.std.specs.Prelude.{◌≡◌, ℕ, ◌+◌, ◌-◌, ◌≤◌, ◌<◌, ◌↔◌, ◌++◌, List, [], ◌∷◌, length, vec_len, vec_capacity, slice_get, max, IsTrue, IfOk, OnOk, OnErr, IfErr, IfSome, None, Some};
-ghost use Rattle.house_io.specs.Disks.{is_told, told_moments, IsLater};
+ghost use Rattle.house_io.specs.Disks.{is_told, told_moments, IsLater, IfDiskTells, IfDiskTold};
 ghost use Rattle.house_io.specs.Moments.{IsSettled};
 ghost use Rattle.lot_base.specs.declared.limits.TheConstants.{GREATEST_PAYLOAD, GREATEST_FILE};
 ghost use Rattle.report_journal.specs.Calls.{OnlyReads, CountsFaults, CountsReading, Appends, Writes, IsReady, Mends, MendEnds, MendLeaves, KeepsAll, Forms, FailsToForm, Attaches};
@@ -78,8 +78,8 @@ impl<D: Disk> Journal<D> {
         ensures payloads { result ≡ length self.now.contents.payloads }
         ensures places { result ≡ length self.now.places }
         // What the type keeps.
-        ensures kept { IsTrue (is_told (D.shown self.now.disk))
-            → IsKept self.now.contents self.now.places self.now.end self.now.pending (told_moments (D.shown self.now.disk)) }
+        ensures kept { IfDiskTells (D.shown self.now.disk) (λ moments. IsKept self.now.contents self.now.places self.now.end
+            self.now.pending moments) }
         ensures claimed { IsTrue (D.shown self.now.disk).claimed }
         ensures limit { self.now.end + 1 ≤ GREATEST_FILE }
         ensures header { IsHeader self.now.contents.header }
@@ -215,11 +215,10 @@ impl<D: Disk> Journal<D> {
     pub fn mend(&mut self) -> Result<Mended, JournalFault>
         ensures answer { Mends self.old self.new result }
         ensures laid { self.new.laid ≡ self.old.laid }
-        ensures end { IsTrue (is_told (D.shown self.new.disk)) → MendEnds self.old.pending self.old.contents self.new.contents self.old.end
-            (told_moments (D.shown self.old.disk)) (told_moments (D.shown self.new.disk)) result }
-        ensures moments { IsTrue (is_told (D.shown self.new.disk))
-            → MendLeaves self.old.pending self.old.contents self.old.end (told_moments (D.shown self.old.disk))
-            (told_moments (D.shown self.new.disk)) }
+        ensures end { IfDiskTold (D.shown self.old.disk) (D.shown self.new.disk)
+            (λ before after. MendEnds self.old.pending self.old.contents self.new.contents self.old.end before after result) }
+        ensures moments { IfDiskTold (D.shown self.old.disk) (D.shown self.new.disk)
+            (MendLeaves self.old.pending self.old.contents self.old.end) }
         ensures later { IsLater (D.shown self.old.disk) (D.shown self.new.disk) }
         ensures faults { CountsFaults (D.shown self.old.disk).faults (D.shown self.new.disk).faults result }
     {
@@ -253,8 +252,8 @@ impl<D: Disk> Journal<D> {
     /// The payload of this number, from 1.
     pub fn payload(&mut self, alloc: Global, number: u32) -> Result<Vec<u8>, JournalFault>
         requires { (1 ≤ number) × (number ≤ length self.old.contents.payloads) }
-        ensures payload { IfOk result (λ payload. IsTrue (is_told (D.shown self.new.disk))
-            → slice_get self.old.contents.payloads (number - 1) ≡ Some payload.items) }
+        ensures payload { IfOk result (λ payload. IfDiskTells (D.shown self.new.disk)
+            (λ _. slice_get self.old.contents.payloads (number - 1) ≡ Some payload.items)) }
         ensures long { IfOk result (λ payload. IfSome (slice_get self.old.places (number - 1))
             (λ place. length payload.items ≡ place.length)) }
         ensures keeps { KeepsAll D.shown self.old self.new }
@@ -272,8 +271,7 @@ impl<D: Disk> Journal<D> {
         requires claimed { IsTrue (D.shown disk).claimed }
         requires formed { IsFormed scan }
         requires in_order { IsInOrder scan }
-        requires scanned { IsTrue (is_told (D.shown disk)) → IsSettled (told_moments (D.shown disk)).now
-            × IsScan scan (told_moments (D.shown disk)).now.read }
+        requires scanned { IfDiskTells (D.shown disk) (λ moments. IsSettled moments.now × IsScan scan moments.now.read) }
         ensures { Attaches D.shown disk scan result }
     {
         let Scanned::Formed {
@@ -303,8 +301,7 @@ impl<D: Disk> Journal<D> {
     pub fn form(alloc: Global, disk: D, header: &Header) -> Result<Journal<D>, NotFormed<D>>
         requires claimed { IsTrue (D.shown disk).claimed }
         requires header { IsHeader header.now }
-        requires unformed { IsTrue (is_told (D.shown disk)) → IsSettled (told_moments (D.shown disk)).now
-            × IsUnformed (told_moments (D.shown disk)).now.read }
+        requires unformed { IfDiskTells (D.shown disk) (λ moments. IsSettled moments.now × IsUnformed moments.now.read) }
         ensures ok { IfOk result (λ j. Forms D.shown header.now disk j) }
         ensures err { IfErr result (λ e. FailsToForm D.shown header.now disk e.disk e.fault) }
     {
@@ -385,9 +382,8 @@ pub fn read_payload<D: Disk>(
     place: Place,
 ) -> Result<Vec<u8>, JournalFault>
     ensures long { IfOk result (λ payload. length payload.items ≡ place.length) }
-    ensures payload { IfOk result (λ payload. IsTrue (is_told (D.shown disk.new))
-        → length (payload_at (told_moments (D.shown disk.old)).now.read place) ≡ place.length
-        → payload.items ≡ payload_at (told_moments (D.shown disk.old)).now.read place) }
+    ensures payload { IfOk result (λ payload. IfDiskTold (D.shown disk.old) (D.shown disk.new)
+        (λ before _. length (payload_at before.now.read place) ≡ place.length → payload.items ≡ payload_at before.now.read place)) }
     ensures reads { OnlyReads D.shown disk.old disk.new }
     ensures faults { CountsReading (D.shown disk.old).faults (D.shown disk.new).faults result }
 {

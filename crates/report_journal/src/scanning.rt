@@ -1,6 +1,6 @@
 //! A journal's file, read whole.
 ghost use Rattle.std.specs.Prelude.{◌≡◌, ◌≤◌, length, take, min, IsTrue, IfOk};
-ghost use Rattle.house_io.specs.Disks.{is_told, told_moments, IsLater};
+ghost use Rattle.house_io.specs.Disks.{IsLater, IfDiskTells, IfDiskTold};
 ghost use Rattle.house_io.specs.Faults.{HasCause};
 ghost use Rattle.report_journal.specs.Calls.{OnlyReads, CountsReading, IsSyncedBy};
 ghost use Rattle.report_journal.specs.Format.{IsHeader};
@@ -51,9 +51,8 @@ const LONGEST_FRONT: usize = SHORTEST_FORMED + 2 + 4 * MOST_GOODS;
 /// Fills a front of the buffer from the file's beginning. Where the file ended there and has more by now, it is read again.
 fn read_first<D: Disk>(disk: &mut D, into: &mut [u8; LONGEST_FRONT]) -> Result<usize, Failed>
     ensures count { IfOk result (λ n. n ≤ LONGEST_FRONT) }
-    ensures bytes { IfOk result (λ n. IsTrue (is_told (D.shown disk.new))
-        → (n ≡ min LONGEST_FRONT (length (told_moments (D.shown disk.old)).now.read))
-        × (take n into.new ≡ take n (told_moments (D.shown disk.old)).now.read)) }
+    ensures bytes { IfOk result (λ n. IfDiskTold (D.shown disk.old) (D.shown disk.new)
+        (λ before _. (n ≡ min LONGEST_FRONT (length before.now.read)) × (take n into.new ≡ take n before.now.read))) }
     ensures reads { OnlyReads D.shown disk.old disk.new }
     ensures cause { HasCause (D.shown disk.old).faults (D.shown disk.new).faults result }
 {
@@ -66,7 +65,7 @@ fn read_first<D: Disk>(disk: &mut D, into: &mut [u8; LONGEST_FRONT]) -> Result<u
 
 /// Reads the front of the file.
 fn read_front<D: Disk>(disk: &mut D) -> Result<Front, Failed>
-    ensures front { IfOk result (λ front. IsTrue (is_told (D.shown disk.new)) → IsFront front (told_moments (D.shown disk.old)).now.read) }
+    ensures front { IfOk result (λ front. IfDiskTold (D.shown disk.old) (D.shown disk.new) (λ before _. IsFront front before.now.read)) }
     ensures in_order { IfOk result IsFrontInOrder }
     ensures reads { OnlyReads D.shown disk.old disk.new }
     ensures cause { HasCause (D.shown disk.old).faults (D.shown disk.new).faults result }
@@ -90,8 +89,8 @@ fn scan_records<D: Disk>(
     header: Header,
 ) -> Result<Scanned, JournalFault>
     requires header { IsHeader header }
-    requires has_it { IsTrue (is_told (D.shown disk.old)) → HasHeader header (told_moments (D.shown disk.old)).now.read }
-    ensures found { IfOk result (λ s. IsTrue (is_told (D.shown disk.new)) → IsScan s (told_moments (D.shown disk.old)).now.read) }
+    requires has_it { IfDiskTells (D.shown disk.old) (λ moments. HasHeader header moments.now.read) }
+    ensures found { IfOk result (λ s. IfDiskTold (D.shown disk.old) (D.shown disk.new) (λ before _. IsScan s before.now.read)) }
     ensures in_order { IfOk result IsInOrder }
     ensures reads { OnlyReads D.shown disk.old disk.new }
     ensures faults { CountsReading (D.shown disk.old).faults (D.shown disk.new).faults result }
@@ -117,10 +116,9 @@ fn scan_records<D: Disk>(
 /// Reads what a journal's file is. It syncs first, and changes no byte. Its memory is in proportion to the number of
 /// records.
 pub fn scan<D: Disk>(alloc: Global, disk: &mut D) -> Result<Scanned, JournalFault>
-    ensures found { IfOk result (λ s. IsTrue (is_told (D.shown disk.new)) → IsScan s (told_moments (D.shown disk.old)).now.read) }
+    ensures found { IfOk result (λ s. IfDiskTold (D.shown disk.old) (D.shown disk.new) (λ before _. IsScan s before.now.read)) }
     ensures in_order { IfOk result IsInOrder }
-    ensures synced { IsTrue (is_told (D.shown disk.new))
-        → IsSyncedBy result (told_moments (D.shown disk.old)) (told_moments (D.shown disk.new)) }
+    ensures synced { IfDiskTold (D.shown disk.old) (D.shown disk.new) (IsSyncedBy result) }
     ensures later { IsLater (D.shown disk.old) (D.shown disk.new) }
     ensures faults { CountsReading (D.shown disk.old).faults (D.shown disk.new).faults result }
 {

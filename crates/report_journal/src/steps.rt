@@ -1,6 +1,6 @@
 //! The steps of a journal's calls on its disk: each writes a piece and syncs it.
 ghost use Rattle.std.specs.Prelude.{◌≡◌, ℕ, ◌+◌, ◌^◌, ◌<◌, ◌≤◌, ◌↔◌, ◌⊎◌, List, [], ◌∷◌, ◌++◌, length, drop, vec_capacity, slice_index, IsTrue, IfOk, OnOk};
-ghost use Rattle.house_io.specs.Disks.{is_told, told_moments, IsLater};
+ghost use Rattle.house_io.specs.Disks.{IsLater, IfDiskTells, IfDiskTold};
 ghost use Rattle.house_io.specs.Faults.{HasCause};
 ghost use Rattle.lot_base.specs.declared.limits.TheConstants.{GREATEST_PAYLOAD, GREATEST_FILE};
 ghost use Rattle.house_io.specs.Moments.{settled, IsSettled, overlaid, synced_at, Torn, AtEach};
@@ -17,12 +17,11 @@ use house_io::{Disk, Failed};
 /// Writes and syncs.
 pub fn write_synced<D: Disk>(disk: &mut D, at: u64, bytes: &[u8]) -> Result<(), Failed>
     requires claimed { IsTrue (D.shown disk.old).claimed }
-    requires file { IsTrue (is_told (D.shown disk.old)) → IsSettledTo at (told_moments (D.shown disk.old)).now }
-    ensures done { OnOk result (IsTrue (is_told (D.shown disk.new))
-        → (told_moments (D.shown disk.new)).now ≡ settled (overlaid (told_moments (D.shown disk.old)).now.read at bytes.now)) }
-    ensures moments { IsTrue (is_told (D.shown disk.new))
-        → AtEach (Torn at (length bytes.now) (told_moments (D.shown disk.old)).now.read) (told_moments (D.shown disk.old))
-        (told_moments (D.shown disk.new)) }
+    requires file { IfDiskTells (D.shown disk.old) (λ moments. IsSettledTo at moments.now) }
+    ensures done { OnOk result (IfDiskTold (D.shown disk.old) (D.shown disk.new)
+        (λ before after. after.now ≡ settled (overlaid before.now.read at bytes.now))) }
+    ensures moments { IfDiskTold (D.shown disk.old) (D.shown disk.new)
+        (λ before after. AtEach (Torn at (length bytes.now) before.now.read) before after) }
     ensures later { IsLater (D.shown disk.old) (D.shown disk.new) }
     ensures cause { HasCause (D.shown disk.old).faults (D.shown disk.new).faults result }
 {
@@ -37,15 +36,13 @@ pub fn write_synced<D: Disk>(disk: &mut D, at: u64, bytes: &[u8]) -> Result<(), 
 fn put_after_gate<D: Disk>(disk: &mut D, gate: u64, bytes: &[u8]) -> Result<(), Failed>
     requires claimed { IsTrue (D.shown disk.old).claimed }
     requires room { gate < 2 ^ 63 }
-    requires file { IsTrue (is_told (D.shown disk.old)) → IsSettledTo (gate + 1) (told_moments (D.shown disk.old)).now }
-    ensures done { OnOk result (IsTrue (is_told (D.shown disk.new))
-        → (told_moments (D.shown disk.new)).now ≡ settled (overlaid (told_moments (D.shown disk.old)).now.read gate (OPEN ∷ bytes.now))) }
-    ensures moments { IsTrue (is_told (D.shown disk.new))
-        → AtEach (IsStage gate bytes.now (told_moments (D.shown disk.old)).now.read) (told_moments (D.shown disk.old))
-        (told_moments (D.shown disk.new)) }
-    ensures range { IsTrue (is_told (D.shown disk.new))
-        → AtEach (Torn gate (1 + length bytes.now) (told_moments (D.shown disk.old)).now.read) (told_moments (D.shown disk.old))
-        (told_moments (D.shown disk.new)) }
+    requires file { IfDiskTells (D.shown disk.old) (λ moments. IsSettledTo (gate + 1) moments.now) }
+    ensures done { OnOk result (IfDiskTold (D.shown disk.old) (D.shown disk.new)
+        (λ before after. after.now ≡ settled (overlaid before.now.read gate (OPEN ∷ bytes.now)))) }
+    ensures moments { IfDiskTold (D.shown disk.old) (D.shown disk.new)
+        (λ before after. AtEach (IsStage gate bytes.now before.now.read) before after) }
+    ensures range { IfDiskTold (D.shown disk.old) (D.shown disk.new)
+        (λ before after. AtEach (Torn gate (1 + length bytes.now) before.now.read) before after) }
     ensures later { IsLater (D.shown disk.old) (D.shown disk.new) }
     ensures cause { HasCause (D.shown disk.old).faults (D.shown disk.new).faults result }
 {
@@ -64,14 +61,12 @@ fn write_record<D: Disk>(
 ) -> Result<(), Failed>
     requires claimed { IsTrue (D.shown disk.old).claimed }
     requires room { gate < 2 ^ 63 }
-    requires file { IsTrue (is_told (D.shown disk.old)) → IsSettledTo (gate + 1) (told_moments (D.shown disk.old)).now }
-    requires there { IsTrue lies_there → IsTrue (is_told (D.shown disk.old))
-        → LieAt (gate + 1) bytes.now (told_moments (D.shown disk.old)).now.read }
-    ensures done { OnOk result (IsTrue (is_told (D.shown disk.new))
-        → (told_moments (D.shown disk.new)).now ≡ settled (overlaid (told_moments (D.shown disk.old)).now.read (gate + 1) bytes.now)) }
-    ensures moments { IsTrue (is_told (D.shown disk.new))
-        → AtEach (Torn (gate + 1) (length bytes.now) (told_moments (D.shown disk.old)).now.read) (told_moments (D.shown disk.old))
-        (told_moments (D.shown disk.new)) }
+    requires file { IfDiskTells (D.shown disk.old) (λ moments. IsSettledTo (gate + 1) moments.now) }
+    requires there { IsTrue lies_there → IfDiskTells (D.shown disk.old) (λ moments. LieAt (gate + 1) bytes.now moments.now.read) }
+    ensures done { OnOk result (IfDiskTold (D.shown disk.old) (D.shown disk.new)
+        (λ before after. after.now ≡ settled (overlaid before.now.read (gate + 1) bytes.now))) }
+    ensures moments { IfDiskTold (D.shown disk.old) (D.shown disk.new)
+        (λ before after. AtEach (Torn (gate + 1) (length bytes.now) before.now.read) before after) }
     ensures later { IsLater (D.shown disk.old) (D.shown disk.new) }
     ensures cause { HasCause (D.shown disk.old).faults (D.shown disk.new).faults result }
 {
@@ -84,14 +79,11 @@ fn write_record<D: Disk>(
 /// Opens the gate, and writes bytes at an offset behind it, if there are any, with one sync.
 fn open_and_lay<D: Disk>(disk: &mut D, gate: u64, from: u64, bytes: &[u8]) -> Result<(), Failed>
     requires claimed { IsTrue (D.shown disk.old).claimed }
-    requires file { IsTrue (is_told (D.shown disk.old)) → IsSettledTo gate (told_moments (D.shown disk.old)).now
-        × IsSettledTo from (told_moments (D.shown disk.old)).now }
-    ensures done { OnOk result (IsTrue (is_told (D.shown disk.new))
-        → (told_moments (D.shown disk.new)).now ≡ settled
-        (overlaid (overlaid (told_moments (D.shown disk.old)).now.read gate (OPEN ∷ [])) from bytes.now)) }
-    ensures moments { IsTrue (is_told (D.shown disk.new))
-        → AtEach (TornTwice gate 1 from (length bytes.now) (told_moments (D.shown disk.old)).now.read) (told_moments (D.shown disk.old))
-        (told_moments (D.shown disk.new)) }
+    requires file { IfDiskTells (D.shown disk.old) (λ moments. IsSettledTo gate moments.now × IsSettledTo from moments.now) }
+    ensures done { OnOk result (IfDiskTold (D.shown disk.old) (D.shown disk.new)
+        (λ before after. after.now ≡ settled (overlaid (overlaid before.now.read gate (OPEN ∷ [])) from bytes.now))) }
+    ensures moments { IfDiskTold (D.shown disk.old) (D.shown disk.new)
+        (λ before after. AtEach (TornTwice gate 1 from (length bytes.now) before.now.read) before after) }
     ensures later { IsLater (D.shown disk.old) (D.shown disk.new) }
     ensures cause { HasCause (D.shown disk.old).faults (D.shown disk.new).faults result }
 {
@@ -109,9 +101,8 @@ fn open_record<D: Disk>(disk: &mut D, gate: u64, payload: &[u8], bytes: &[u8]) -
     requires claimed { IsTrue (D.shown disk.old).claimed }
     requires room { (gate < 2 ^ 63) × (length payload.now ≤ GREATEST_PAYLOAD) }
     requires spelled { HasRecord payload.now bytes.now }
-    requires there { IsTrue (is_told (D.shown disk.old))
-        → IsSettledTo (gate + 1) (told_moments (D.shown disk.old)).now
-        × HasRecord payload.now (drop (gate + 1) (told_moments (D.shown disk.old)).now.read) }
+    requires there { IfDiskTells (D.shown disk.old) (λ moments. IsSettledTo (gate + 1) moments.now
+        × HasRecord payload.now (drop (gate + 1) moments.now.read)) }
     ensures opens { Opens D.shown gate payload.now bytes.now disk.old disk.new result }
     ensures later { IsLater (D.shown disk.old) (D.shown disk.new) }
     ensures cause { HasCause (D.shown disk.old).faults (D.shown disk.new).faults result }
@@ -135,9 +126,8 @@ pub fn put_record<D: Disk, H: Hint>(
     requires claimed { IsTrue (D.shown disk.old).claimed }
     requires fits { (gate + 6 + length payload.now ≤ GREATEST_FILE) × (length payload.now ≤ GREATEST_PAYLOAD) }
     requires buffer { (bytes.old.items ≡ body payload.now ++ 0 ∷ []) × (LONGEST_RECORD ≤ vec_capacity bytes.old) }
-    requires there { IsTrue (is_told (D.shown disk.old))
-        → IsSettledTo (gate + 1) (told_moments (D.shown disk.old)).now
-        × (IsTrue lies_there → HasRecord payload.now (drop (gate + 1) (told_moments (D.shown disk.old)).now.read)) }
+    requires there { IfDiskTells (D.shown disk.old) (λ moments. IsSettledTo (gate + 1) moments.now
+        × (IsTrue lies_there → HasRecord payload.now (drop (gate + 1) moments.now.read))) }
     ensures puts { (next : List ℕ) × IsAsked (H.says hint.now) next result
         × OnOk result (bytes.new.items ≡ put_of gate laid payload.now next)
         × Opens D.shown gate payload.now (put_of gate laid payload.now next) disk.old disk.new result }
@@ -158,17 +148,12 @@ pub fn put_record<D: Disk, H: Hint>(
 /// Closes the first gate of an unformed file that is too short.
 pub fn shut_gate<D: Disk>(disk: &mut D) -> Result<(), Failed>
     requires claimed { IsTrue (D.shown disk.old).claimed }
-    requires file { IsTrue (is_told (D.shown disk.old)) → IsSettled (told_moments (D.shown disk.old)).now
-        × IsUnformed (told_moments (D.shown disk.old)).now.read }
-    ensures done { OnOk result (IsTrue (is_told (D.shown disk.new))
-        → IsSettled (told_moments (D.shown disk.new)).now × IsShut (told_moments (D.shown disk.new)).now.read) }
-    ensures moments { IsTrue (is_told (D.shown disk.new))
-        → AtEach IsUnformed (told_moments (D.shown disk.old)) (told_moments (D.shown disk.new)) }
-    ensures written { OnOk result (IsTrue (is_told (D.shown disk.new))
-        → ((told_moments (D.shown disk.new)).now.read ≡ (told_moments (D.shown disk.old)).now.read)
-        ⊎ ((told_moments (D.shown disk.new)).now.read ≡ overlaid (told_moments (D.shown disk.old)).now.read 0 (0 ∷ []))) }
-    ensures range { IsTrue (is_told (D.shown disk.new))
-        → AtEach (Torn 0 1 (told_moments (D.shown disk.old)).now.read) (told_moments (D.shown disk.old)) (told_moments (D.shown disk.new)) }
+    requires file { IfDiskTells (D.shown disk.old) (λ moments. IsSettled moments.now × IsUnformed moments.now.read) }
+    ensures done { OnOk result (IfDiskTells (D.shown disk.new) (λ moments. IsSettled moments.now × IsShut moments.now.read)) }
+    ensures moments { IfDiskTold (D.shown disk.old) (D.shown disk.new) (AtEach IsUnformed) }
+    ensures written { OnOk result (IfDiskTold (D.shown disk.old) (D.shown disk.new)
+        (λ before after. (after.now.read ≡ before.now.read) ⊎ (after.now.read ≡ overlaid before.now.read 0 (0 ∷ [])))) }
+    ensures range { IfDiskTold (D.shown disk.old) (D.shown disk.new) (λ before after. AtEach (Torn 0 1 before.now.read) before after) }
     ensures later { IsLater (D.shown disk.old) (D.shown disk.new) }
     ensures cause { HasCause (D.shown disk.old).faults (D.shown disk.new).faults result }
 {
@@ -181,17 +166,15 @@ pub fn shut_gate<D: Disk>(disk: &mut D) -> Result<(), Failed>
 /// Writes the header after the closed first gate, and then opens the gate.
 pub fn put_header<D: Disk>(disk: &mut D, bytes: &[u8]) -> Result<(), Failed>
     requires claimed { IsTrue (D.shown disk.old).claimed }
-    requires file { IsTrue (is_told (D.shown disk.old)) → IsSettled (told_moments (D.shown disk.old)).now
-        × IsShut (told_moments (D.shown disk.old)).now.read }
-    ensures formed { OnOk result (IsTrue (is_told (D.shown disk.new)) → (header : Header)
-        → IsHead header bytes.now → StandsFor (empty header) (told_moments (D.shown disk.new)).now.read) }
-    ensures moments { IsTrue (is_told (D.shown disk.new)) → (header : Header)
-        → IsHead header bytes.now → AtEach (IsUnformedOrEmpty header) (told_moments (D.shown disk.old)) (told_moments (D.shown disk.new)) }
-    ensures done { OnOk result (IsTrue (is_told (D.shown disk.new))
-        → (told_moments (D.shown disk.new)).now ≡ settled (overlaid (told_moments (D.shown disk.old)).now.read 0 (OPEN ∷ bytes.now))) }
-    ensures range { IsTrue (is_told (D.shown disk.new))
-        → AtEach (Torn 0 (1 + length bytes.now) (told_moments (D.shown disk.old)).now.read) (told_moments (D.shown disk.old))
-        (told_moments (D.shown disk.new)) }
+    requires file { IfDiskTells (D.shown disk.old) (λ moments. IsSettled moments.now × IsShut moments.now.read) }
+    ensures formed { OnOk result (IfDiskTells (D.shown disk.new) (λ moments. (header : Header) → IsHead header bytes.now
+        → StandsFor (empty header) moments.now.read)) }
+    ensures moments { IfDiskTold (D.shown disk.old) (D.shown disk.new)
+        (λ before after. (header : Header) → IsHead header bytes.now → AtEach (IsUnformedOrEmpty header) before after) }
+    ensures done { OnOk result (IfDiskTold (D.shown disk.old) (D.shown disk.new)
+        (λ before after. after.now ≡ settled (overlaid before.now.read 0 (OPEN ∷ bytes.now)))) }
+    ensures range { IfDiskTold (D.shown disk.old) (D.shown disk.new)
+        (λ before after. AtEach (Torn 0 (1 + length bytes.now) before.now.read) before after) }
     ensures later { IsLater (D.shown disk.old) (D.shown disk.new) }
     ensures cause { HasCause (D.shown disk.old).faults (D.shown disk.new).faults result }
 {
@@ -201,17 +184,15 @@ pub fn put_header<D: Disk>(disk: &mut D, bytes: &[u8]) -> Result<(), Failed>
 /// Forms an unformed file.
 pub fn form_file<D: Disk>(disk: &mut D, bytes: &[u8]) -> Result<(), Failed>
     requires claimed { IsTrue (D.shown disk.old).claimed }
-    requires file { IsTrue (is_told (D.shown disk.old)) → IsSettled (told_moments (D.shown disk.old)).now
-        × IsUnformed (told_moments (D.shown disk.old)).now.read }
-    ensures formed { OnOk result (IsTrue (is_told (D.shown disk.new)) → (header : Header)
-        → IsHead header bytes.now → StandsFor (empty header) (told_moments (D.shown disk.new)).now.read) }
-    ensures moments { IsTrue (is_told (D.shown disk.new)) → (header : Header)
-        → IsHead header bytes.now → AtEach (IsUnformedOrEmpty header) (told_moments (D.shown disk.old)) (told_moments (D.shown disk.new)) }
-    ensures done { OnOk result (IsTrue (is_told (D.shown disk.new))
-        → (told_moments (D.shown disk.new)).now ≡ settled (overlaid (told_moments (D.shown disk.old)).now.read 0 (OPEN ∷ bytes.now))) }
-    ensures range { IsTrue (is_told (D.shown disk.new))
-        → AtEach (Torn 0 (1 + length bytes.now) (told_moments (D.shown disk.old)).now.read) (told_moments (D.shown disk.old))
-        (told_moments (D.shown disk.new)) }
+    requires file { IfDiskTells (D.shown disk.old) (λ moments. IsSettled moments.now × IsUnformed moments.now.read) }
+    ensures formed { OnOk result (IfDiskTells (D.shown disk.new) (λ moments. (header : Header) → IsHead header bytes.now
+        → StandsFor (empty header) moments.now.read)) }
+    ensures moments { IfDiskTold (D.shown disk.old) (D.shown disk.new)
+        (λ before after. (header : Header) → IsHead header bytes.now → AtEach (IsUnformedOrEmpty header) before after) }
+    ensures done { OnOk result (IfDiskTold (D.shown disk.old) (D.shown disk.new)
+        (λ before after. after.now ≡ settled (overlaid before.now.read 0 (OPEN ∷ bytes.now)))) }
+    ensures range { IfDiskTold (D.shown disk.old) (D.shown disk.new)
+        (λ before after. AtEach (Torn 0 (1 + length bytes.now) before.now.read) before after) }
     ensures later { IsLater (D.shown disk.old) (D.shown disk.new) }
     ensures cause { HasCause (D.shown disk.old).faults (D.shown disk.new).faults result }
 {
@@ -223,13 +204,12 @@ pub fn form_file<D: Disk>(disk: &mut D, bytes: &[u8]) -> Result<(), Failed>
 
 /// Syncs, and then reads whether the gate is open.
 fn is_open_now<D: Disk>(disk: &mut D, gate: u64) -> Result<bool, Failed>
-    ensures moments { IsTrue (is_told (D.shown disk.new)) → IsSynced (told_moments (D.shown disk.old)) (told_moments (D.shown disk.new)) }
-    ensures synced { OnOk result (IsTrue (is_told (D.shown disk.new))
-        → told_moments (D.shown disk.new) ≡ synced_at (told_moments (D.shown disk.old))) }
-    ensures open { IfOk result (λ is_open. IsTrue (is_told (D.shown disk.new))
-        → (IsTrue is_open ↔ (slice_index (told_moments (D.shown disk.old)).now.read gate ≡ OPEN))) }
-    ensures within { IfOk result (λ is_open. IsTrue (is_told (D.shown disk.new))
-        → IsTrue is_open → gate + 1 ≤ length (told_moments (D.shown disk.old)).now.read) }
+    ensures moments { IfDiskTold (D.shown disk.old) (D.shown disk.new) IsSynced }
+    ensures synced { OnOk result (IfDiskTold (D.shown disk.old) (D.shown disk.new) (λ before after. after ≡ synced_at before)) }
+    ensures open { IfOk result (λ is_open. IfDiskTold (D.shown disk.old) (D.shown disk.new)
+        (λ before _. IsTrue is_open ↔ (slice_index before.now.read gate ≡ OPEN))) }
+    ensures within { IfOk result (λ is_open. IfDiskTold (D.shown disk.old) (D.shown disk.new)
+        (λ before _. IsTrue is_open → gate + 1 ≤ length before.now.read)) }
     ensures later { IsLater (D.shown disk.old) (D.shown disk.new) }
     ensures cause { HasCause (D.shown disk.old).faults (D.shown disk.new).faults result }
 {
@@ -243,13 +223,11 @@ fn is_open_now<D: Disk>(disk: &mut D, gate: u64) -> Result<bool, Failed>
 /// what the disk has not, read it, and sync it no more.
 pub fn settle_gate<D: Disk>(disk: &mut D, gate: u64) -> Result<bool, Failed>
     requires { IsTrue (D.shown disk.old).claimed }
-    ensures moments { IsTrue (is_told (D.shown disk.new))
-        → IsReopened gate (told_moments (D.shown disk.old)) (told_moments (D.shown disk.new)) }
-    ensures settled { OnOk result (IsTrue (is_told (D.shown disk.new))
-        → IsSettled (told_moments (D.shown disk.new)).now
-        × ((told_moments (D.shown disk.new)).now.read ≡ (told_moments (D.shown disk.old)).now.read)) }
-    ensures open { IfOk result (λ is_open. IsTrue (is_told (D.shown disk.new))
-        → (IsTrue is_open ↔ (slice_index (told_moments (D.shown disk.old)).now.read gate ≡ OPEN))) }
+    ensures moments { IfDiskTold (D.shown disk.old) (D.shown disk.new) (IsReopened gate) }
+    ensures settled { OnOk result (IfDiskTold (D.shown disk.old) (D.shown disk.new)
+        (λ before after. IsSettled after.now × (after.now.read ≡ before.now.read))) }
+    ensures open { IfOk result (λ is_open. IfDiskTold (D.shown disk.old) (D.shown disk.new)
+        (λ before _. IsTrue is_open ↔ (slice_index before.now.read gate ≡ OPEN))) }
     ensures later { IsLater (D.shown disk.old) (D.shown disk.new) }
     ensures cause { HasCause (D.shown disk.old).faults (D.shown disk.new).faults result }
 {
