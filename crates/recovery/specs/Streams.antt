@@ -1,5 +1,6 @@
 -- The reports of a journal's file, given one after another.
-use Rattle.std.specs.Prelude.{◌≡◌, ℕ, ◌+◌, ◌≤◌, ◌<◌, List, [], ◌∷◌, ◌++◌, length, map, take, drop, Option, Some, None, IfSome, Result, Ok, Err}
+use Rattle.std.specs.Prelude.{◌≡◌, ℕ, ◌+◌, ◌≤◌, ◌<◌, List, [], ◌∷◌, ◌++◌, length, map, take, drop, Option, Some, None, IfSome, IsTrue, Result, Ok, Err}
+use Rattle.house_io.specs.Disks.{DiskShown, is_told, told_moments}
 use Rattle.house_io.specs.Faults.{Rose}
 use Rattle.house_io.specs.Moments.{Moments, synced_at}
 use Rattle.demand_set.specs.declared.reports.Report.{Report}
@@ -57,6 +58,10 @@ pub record HasGiven (told : Type 0) (reader : ReportsOf) (given : List Report) (
   pub window_is : told → IsWindow reader.window file
   pub broken_is : told → IfSome reader.broken (λ b. IsBroken reader.owner given b file)
 
+-- the same of the file of a disk that shows this
+abbrev pub HasGivenOf : DiskShown → ReportsOf → List Report → Type 0
+HasGivenOf disk reader given = HasGiven (IsTrue (is_told disk)) reader given (told_moments disk).now.read
+
 -- Of a scan in which no record is broken: the file is unformed, or a journal of the owner with as many records as reports.
 abbrev pub IsWhole : Owner → Scanned → List Report → Type 0
 IsWhole owner scanned.Unformed reports = reports ≡ []
@@ -81,6 +86,10 @@ Answers told reader given file (Ok (next.Report r)) =
 Answers told reader given file (Ok (next.Broken broken)) = HasGiven told reader given file × (told → IsBroken reader.owner given broken file)
 Answers told reader given file (Ok next.End) = HasGiven told reader given file × IsWhole reader.owner reader.scan given × (told → IsReadAs reader.owner given file)
 Answers told reader given file (Err fault) = HasGiven told reader given file
+
+-- the same of the file of a disk that shows this
+abbrev pub AnswersOf : DiskShown → ReportsOf → List Report → Result Next RecoverFault → Type 0
+AnswersOf disk reader given result = Answers (IsTrue (is_told disk)) reader given (told_moments disk).now.read result
 
 -- all records of a scan were given, and no record is damaged
 abbrev pub IsUndamaged : Scanned → Type 0

@@ -1,6 +1,6 @@
 //! A journal's file, read as reports.
 ghost use Rattle.std.specs.Prelude.{IsTrue, IfOk};
-ghost use Rattle.house_io.specs.Disks.{is_told, told_moments, IsLater};
+ghost use Rattle.house_io.specs.Disks.{IsLater, IfDiskTold};
 ghost use Rattle.report_journal.specs.Scans.{IsScan};
 ghost use Rattle.recovery.specs.Journaled.{owner_of};
 ghost use Rattle.recovery.specs.Causes.{IsRecovered};
@@ -33,11 +33,10 @@ pub fn read_reports<D: Disk>(
     clock: u8,
     digest: &[u8; 32],
 ) -> Result<Recovered, RecoverFault>
-    ensures recovered { IfOk result (λ r. IsTrue (is_told (D.shown disk.new))
-        → IsRecovered (owner_of terms.now clock digest.now) r.reports.items r.broken (told_moments (D.shown disk.old)).now.read) }
-    ensures scan { IfOk result (λ r. IsTrue (is_told (D.shown disk.new)) → IsScan r.scan (told_moments (D.shown disk.old)).now.read) }
-    ensures synced { IsTrue (is_told (D.shown disk.new))
-        → IsSyncedBy result (told_moments (D.shown disk.old)) (told_moments (D.shown disk.new)) }
+    ensures recovered { IfOk result (λ r. IfDiskTold (D.shown disk.old) (D.shown disk.new)
+        (λ before _. IsRecovered (owner_of terms.now clock digest.now) r.reports.items r.broken before.now.read)) }
+    ensures scan { IfOk result (λ r. IfDiskTold (D.shown disk.old) (D.shown disk.new) (λ before _. IsScan r.scan before.now.read)) }
+    ensures synced { IfDiskTold (D.shown disk.old) (D.shown disk.new) (IsSyncedBy result) }
     ensures later { IsLater (D.shown disk.old) (D.shown disk.new) }
     ensures faults { CountsFaults (D.shown disk.old).faults (D.shown disk.new).faults result }
     // Whatever the disk tells:

@@ -1,11 +1,11 @@
 //! The reports of a journal's file, one after another.
 ghost use Rattle.std.specs.Prelude.{◌≡◌, ◌≤◌, [], List, ℕ, length, slice_get, IsTrue, IfOk, IfSome, IfNone, Some, None};
-ghost use Rattle.house_io.specs.Disks.{is_told, told_moments, IsLater};
+ghost use Rattle.house_io.specs.Disks.{IsLater, IfDiskTold};
 ghost use Rattle.demand_set.specs.declared.reports.Report.{Report as ReportValue};
 ghost use Rattle.report_journal.specs.Calls.{OnlyReads};
 ghost use Rattle.report_journal.specs.Scans.{IsScan, IsInOrder, places_in};
 ghost use Rattle.recovery.specs.Journaled.{owner_of};
-ghost use Rattle.recovery.specs.Streams.{HasGiven, HasBegun, IsReportAt, HasNoReportAt, damaged_in, Answers, AnswersAgain, GoesOn, CountsFaults, IsSyncedBy};
+ghost use Rattle.recovery.specs.Streams.{HasBegun, IsReportAt, HasNoReportAt, damaged_in, AnswersAgain, GoesOn, CountsFaults, IsSyncedBy, HasGivenOf, AnswersOf};
 
 use crate::entries::read_report;
 use crate::faults::{Broken, JournalCause, RecoverFault};
@@ -79,10 +79,9 @@ impl Reports {
         digest: &[u8; 32],
     ) -> Result<Reports, RecoverFault>
         ensures begun { IfOk result (HasBegun (owner_of terms.now clock digest.now)) }
-        ensures given { IfOk result (λ r. HasGiven (IsTrue (is_told (D.shown disk.new))) r [] (told_moments (D.shown disk.new)).now.read) }
+        ensures given { IfOk result (λ r. HasGivenOf (D.shown disk.new) r []) }
         ensures in_order { IfOk result (λ r. IsInOrder r.scan) }
-        ensures synced { IsTrue (is_told (D.shown disk.new))
-            → IsSyncedBy result (told_moments (D.shown disk.old)) (told_moments (D.shown disk.new)) }
+        ensures synced { IfDiskTold (D.shown disk.old) (D.shown disk.new) (IsSyncedBy result) }
         ensures later { IsLater (D.shown disk.old) (D.shown disk.new) }
         ensures faults { CountsFaults (D.shown disk.old).faults (D.shown disk.new).faults result }
     {
@@ -122,8 +121,8 @@ impl Reports {
     /// refusal nothing changes but what was read ahead.
     pub fn next<D: Disk>(&mut self, alloc: Global, disk: &mut D) -> Result<Next, RecoverFault>
         ensures answer { (given : List ReportValue)
-            → HasGiven (IsTrue (is_told (D.shown disk.old))) self.old given (told_moments (D.shown disk.old)).now.read
-            → Answers (IsTrue (is_told (D.shown disk.new))) self.new given (told_moments (D.shown disk.new)).now.read result }
+            → HasGivenOf (D.shown disk.old) self.old given
+            → AnswersOf (D.shown disk.new) self.new given result }
         ensures goes_on { GoesOn self.old self.new result }
         ensures again { AnswersAgain self.old result }
         ensures reads { OnlyReads D.shown disk.old disk.new }
@@ -151,8 +150,8 @@ impl Reports {
         requires unbroken { self.old.broken ≡ None }
         requires next { slice_get (places_in self.old.scan) self.old.given ≡ Some place }
         ensures answer { (given : List ReportValue)
-            → HasGiven (IsTrue (is_told (D.shown disk.old))) self.old given (told_moments (D.shown disk.old)).now.read
-            → Answers (IsTrue (is_told (D.shown disk.new))) self.new given (told_moments (D.shown disk.new)).now.read result }
+            → HasGivenOf (D.shown disk.old) self.old given
+            → AnswersOf (D.shown disk.new) self.new given result }
         ensures goes_on { GoesOn self.old self.new result }
         ensures reads { OnlyReads D.shown disk.old disk.new }
         ensures faults { CountsFaults (D.shown disk.old).faults (D.shown disk.new).faults result }
@@ -225,10 +224,9 @@ fn damaged_number(scan: &Scanned) -> Option<u32>
 
 /// Scans a disk.
 fn scanned<D: Disk>(alloc: Global, disk: &mut D) -> Result<Scanned, RecoverFault>
-    ensures found { IfOk result (λ s. IsTrue (is_told (D.shown disk.new)) → IsScan s (told_moments (D.shown disk.old)).now.read) }
+    ensures found { IfOk result (λ s. IfDiskTold (D.shown disk.old) (D.shown disk.new) (λ before _. IsScan s before.now.read)) }
     ensures in_order { IfOk result IsInOrder }
-    ensures synced { IsTrue (is_told (D.shown disk.new))
-        → IsSyncedBy result (told_moments (D.shown disk.old)) (told_moments (D.shown disk.new)) }
+    ensures synced { IfDiskTold (D.shown disk.old) (D.shown disk.new) (IsSyncedBy result) }
     ensures later { IsLater (D.shown disk.old) (D.shown disk.new) }
     ensures faults { CountsFaults (D.shown disk.old).faults (D.shown disk.new).faults result }
 {

@@ -1,6 +1,6 @@
 //! Bytes of a file that are read ahead.
 ghost use Rattle.std.specs.Prelude.{◌≡◌, ◌↔◌, ◌+◌, ◌-◌, ◌≤◌, [], List, ℕ, length, take, drop, IsTrue, IfOk, OnOk};
-ghost use Rattle.house_io.specs.Disks.{is_told, told_moments};
+ghost use Rattle.house_io.specs.Disks.{IfDiskTold};
 ghost use Rattle.house_io.specs.Faults.{HasCause};
 ghost use Rattle.lot_base.specs.declared.limits.TheConstants.{GREATEST_PAYLOAD};
 ghost use Rattle.report_journal.specs.Calls.{OnlyReads};
@@ -71,10 +71,10 @@ impl Window {
     /// Reads on from this place, where it has not the whole payload there. After a fault it has no bytes.
     pub(crate) fn cover<D: Disk>(&mut self, disk: &mut D, place: Place) -> Result<(), Failed>
         requires { place.length ≤ GREATEST_PAYLOAD }
-        ensures window { IsTrue (is_told (D.shown disk.new)) → IsWindow self.old (told_moments (D.shown disk.old)).now.read
-            → IsWindow self.new (told_moments (D.shown disk.old)).now.read }
-        ensures covers { OnOk result (IsTrue (is_told (D.shown disk.new))
-            → length (payload_at (told_moments (D.shown disk.old)).now.read place) ≡ place.length → Covers self.new place) }
+        ensures window { IfDiskTold (D.shown disk.old) (D.shown disk.new)
+            (λ before _. IsWindow self.old before.now.read → IsWindow self.new before.now.read) }
+        ensures covers { OnOk result (IfDiskTold (D.shown disk.old) (D.shown disk.new)
+            (λ before _. length (payload_at before.now.read place) ≡ place.length → Covers self.new place)) }
         ensures reads { OnlyReads D.shown disk.old disk.new }
         ensures cause { HasCause (D.shown disk.old).faults (D.shown disk.new).faults result }
     {
