@@ -9,3 +9,4 @@ pub mod Nexts
 pub mod Pasts
 pub mod Mending
 pub mod Begun
+pub mod Sending

@@ -8,7 +8,7 @@ use Rattle.lot_base.specs.declared.auction_terms.Terms.{Terms}
 use Rattle.demand_set.specs.declared.reports.Report.{Report}
 use Rattle.clock.specs.Reports.{ClockHistory, most_reports}
 use Rattle.clock.specs.Judging.{IsLegal}
-use Rattle.house_io.specs.Disks.{DiskShown, is_told, told_moments}
+use Rattle.house_io.specs.Disks.{DiskShown, IfDiskTells, is_told, told_moments}
 use Rattle.house_io.specs.Moments.{Moments, Leaves}
 use Rattle.report_journal.specs.Format.{front}
 use Rattle.report_journal.specs.Journals.{JournalOf}
@@ -48,9 +48,9 @@ pub record IsKept {D : Type 0} (shown : D → DiskShown) (b : BookOf D) : Type 0
   pub next : IfSome b.state.pending (IsNext b.state.clock)
   pub doubt : IfSome b.state.pending (IsInDoubt b.state.history)
   -- what the disk's file stands for, at each image now and at each moment since the opening; a disk that tells told then
-  pub stands : IsTrue (is_told (shown b.disk)) → Leaves (IsEither (owner_in b.origin) b.state.clock.reports b.state.pending) (told_moments (shown b.disk)).now
-  pub past : IsTrue (is_told (shown b.disk)) → KeepsPast b.origin b.state.clock b.state.history (told_moments (shown b.disk))
-  pub first : IsTrue (is_told (shown b.disk)) → IsTrue b.origin.told
+  pub stands : IfDiskTells (shown b.disk) (λ moments. Leaves (IsEither (owner_in b.origin) b.state.clock.reports b.state.pending) moments.now)
+  pub past : IfDiskTells (shown b.disk) (λ moments. KeepsPast b.origin b.state.clock b.state.history moments)
+  pub first : IfDiskTells (shown b.disk) (λ _. IsTrue b.origin.told)
   -- nobody else writes the file
   pub claimed : IsTrue (shown b.disk).claimed
 
@@ -102,3 +102,7 @@ pub record IsBook {D : Type 0} (j : JournalOf D) (told : Type 0) (ms : Moments) 
   pub contents : told → j.contents ≡ contents_of (owner_in origin) n.clock.reports
   pub past : told → KeepsPast origin n.clock n.history ms
   pub first : told → IsTrue origin.told
+
+-- the same on a disk that shows this
+abbrev pub IsBookOn : {D : Type 0} → DiskShown → JournalOf D → NotedOf → Option Report → Origin → Type 0
+IsBookOn disk j n pending origin = IsBook j (IsTrue (is_told disk)) (told_moments disk) disk.faults n pending origin

@@ -1,5 +1,6 @@
 pub mod Opening
 pub mod DeskHistories
+pub mod Noted
 pub mod Past
 pub mod Books
 pub mod Offers

@@ -1,6 +1,6 @@
 -- What an offer does to a book.
 use Rattle.std.specs.Prelude.{◌≡◌, ◌≢◌, ◌⊎◌, ℕ, ◌+◌, ◌<◌, ◌≤◌, List, [], ◌∷◌, ◌++◌, length, slice_index, IsTrue, Option, Some, None, IsSome}
-use Rattle.house_io.specs.Disks.{DiskShown, is_told, told_moments, IsLater}
+use Rattle.house_io.specs.Disks.{DiskShown, IfDiskTells, IfDiskTold, IsLater}
 use Rattle.lot_base.specs.declared.limits.TheConstants.{GREATEST_FILE}
 use Rattle.demand_set.specs.declared.reports.Report.{Report}
 use Rattle.clock.specs.Reports.{with_report}
@@ -71,11 +71,11 @@ Answers owner answers.NoMemory mid r new = ⊥
 
 -- The mend fails: what is pending stays, and a mark of the offered report is all that is appended. What a crash leaves at any moment
 -- is the reports, or these and the pending one; of this it speaks where the disk tells.
-pub record MendFails (owner : Owner) (old : BookState) (r : Report) (answer : Offered) (new : BookState) (told : Type 0) (before after : Moments) : Type 0 where
+pub record MendFails (owner : Owner) (old : BookState) (r : Report) (answer : Offered) (new : BookState) (before after : DiskShown) : Type 0 where
   pub fault : answer ≡ answers.DiskFault
   pub pending : IsSome old.pending
   pub marks : new ≡ marked old r
-  pub leaves : told → AtEach (IsEither owner old.clock.reports old.pending) before after
+  pub leaves : IfDiskTold before after (AtEach (IsEither owner old.clock.reports old.pending))
 
 -- What a crash leaves at any moment of an offer whose mend left this state: the reports at its start or these and the pending one, and
 -- then the reports after the mend or these and the offered one. The file as it was when the call began decides the mend.
@@ -86,15 +86,15 @@ pub record LeavesBy (owner : Owner) (old mid : BookState) (r : Report) (before a
   pub gate : IsByGate owner before.now.read old mid
 
 -- The mend leaves one state. The answer is that of this state, and so is what a crash leaves, where the disk tells.
-pub record IsAnswered (owner : Owner) (old : BookState) (r : Report) (answer : Offered) (new : BookState) (told : Type 0) (before after : Moments) : Type 0 where
+pub record IsAnswered (owner : Owner) (old : BookState) (r : Report) (answer : Offered) (new : BookState) (before after : DiskShown) : Type 0 where
   pub mid : BookState
   pub mended : IsMended old mid
   pub answered : Answers owner answer mid r new
-  pub leaves : told → LeavesBy owner old mid r before after
+  pub leaves : IfDiskTold before after (LeavesBy owner old mid r)
 
--- an offer between these moments of a disk: the mend fails, or it does not, and an answer follows
-abbrev pub IsOffer : Owner → BookState → Report → Offered → BookState → Type 0 → Moments → Moments → Type 0
-IsOffer owner old r answer new told before after = MendFails owner old r answer new told before after ⊎ IsAnswered owner old r answer new told before after
+-- an offer, over which a disk came from the one state to the other: the mend fails, or it does not, and an answer follows
+abbrev pub IsOffer : Owner → BookState → Report → Offered → BookState → DiskShown → DiskShown → Type 0
+IsOffer owner old r answer new before after = MendFails owner old r answer new before after ⊎ IsAnswered owner old r answer new before after
 
 -- The count of a disk's faults over an offer: it never falls, and with any answer but DiskFault it is as before.
 abbrev pub CountsOffer : ℕ → ℕ → Offered → Type 0
@@ -104,9 +104,9 @@ CountsOffer before now answer = now ≡ before
 -- The whole of an offer to a book, with what a crash may leave at any moment of the call, and once it is answered. Of the disk's contents
 -- it speaks where these are told at its end.
 pub record Offers {D : Type 0} (shown : D → DiskShown) (r : Report) (old new : BookOf D) (result : Offered) : Type 0 where
-  pub answer : IsOffer (owner_in old.origin) old.state r result new.state (IsTrue (is_told (shown new.disk))) (told_moments (shown old.disk)) (told_moments (shown new.disk))
+  pub answer : IsOffer (owner_in old.origin) old.state r result new.state (shown old.disk) (shown new.disk)
   pub origin : new.origin ≡ old.origin
   pub cause : result ≡ answers.DiskFault → Rose (shown old.disk).faults (shown new.disk).faults
   pub counts : CountsOffer (shown old.disk).faults (shown new.disk).faults result
   pub later : IsLater (shown old.disk) (shown new.disk)
-  pub every_image : IsTrue (is_told (shown new.disk)) → Leaves (IsEither (owner_in new.origin) new.state.clock.reports new.state.pending) (told_moments (shown new.disk)).now
+  pub every_image : IfDiskTells (shown new.disk) (λ moments. Leaves (IsEither (owner_in new.origin) new.state.clock.reports new.state.pending) moments.now)

@@ -1,6 +1,6 @@
 -- How a book is opened on a disk.
 use Rattle.std.specs.Prelude.{◌≡◌, ◌⊎◌, ◌≤◌, ℕ, ◌+◌, false, IsTrue, List, length, map, take, None, Result, Ok, Err}
-use Rattle.house_io.specs.Disks.{DiskShown, is_told, told_moments, IsLater}
+use Rattle.house_io.specs.Disks.{DiskShown, is_told, told_moments, IfDiskTells, IfDiskTold, HasTold, IsLater}
 use Rattle.demand_set.specs.declared.reports.Report.{Report}
 use Rattle.house_io.specs.Moments.{Moments, AtEach, synced_at}
 use Rattle.clock.specs.Reports.{ClockHistory, ClockOf, most_reports}
@@ -31,6 +31,10 @@ pub record IsFound (told : Type 0) (owner : Owner) (reports : List Report) (scan
   pub scan_is : told → IsScan scan file
   pub payloads : told → payloads_at file (take (length reports) (places_in scan)) ≡ map (payload_of (length owner.terms.goods)) reports
 
+-- the same of the file of a disk that shows this
+abbrev pub IsFoundOn : DiskShown → Owner → List Report → Scanned → Type 0
+IsFoundOn disk owner reports scan = IsFound (IsTrue (is_told disk)) owner reports scan (told_moments disk).now.read
+
 -- what a reading with the scan answers
 abbrev pub ReadsBook : Owner → List ℕ → Result (ClockOf × Scanned) OpenFault → Type 0
 ReadsBook owner file (Ok found) = IsOpening owner file (Ok found.0.history)
@@ -49,18 +53,22 @@ pub record IsNotedAs (told : Type 0) (owner : Owner) (n : NotedOf) (scan : Scann
   pub quantities : most_quantities owner.terms owner.clock ≤ quantities_in n.clock.reports + n.spare_quantities
   pub found : IsFound told owner n.clock.reports scan file
 
+-- the same of the file of a disk that shows this
+abbrev pub IsNotedOn : DiskShown → Owner → NotedOf → Scanned → Type 0
+IsNotedOn disk owner n scan = IsNotedAs (IsTrue (is_told disk)) owner n scan (told_moments disk).now.read
+
 abbrev pub ReadsNoted : Owner → List ℕ → Result (NotedOf × Scanned) OpenFault → Type 0
 ReadsNoted owner file (Ok found) = IsOpening owner file (Ok found.0.clock)
 ReadsNoted owner file (Err fault) = ReadsClock owner file (Err fault)
 
 -- the journal of these reports on a disk that was scanned: an unformed file was formed, and any other was left as it was
 pub record IsLaid {D : Type 0} (shown : D → DiskShown) (owner : Owner) (reports : List Report) (old : D) (j : JournalOf D) : Type 0 where
-  pub contents : IsTrue (is_told (shown j.disk)) → j.contents ≡ contents_of owner reports
+  pub contents : IfDiskTells (shown j.disk) (λ _. j.contents ≡ contents_of owner reports)
   pub end : j.end ≡ length (front (contents_of owner reports))
   pub pending : j.pending ≡ None
   pub later : IsLater (shown old) (shown j.disk)
   pub steady : (shown j.disk).faults ≡ (shown old).faults
-  pub leaves : IsTrue (is_told (shown j.disk)) → AtEach (IsAsOpened owner (told_moments (shown old)).now.read) (told_moments (shown old)) (told_moments (shown j.disk))
+  pub leaves : IfDiskTold (shown old) (shown j.disk) (λ before after. AtEach (IsAsOpened owner before.now.read) before after)
 
 -- a fault of the disk, or want of memory
 abbrev pub IsFromOutside : OpenFault → Type 0
@@ -80,7 +88,7 @@ pub record IsNotBegun {D : Type 0} (shown : D → DiskShown) (owner : Owner) (ol
   pub counts : CountsFaults {T = ℕ} (shown old).faults (shown new).faults (Err fault)
   pub outside : IsFromOutside fault
   pub later : IsLater (shown old) (shown new)
-  pub leaves : IsTrue (is_told (shown new)) → AtEach (IsAsOpened owner (told_moments (shown old)).now.read) (told_moments (shown old)) (told_moments (shown new))
+  pub leaves : IfDiskTold (shown old) (shown new) (λ before after. AtEach (IsAsOpened owner before.now.read) before after)
 
 -- the origin is that of this owner, and of so many reports at opening
 pub record IsOf (owner : Owner) (reports : ℕ) (origin : Origin) : Type 0 where
@@ -104,24 +112,24 @@ pub record Begins {D : Type 0} (shown : D → DiskShown) (owner : Owner) (c : Cl
   pub later : IsLater (shown old) (shown b.disk)
   pub told_is : b.origin.told ≡ is_told (shown b.disk)
   pub steady : (shown b.disk).faults ≡ (shown old).faults
-  pub leaves : IsTrue (is_told (shown b.disk)) → OpenLeaves owner (told_moments (shown old)) (told_moments (shown b.disk)) b.origin
+  pub leaves : IfDiskTold (shown old) (shown b.disk) (λ before after. OpenLeaves owner before after b.origin)
 
 -- A book that was opened, on a disk that was claimed first. Its history is legal, each of its reports is noted as offered, and there is
 -- no mark. Where the disk tells, its reports are those of the file as it was read at the sync that followed the claim.
 pub record Opens {D : Type 0} (shown : D → DiskShown) (owner : Owner) (old : D) (b : BookOf D) : Type 0 where
   pub history : IsHistoryOf owner b.state.clock
   pub state : b.state ≡ record { clock = b.state.clock; history = map Offered b.state.clock.reports; pending = None }
-  pub read : IsTrue (is_told (shown b.disk)) → IsOpening owner (told_moments (shown old)).now.read (Ok b.state.clock)
+  pub read : IfDiskTold (shown old) (shown b.disk) (λ before _. IsOpening owner before.now.read (Ok b.state.clock))
   pub origin : IsOf owner (length b.state.clock.reports) b.origin
-  pub told : IsTrue (is_told (shown b.disk)) → IsTrue (is_told (shown old))
+  pub told : HasTold (shown old) (shown b.disk)
   pub claimed : IsTrue (shown b.disk).claimed
   pub told_is : b.origin.told ≡ is_told (shown b.disk)
   pub steady : (shown b.disk).faults ≡ (shown old).faults
-  pub leaves : IsTrue (is_told (shown b.disk)) → OpenLeaves owner (synced_at (told_moments (shown old))) (told_moments (shown b.disk)) b.origin
+  pub leaves : IfDiskTold (shown old) (shown b.disk) (λ before after. OpenLeaves owner (synced_at before) after b.origin)
 
 -- a disk that is not claimed was left as it was
 abbrev pub IsLeftUnlessClaimed : DiskShown → DiskShown → Type 0
-IsLeftUnlessClaimed before after = after.claimed ≡ false → IsTrue (is_told after) → told_moments after ≡ told_moments before
+IsLeftUnlessClaimed before after = after.claimed ≡ false → IfDiskTold before after (λ was now. now ≡ was)
 
 -- what a crash at any moment of an opening that was refused leaves from its sync on, if there was one
 abbrev pub LeftUnopened : Owner → Moments → Moments → Type 0
@@ -129,8 +137,8 @@ LeftUnopened owner old new = (new ≡ old) ⊎ AtEach (IsAsOpened owner old.now.
 
 -- a disk on which no book was opened, and why
 pub record IsUnopened {D : Type 0} (shown : D → DiskShown) (owner : Owner) (old new : D) (fault : OpenFault) : Type 0 where
-  pub refused : IsTrue (is_told (shown new)) → ReadsClock owner (told_moments (shown old)).now.read (Err fault)
+  pub refused : IfDiskTold (shown old) (shown new) (λ before _. ReadsClock owner before.now.read (Err fault))
   pub counts : CountsFaults {T = ℕ} (shown old).faults (shown new).faults (Err fault)
-  pub told : IsTrue (is_told (shown new)) → IsTrue (is_told (shown old))
-  pub leaves : IsTrue (is_told (shown new)) → LeftUnopened owner (told_moments (shown old)) (told_moments (shown new))
+  pub told : HasTold (shown old) (shown new)
+  pub leaves : IfDiskTold (shown old) (shown new) (LeftUnopened owner)
   pub unclaimed : IsLeftUnlessClaimed (shown old) (shown new)

@@ -1,6 +1,6 @@
 //! A clock book.
 ghost use Rattle.std.specs.Prelude.{◌≡◌, ◌<◌, ◌≤◌, ◌%◌, ◌^◌, ◌↔◌, length, IsTrue, IsSome, OnOk, OnErr, Some, None};
-ghost use Rattle.house_io.specs.Disks.{is_told, told_moments, IsLater};
+ghost use Rattle.house_io.specs.Disks.{IsLater, IfDiskTold};
 ghost use Rattle.lot_base.specs.Demands.{IsDemand};
 ghost use Rattle.house_io.specs.Faults.{HasCause, Rose};
 ghost use Rattle.house_io.specs.Moments.{AtEach};
@@ -38,9 +38,8 @@ pub struct ClockBook<D: Disk> {
 }
 
 impl<D: Disk> Model for ClockBook<D> {
-    ghost use Rattle.house_io.specs.Disks.{is_told, told_moments};
     ghost use Rattle.std.specs.Prelude.{IsTrue};
-    ghost use Rattle.clock_book.specs.Books.{BookOf, IsBook};
+    ghost use Rattle.clock_book.specs.Books.{BookOf, IsBookOn};
 
     ghost Value = { BookOf D };
 
@@ -50,8 +49,7 @@ impl<D: Disk> Model for ClockBook<D> {
       origin = b.start;
     } };
 
-    ghost invariant = { λ b. IsBook b.journal (IsTrue (is_told (D.shown b.journal.disk))) (told_moments (D.shown b.journal.disk))
-        (D.shown b.journal.disk).faults b.noted b.pending b.start };
+    ghost invariant = { λ b. IsBookOn (D.shown b.journal.disk) b.journal b.noted b.pending b.start };
 }
 
 impl<D: Disk> ClockBook<D> {
@@ -60,15 +58,14 @@ impl<D: Disk> ClockBook<D> {
     /// Counts or drops the pending report, if there is one. Where the disk fails it is still pending, and the offered report is marked.
     fn settle_pending(&mut self, alloc: Global, offered: &Report) -> Result<(), Failed>
         ensures mended { OnOk result (IsMended self.old.state self.new.state) }
-        ensures gate { OnOk result (IsTrue (is_told (D.shown self.new.disk))
-            → IsByGate (owner_in self.old.origin) (told_moments (D.shown self.old.disk)).now.read self.old.state self.new.state) }
+        ensures gate { OnOk result (IfDiskTold (D.shown self.old.disk) (D.shown self.new.disk)
+            (λ before _. IsByGate (owner_in self.old.origin) before.now.read self.old.state self.new.state)) }
         ensures failed { OnErr result (IsSome self.old.state.pending × (self.new.state ≡ marked self.old.state offered.now)) }
         ensures cause { HasCause (D.shown self.old.disk).faults (D.shown self.new.disk).faults result }
         ensures origin { self.new.origin ≡ self.old.origin }
         ensures later { IsLater (D.shown self.old.disk) (D.shown self.new.disk) }
-        ensures moments { IsTrue (is_told (D.shown self.new.disk))
-            → AtEach (IsEither (owner_in self.old.origin) self.old.state.clock.reports self.old.state.pending)
-            (told_moments (D.shown self.old.disk)) (told_moments (D.shown self.new.disk)) }
+        ensures moments { IfDiskTold (D.shown self.old.disk) (D.shown self.new.disk)
+            (AtEach (IsEither (owner_in self.old.origin) self.old.state.clock.reports self.old.state.pending)) }
     {
         let _kept = self.journal.count();
         match self.journal.mend() {
@@ -103,9 +100,8 @@ impl<D: Disk> ClockBook<D> {
         ensures origin { self.new.origin ≡ self.old.origin }
         ensures later { IsLater (D.shown self.old.disk) (D.shown self.new.disk) }
         ensures faults { CountsOffer (D.shown self.old.disk).faults (D.shown self.new.disk).faults result }
-        ensures moments { IsTrue (is_told (D.shown self.new.disk))
-            → AtEach (IsEither (owner_in self.old.origin) self.old.state.clock.reports (Some report)) (told_moments (D.shown self.old.disk))
-            (told_moments (D.shown self.new.disk)) }
+        ensures moments { IfDiskTold (D.shown self.old.disk) (D.shown self.new.disk)
+            (AtEach (IsEither (owner_in self.old.origin) self.old.state.clock.reports (Some report))) }
     {
         let _kept = self.journal.count();
         let _more = self.noted.clock();
@@ -144,9 +140,8 @@ impl<D: Disk> ClockBook<D> {
         ensures origin { self.new.origin ≡ self.old.origin }
         ensures later { IsLater (D.shown self.old.disk) (D.shown self.new.disk) }
         ensures faults { CountsOffer (D.shown self.old.disk).faults (D.shown self.new.disk).faults result }
-        ensures moments { IsTrue (is_told (D.shown self.new.disk))
-            → AtEach (IsEither (owner_in self.old.origin) self.old.state.clock.reports (Some report)) (told_moments (D.shown self.old.disk))
-            (told_moments (D.shown self.new.disk)) }
+        ensures moments { IfDiskTold (D.shown self.old.disk) (D.shown self.new.disk)
+            (AtEach (IsEither (owner_in self.old.origin) self.old.state.clock.reports (Some report))) }
     {
         let clock = self.clock();
         match clock.judge(report.bidder, report.round, &report.demand) {
@@ -159,8 +154,8 @@ impl<D: Disk> ClockBook<D> {
     /// Mends, judges a report, and appends it where it is to be taken.
     fn mend_and_answer<H: Hint>(&mut self, alloc: Global, report: Report, hint: &H) -> Offered
         requires { IsDemand self.old.state.clock.terms.goods report.demand }
-        ensures answer { IsOffer (owner_in self.old.origin) self.old.state report result self.new.state
-            (IsTrue (is_told (D.shown self.new.disk))) (told_moments (D.shown self.old.disk)) (told_moments (D.shown self.new.disk)) }
+        ensures answer { IsOffer (owner_in self.old.origin) self.old.state report result self.new.state (D.shown self.old.disk)
+            (D.shown self.new.disk) }
         ensures cause { result ≡ DiskFault → Rose (D.shown self.old.disk).faults (D.shown self.new.disk).faults }
         ensures origin { self.new.origin ≡ self.old.origin }
         ensures later { IsLater (D.shown self.old.disk) (D.shown self.new.disk) }

@@ -9,11 +9,13 @@ mod noted;
 pub mod opening;
 mod origins;
 mod payloads;
+pub mod shared;
 pub mod starting;
 
 pub use books::ClockBook;
-pub use entries::{Entry, Note};
+pub use entries::{Entry, Note, Since};
 pub use faults::OpenFault;
 pub use opening::read_clock;
 pub use origins::Origin;
+pub use shared::book_may_move;
 pub use starting::Unopened;

@@ -7,10 +7,9 @@ ghost use Rattle.clock.specs.Judging.{judgement_of};
 ghost use Rattle.clock.specs.Reports.{with_report, applied};
 ghost use Rattle.clock.specs.declared.judging.Judgement.TheVariants.{Take};
 
-use crate::entries::Note;
+use crate::entries::{Note, Since, note_behind};
 use clock::Clock;
 use demand_set::Report;
-use http_server::Log;
 use std::alloc::Global;
 use std::marker::Model;
 use std::snapshot::Snapshot;
@@ -24,24 +23,25 @@ pub(crate) struct NotedClock {
     /// The clock as it was at the opening, whose reports are all noted as offered.
     opened: Snapshot<Clock>,
     /// The reports that were offered since, with what is noted of each.
-    since: Log<Report, Note>,
+    since: Since,
     /// How many marks there are, modulo 2^64.
     marks: u64,
 }
 
 impl Model for NotedClock {
     ghost use Rattle.clock_book.specs.DeskHistories.{NotedOf, history_of, IsNoted};
+    ghost use Rattle.clock_book.specs.Noted.{noted_in};
 
     ghost Value = { NotedOf };
 
     ghost view = { λ n. record {
       clock = n.clock.history;
-      history = history_of n.opened.value.history.reports n.since.items;
+      history = history_of n.opened.value.history.reports (noted_in n.since);
       spare_reports = n.clock.spare_reports;
       spare_quantities = n.clock.spare_quantities;
     } };
 
-    ghost invariant = { λ n. IsNoted n.clock.history.reports (history_of n.opened.value.history.reports n.since.items) n.marks };
+    ghost invariant = { λ n. IsNoted n.clock.history.reports (history_of n.opened.value.history.reports (noted_in n.since)) n.marks };
 }
 
 impl NotedClock {
@@ -62,7 +62,7 @@ impl NotedClock {
         NotedClock {
             clock,
             opened,
-            since: Log::new(),
+            since: Since::Opening,
             marks: 0,
         }
     }
@@ -111,7 +111,7 @@ impl NotedClock {
         ensures reports { self.old.spare_reports ≤ self.new.spare_reports + 1 }
         ensures quantities { self.old.spare_quantities ≤ self.new.spare_quantities + length (concat report.demand) }
     {
-        self.since = self.since.and(&report, &note);
+        self.since = note_behind(&self.since, &report, note);
         apply_reserved(alloc, &mut self.clock, report);
     }
 
@@ -122,7 +122,7 @@ impl NotedClock {
         ensures reports { self.new.spare_reports ≡ self.old.spare_reports }
         ensures quantities { self.new.spare_quantities ≡ self.old.spare_quantities }
     {
-        self.since = self.since.and(report, &Note::Failed);
+        self.since = note_behind(&self.since, report, Note::Failed);
         self.marks = self.marks.wrapping_add(1);
     }
 }

@@ -1,13 +1,13 @@
 //! A clock that is read from a journal.
 ghost use Rattle.std.specs.Prelude.{◌≡◌, ◌≤◌, [], IsTrue, IfOk, IfErr, OnOk};
-ghost use Rattle.house_io.specs.Disks.{is_told, told_moments, IsLater};
+ghost use Rattle.house_io.specs.Disks.{IsLater, IfDiskTold};
 ghost use Rattle.lot_base.specs.Demands.{IsDemand};
 ghost use Rattle.clock.specs.Reports.{with_report, applied};
 ghost use Rattle.clock.specs.Judging.{judgement_of};
 ghost use Rattle.clock.specs.declared.judging.Judgement.TheVariants.{Take};
 ghost use Rattle.recovery.specs.Journaled.{owner_of};
 ghost use Rattle.clock_book.specs.Opening.{history_of, IsHistoryOf, ReadsClock, Takes, CountsFaults, IsSyncedBy};
-ghost use Rattle.clock_book.specs.Opened.{ReadsBook, IsFound, KeepsRoom};
+ghost use Rattle.clock_book.specs.Opened.{ReadsBook, KeepsRoom, IsFoundOn};
 
 use crate::faults::OpenFault;
 use clock::{Clock, Judgement};
@@ -28,11 +28,10 @@ pub fn read_clock<D: Disk>(
     digest: &[u8; 32],
 ) -> Result<Clock, OpenFault>
     requires { clock ≤ terms.now.bidders }
-    ensures read { IsTrue (is_told (D.shown disk.new))
-        → ReadsClock (owner_of terms.now clock digest.now) (told_moments (D.shown disk.old)).now.read result }
+    ensures read { IfDiskTold (D.shown disk.old) (D.shown disk.new)
+        (λ before _. ReadsClock (owner_of terms.now clock digest.now) before.now.read result) }
     ensures history { IfOk result (λ c. IsHistoryOf (owner_of terms.now clock digest.now) c.history) }
-    ensures synced { IsTrue (is_told (D.shown disk.new))
-        → IsSyncedBy result (told_moments (D.shown disk.old)) (told_moments (D.shown disk.new)) }
+    ensures synced { IfDiskTold (D.shown disk.old) (D.shown disk.new) (IsSyncedBy result) }
     ensures later { IsLater (D.shown disk.old) (D.shown disk.new) }
     ensures faults { CountsFaults (D.shown disk.old).faults (D.shown disk.new).faults result }
 {
@@ -54,14 +53,13 @@ pub(crate) fn read_into<D: Disk>(
 ) -> Result<(Clock, Scanned), OpenFault>
     requires number { clock ≤ terms.now.bidders }
     requires empty { empty.history ≡ history_of (owner_of terms.now clock digest.now) [] }
-    ensures read { IsTrue (is_told (D.shown disk.new))
-        → ReadsBook (owner_of terms.now clock digest.now) (told_moments (D.shown disk.old)).now.read result }
+    ensures read { IfDiskTold (D.shown disk.old) (D.shown disk.new)
+        (λ before _. ReadsBook (owner_of terms.now clock digest.now) before.now.read result) }
     ensures history { IfOk result (λ r. IsHistoryOf (owner_of terms.now clock digest.now) r.0.history) }
-    ensures found { IfOk result (λ r. IsFound (IsTrue (is_told (D.shown disk.new))) (owner_of terms.now clock digest.now)
-        r.0.history.reports r.1 (told_moments (D.shown disk.new)).now.read) }
+    ensures found { IfOk result (λ r. IsFoundOn (D.shown disk.new) (owner_of terms.now clock digest.now)
+        r.0.history.reports r.1) }
     ensures room { IfOk result (λ r. KeepsRoom empty r.0) }
-    ensures synced { IsTrue (is_told (D.shown disk.new))
-        → IsSyncedBy result (told_moments (D.shown disk.old)) (told_moments (D.shown disk.new)) }
+    ensures synced { IfDiskTold (D.shown disk.old) (D.shown disk.new) (IsSyncedBy result) }
     ensures later { IsLater (D.shown disk.old) (D.shown disk.new) }
     ensures faults { CountsFaults (D.shown disk.old).faults (D.shown disk.new).faults result }
 {

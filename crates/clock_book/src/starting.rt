@@ -1,6 +1,6 @@
 //! How a book is opened.
 ghost use Rattle.std.specs.Prelude.{◌≡◌, ◌≤◌, ◌*◌, [], List, ℕ, length, min, max, IsTrue, IfOk, IfErr};
-ghost use Rattle.house_io.specs.Disks.{is_told, told_moments, IsLater};
+ghost use Rattle.house_io.specs.Disks.{IsLater, IfDiskTells, IfDiskTold};
 ghost use Rattle.lot_base.specs.Goods.{box_size};
 ghost use Rattle.demand_set.specs.declared.reports.Report.{Report as ReportValue};
 ghost use Rattle.house_io.specs.Moments.{IsSettled};
@@ -10,7 +10,7 @@ ghost use Rattle.recovery.specs.Journaled.{owner_of, header_of};
 ghost use Rattle.recovery.specs.Streams.{IsUndamaged};
 ghost use Rattle.clock_book.specs.declared.faults.OpenFault.TheVariants as why;
 ghost use Rattle.clock_book.specs.Opening.{CountsFaults, IsSyncedBy};
-ghost use Rattle.clock_book.specs.Opened.{not_formed, ReadsNoted, IsNotedAs, IsFound, IsLaid, IsNotBegun, Begins, Opens, IsUnopened};
+ghost use Rattle.clock_book.specs.Opened.{not_formed, ReadsNoted, IsLaid, IsNotBegun, Begins, Opens, IsUnopened, IsFoundOn, IsNotedOn};
 
 use crate::books::ClockBook;
 use crate::faults::OpenFault;
@@ -75,12 +75,10 @@ fn read_noted<D: Disk>(
     digest: &[u8; 32],
 ) -> Result<(NotedClock, Scanned), OpenFault>
     requires { clock ≤ terms.now.bidders }
-    ensures read { IsTrue (is_told (D.shown disk.new))
-        → ReadsNoted (owner_of terms.now clock digest.now) (told_moments (D.shown disk.old)).now.read result }
-    ensures noted { IfOk result (λ r. IsNotedAs (IsTrue (is_told (D.shown disk.new))) (owner_of terms.now clock digest.now) r.0 r.1
-        (told_moments (D.shown disk.new)).now.read) }
-    ensures synced { IsTrue (is_told (D.shown disk.new))
-        → IsSyncedBy result (told_moments (D.shown disk.old)) (told_moments (D.shown disk.new)) }
+    ensures read { IfDiskTold (D.shown disk.old) (D.shown disk.new)
+        (λ before _. ReadsNoted (owner_of terms.now clock digest.now) before.now.read result) }
+    ensures noted { IfOk result (λ r. IsNotedOn (D.shown disk.new) (owner_of terms.now clock digest.now) r.0 r.1) }
+    ensures synced { IfDiskTold (D.shown disk.old) (D.shown disk.new) (IsSyncedBy result) }
     ensures later { IsLater (D.shown disk.old) (D.shown disk.new) }
     ensures faults { CountsFaults (D.shown disk.old).faults (D.shown disk.new).faults result }
 {
@@ -114,9 +112,8 @@ fn begin<D: Disk>(
 ) -> Result<ClockBook<D>, Unopened<D>>
     requires claimed { IsTrue (D.shown disk).claimed }
     requires number { clock ≤ terms.now.bidders }
-    requires settled { IsTrue (is_told (D.shown disk)) → IsSettled (told_moments (D.shown disk)).now }
-    requires noted { IsNotedAs (IsTrue (is_told (D.shown disk))) (owner_of terms.now clock digest.now) noted scan
-        (told_moments (D.shown disk)).now.read }
+    requires settled { IfDiskTells (D.shown disk) (λ moments. IsSettled moments.now) }
+    requires noted { IsNotedOn (D.shown disk) (owner_of terms.now clock digest.now) noted scan }
     ensures ok { IfOk result (λ b. Begins D.shown (owner_of terms.now clock digest.now) noted.clock disk b) }
     ensures err { IfErr result (λ e. IsNotBegun D.shown (owner_of terms.now clock digest.now) disk e.disk e.fault) }
 {
@@ -165,11 +162,9 @@ fn roomy_journal<D: Disk>(
     requires claimed { IsTrue (D.shown disk).claimed }
     requires in_order { IsInOrder scan }
     requires undamaged { IsUndamaged scan }
-    requires scanned { IsTrue (is_told (D.shown disk)) → IsSettled (told_moments (D.shown disk)).now
-        × IsScan scan (told_moments (D.shown disk)).now.read }
+    requires scanned { IfDiskTells (D.shown disk) (λ moments. IsSettled moments.now × IsScan scan moments.now.read) }
     ensures laid { IfOk result (λ j. (reports : List ReportValue)
-        → IsFound (IsTrue (is_told (D.shown disk))) (owner_of terms.now clock digest.now) reports scan
-        (told_moments (D.shown disk)).now.read
+        → IsFoundOn (D.shown disk) (owner_of terms.now clock digest.now) reports scan
         → IsLaid D.shown (owner_of terms.now clock digest.now) reports disk j) }
     ensures roomy { IfOk result (λ j. most ≤ j.spare) }
     ensures err { IfErr result (λ e. IsNotBegun D.shown (owner_of terms.now clock digest.now) disk e.disk e.fault) }
@@ -198,11 +193,9 @@ fn journal_on<D: Disk>(
     requires claimed { IsTrue (D.shown disk).claimed }
     requires in_order { IsInOrder scan }
     requires undamaged { IsUndamaged scan }
-    requires scanned { IsTrue (is_told (D.shown disk)) → IsSettled (told_moments (D.shown disk)).now
-        × IsScan scan (told_moments (D.shown disk)).now.read }
+    requires scanned { IfDiskTells (D.shown disk) (λ moments. IsSettled moments.now × IsScan scan moments.now.read) }
     ensures laid { IfOk result (λ j. (reports : List ReportValue)
-        → IsFound (IsTrue (is_told (D.shown disk))) (owner_of terms.now clock digest.now) reports scan
-        (told_moments (D.shown disk)).now.read
+        → IsFoundOn (D.shown disk) (owner_of terms.now clock digest.now) reports scan
         → IsLaid D.shown (owner_of terms.now clock digest.now) reports disk j) }
     ensures left { IfOk result (λ j. IsNotBegun D.shown (owner_of terms.now clock digest.now) disk j.disk why.NoMemory) }
     ensures err { IfErr result (λ e. IsNotBegun D.shown (owner_of terms.now clock digest.now) disk e.disk e.fault) }
@@ -222,8 +215,7 @@ fn formed<D: Disk>(
     digest: &[u8; 32],
 ) -> Result<Journal<D>, Unopened<D>>
     requires claimed { IsTrue (D.shown disk).claimed }
-    requires unformed { IsTrue (is_told (D.shown disk)) → IsSettled (told_moments (D.shown disk)).now
-        × IsUnformed (told_moments (D.shown disk)).now.read }
+    requires unformed { IfDiskTells (D.shown disk) (λ moments. IsSettled moments.now × IsUnformed moments.now.read) }
     ensures laid { IfOk result (λ j. IsLaid D.shown (owner_of terms.now clock digest.now) [] disk j) }
     ensures err { IfErr result (λ e. IsNotBegun D.shown (owner_of terms.now clock digest.now) disk e.disk e.fault) }
 {
