@@ -18,7 +18,7 @@ use Rattle.clock_book.specs.DeskHistories.{reports_in}
 use Rattle.clock_book.specs.Opening.{history_of}
 use Rattle.clock_book.specs.Past.{owner_in}
 use Rattle.clock_book.proofs.Histories.{reports-append}
-use Rattle.turn_desk.specs.Histories.{StartsWith}
+use Rattle.turn_desk.specs.Histories.{StartsWith, StartsWithAll}
 use Rattle.turn_desk.specs.Passes.{Known, PassGlances, after_giving}
 use Rattle.clock_family.specs.Turns.{Shows, IsOf, PassLooks, clock_in}
 use Rattle.clock_family.specs.Glances.{stopped, gauge_by, gauge_in, IsShownTo, SeesOn}
@@ -132,6 +132,7 @@ looks-behind look old mid new on looks =
       origin_is = ap (λ (p : Known Entry Origin). p.origin) (sym on.sees) ∙ looks.origin_is;
       before = looks.before;
       goes_on = (on.goes_on.0 ++ more.0, more.1 ∙ ap (λ l. l ++ more.0) on.goes_on.1 ∙ append_assoc old.seen on.goes_on.0 more.0);
+      also = subst (λ (p : Known Entry Origin). StartsWithAll looks.before p.also) on.sees looks.also;
       shows = looks.shows;
       same = looks.same ∙ ap (λ (p : Known Entry Origin). record p { seen = looks.before }) on.sees;
     }
@@ -142,7 +143,7 @@ glance-looks look found old new shown glance same =
     let one : glance.origin ≡ shown.origin = same-some glance.origin shown.origin (sym glance.origin_is ∙ shown.origin_is) in
     let told : gauge_in shown.origin glance.history ≡ gauge_by look.round look.phase = ap (λ o. gauge_in o glance.history) (sym one) ∙ (sym glance.gauge_is ∙ same) in
     let shows = still-shown shown.origin old.seen glance.history look glance.goes_on shown.shows told in (
-      record { origin = shown.origin; origin_is = shown.origin_is; before = glance.history; goes_on = glance.goes_on; shows = shows; same = glance.sees },
+      record { origin = shown.origin; origin_is = shown.origin_is; before = glance.history; goes_on = glance.goes_on; also = glance.also; shows = shows; same = glance.sees },
       record {
         origin = shown.origin;
         origin_is = ap (λ (p : Known Entry Origin). p.origin) glance.sees ∙ shown.origin_is;

@@ -9,7 +9,7 @@ use Rattle.clock.specs.declared.judging.Judgement.{Judgement}
 use Rattle.clock.specs.declared.judging.Judgement.TheVariants as judged
 use Rattle.clock.specs.declared.judging.Offered.{Offered}
 use Rattle.clock.specs.declared.judging.Offered.TheVariants as answers
-use Rattle.house_io.specs.Moments.{Moments}
+use Rattle.house_io.specs.Disks.{DiskShown}
 use Rattle.recovery.specs.Journaled.{Owner}
 use Rattle.clock_book.specs.Opening.{history_of}
 use Rattle.clock_book.specs.declared.entries.Entry.{Entry}
@@ -76,8 +76,8 @@ module _ (owner : Owner) (old new : BookState) (r : Report) (answer : Offered) (
         appends = subst P (sym fault) (ap (λ (s : BookState). s.history) e ∙ ap (λ l. l ++ entry.Mark r ∷ []) (sym (append-nil old.history)));
       }
 
-  pub history-offer : (told : Type 0) (before after : Moments) → IsOffer owner old r answer new told before after → IsHistoryOffer owner old.history r answer new.history
-  history-offer told before after is =
+  pub history-offer : (before after : DiskShown) → IsOffer owner old r answer new before after → IsHistoryOffer owner old.history r answer new.history
+  history-offer before after is =
       ⊎_elim (λ failed. not-mended failed.fault failed.marks)
       (λ on. ⊎_elim (λ none. none-counted on.mid none on.answered) (λ one. one-counted on.mid one.0 one.1 one.2 on.answered) on.mended) is
 

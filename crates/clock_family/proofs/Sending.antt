@@ -6,7 +6,7 @@ use Rattle.std.proofs.Crossing.{crosses, Vec-send, Vec-sync}
 use Rattle.house_io.specs.declared.disk.Disk.{Ghosts}
 use Rattle.clock_book.specs.contracts.entries.Entry as entry
 use Rattle.clock_book.specs.contracts.origins.Origin as origin
-use Rattle.clock_book.specs.contracts.books.ClockBook as clock_book
+use Rattle.clock_book.proofs.Sending.{clock_book-send}
 use Rattle.clock_family.specs.contracts.house_books.HouseBook as book
 use Rattle.clock_family.specs.contracts.closing.Closing as closing
 use Rattle.clock_family.specs.contracts.closing.Closing.TheInside as inside_closing
@@ -17,14 +17,10 @@ use Rattle.clock_family.specs.contracts.passes.ClockPass as clock_pass
 use Rattle.clock_family.specs.contracts.passes.ClockPass.TheInside as inside_clock_pass
 use Rattle.clock_family.specs.contracts.houses.HousePass.TheInside as inside_pass
 use Rattle.clock_family.specs.contracts.house_books.HouseBookBook.TheImpl as impl
-use Rattle.http_server.proofs.log.Log.TheSendSync as logs
 use Rattle.turn_desk.specs.contracts.desk.Pass as pass
 use Rattle.turn_desk.specs.contracts.desk.Desk as desk
 use Rattle.turn_desk.proofs.desk.Desk.TheSendSync as desks
 use Rattle.turn_desk.proofs.desk.Pass.TheSendSync as passes
-
-pub clock_book-send : (D : RattleType) (G : Ghosts D.Denot) → IsSend D → IsSend (clock_book.the_row D G)
-clock_book-send D G s = search (sendable, crosses, logs.the_send) depth 60 fits 200000
 
 pub book-send : (D : RattleType) (G : Ghosts D.Denot) → IsSend D → IsSend (book.the_row D G)
 book-send D G s = let b = clock_book-send D G s in search (sendable, crosses) depth 40

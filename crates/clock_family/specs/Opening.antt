@@ -1,6 +1,6 @@
 -- How a house is opened.
 use Rattle.std.specs.Prelude.{◌≡◌, ◌≤◌, ◌<◌, ℕ, Bool, IsTrue, List, [], ◌∷◌, length, slice_index_or, Option, IfSome}
-use Rattle.house_io.specs.Disks.{DiskShown, is_told, told_moments}
+use Rattle.house_io.specs.Disks.{DiskShown, IfDiskTells, HasTold}
 use Rattle.std.specs.List.{AllByRecursion}
 use Rattle.lot_base.specs.declared.auction_terms.Terms.{Terms}
 use Rattle.demand_set.specs.declared.reports.Report.{Report}
@@ -40,11 +40,11 @@ pub record IsUnused {D : Type 0} (l : LaidOf D) : Type 0 where
 -- that is pending, which is in doubt by the history.
 pub record IsGivenBack {D : Type 0} (shown : D → DiskShown) (origin : Origin) (history : List Entry) (disk : D) : Type 0 where
   pub pending : Option Report
-  pub told : IsTrue (is_told (shown disk)) → IsTrue origin.told
+  pub told : IfDiskTells (shown disk) (λ _. IsTrue origin.told)
   pub claimed : IsTrue (shown disk).claimed
   pub doubt : IfSome pending (IsInDoubt history)
-  pub stands : IsTrue (is_told (shown disk)) → Leaves (IsEither (owner_in origin) (reports_in history) pending) (told_moments (shown disk)).now
-  pub past : IsTrue (is_told (shown disk)) → KeepsPast origin (clock_in (owner_in origin) history) history (told_moments (shown disk))
+  pub stands : IfDiskTells (shown disk) (λ moments. Leaves (IsEither (owner_in origin) (reports_in history) pending) moments.now)
+  pub past : IfDiskTells (shown disk) (λ moments. KeepsPast origin (clock_in (owner_in origin) history) history moments)
 
 -- the disks of the books on these desks, in order
 abbrev pub AreGivenBack : {D : Type 0} → (D → DiskShown) → List (LaidOf D) → List D → Type 0
@@ -57,10 +57,10 @@ AreGivenBack shown (l ∷ ls) [] = ⊥
 pub record WasOpened {D : Type 0} (shown : D → DiskShown) (owner : Owner) (old new : D) : Type 0 where
   pub first : BookOf D
   pub opens : Opens shown owner old first
-  pub told : IsTrue (is_told (shown new)) → IsTrue (is_told (shown first.disk))
+  pub told : HasTold (shown first.disk) (shown new)
   pub claimed : IsTrue (shown new).claimed
-  pub stands : IsTrue (is_told (shown new)) → Leaves (StandsForReports (owner_in first.origin) first.state.clock.reports) (told_moments (shown new)).now
-  pub past : IsTrue (is_told (shown new)) → KeepsPast first.origin first.state.clock first.state.history (told_moments (shown new))
+  pub stands : IfDiskTells (shown new) (λ moments. Leaves (StandsForReports (owner_in first.origin) first.state.clock.reports) moments.now)
+  pub past : IfDiskTells (shown new) (λ moments. KeepsPast first.origin first.state.clock first.state.history moments)
 
 -- Why no house was opened: the clock of this number is the first whose book is not opened. The disks come back in order: those of
 -- smaller clocks as their books left them, and those of greater clocks were not touched.

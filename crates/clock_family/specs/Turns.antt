@@ -18,7 +18,7 @@ use Rattle.clock_book.specs.DeskHistories.{reports_in, IsInDoubt}
 use Rattle.clock_book.specs.Opening.{history_of}
 use Rattle.clock_book.specs.Past.{owner_in}
 use Rattle.clock_book.specs.Offers.{record_end}
-use Rattle.turn_desk.specs.Histories.{StartsWith}
+use Rattle.turn_desk.specs.Histories.{StartsWith, StartsWithAll}
 use Rattle.turn_desk.specs.Passes.{Opened, Known, at_turn, after_giving}
 
 -- the owner's clock with the reports of a desk's history
@@ -55,24 +55,26 @@ pub record Shows (c : ClockHistory) (look : Look) : Type 0 where
   pub phase : look.phase ≡ phase_of c
   pub prices : look.prices ≡ prices_of c
 
--- An offer by a pass: in its turn the history begins with what it has seen. Afterwards it has seen what the offer left, and what was
--- appended is its own.
+-- An offer by a pass: in its turn the history begins with all that it has seen and heard of. Afterwards it has seen what the offer left, and
+-- what was appended is its own.
 pub record PassOffers (r : Report) (answer : Offered) (old new : Known Entry Origin) : Type 0 where
   pub origin : Origin
   pub origin_is : old.origin ≡ Some origin
   pub before : List Entry
   pub goes_on : StartsWith before old.seen
+  pub also : StartsWithAll before old.also
   pub after : List Entry
   pub offers : IsHistoryOffer (owner_in origin) before r answer after
   pub gives : new ≡ after_giving (at_turn old before) after
 
--- A look by a pass: it shows how the clock stands in a history that begins with what the pass has seen. Afterwards it has seen this
--- history, and nothing more is its own.
+-- A look by a pass: it shows how the clock stands in a history that begins with all that the pass has seen and heard of. So it is no older
+-- than any turn that ended before the pass heard of it. Afterwards it has seen this history, and nothing more is its own.
 pub record PassLooks (look : Look) (old new : Known Entry Origin) : Type 0 where
   pub origin : Origin
   pub origin_is : old.origin ≡ Some origin
   pub before : List Entry
   pub goes_on : StartsWith before old.seen
+  pub also : StartsWithAll before old.also
   pub shows : Shows (clock_in (owner_in origin) before) look
   pub same : new ≡ record old { seen = before }
 

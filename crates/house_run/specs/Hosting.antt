@@ -1,12 +1,15 @@
 -- What a house comes to that is opened on the disks of its journals, served at doors on a net, and closed.
 use Rattle.std.specs.Prelude.{◌≡◌, ◌≤◌, ◌<◌, ◌⊎◌, ◌++◌, ◌∷◌, [], ◌-◌, ◌^◌, min, ℕ, Bool, false, List, length, map, take, drop, slice_index_or, IsTrue, Option, Result, Ok, Err, vec_capacity}
-use Rattle.house_io.specs.Disks.{DiskShown, is_told, told_moments}
+use Rattle.house_io.specs.Disks.{DiskShown, IfDiskTold}
 use Rattle.std.specs.List.{AllByRecursion, flat_map}
 use Rattle.house_io.specs.Doors.{DoorLinks, IsEmptyDoor}
+use Rattle.house_io.specs.declared.doors.Door as doors
+use Rattle.house_io.specs.declared.links.Link as links
+use Rattle.house_io.specs.declared.nets.Net as nets
 use Rattle.house_io.specs.Faults.{Rose}
 use Rattle.house_io.specs.Links.{LinkBytes}
 use Rattle.house_io.specs.Moments.{Moments}
-use Rattle.house_io.specs.Nets.{NetLists}
+use Rattle.house_io.specs.Nets.{NetLists, GivesDoors}
 use Rattle.house_io.specs.Told.{IfTold}
 use Rattle.auction_file.specs.declared.listing.Auction.{Auction}
 use Rattle.clock.specs.Reports.{ClockHistory, histories}
@@ -146,8 +149,8 @@ net_end refusal.NoMemory = how.NoMemory
 -- moments is said where it tells.
 abbrev pub LeavesDisk : {D : Type 0} → (D → DiskShown) → Owner → D → D → Type 0
 LeavesDisk shown owner before after =
-    (IsTrue (is_told (shown after)) → LeftUnopened owner (told_moments (shown before)) (told_moments (shown after)))
-    ⊎ ((run : ClockRun) × IsClockRun owner run × IsUnused run × (IsTrue (is_told (shown after)) → IsJournalRun owner run (told_moments (shown before)) (told_moments (shown after))))
+    IfDiskTold (shown before) (shown after) (LeftUnopened owner)
+    ⊎ ((run : ClockRun) × IsClockRun owner run × IsUnused run × (IfDiskTold (shown before) (shown after) (IsJournalRun owner run)))
 
 -- nothing was done on the net
 pub record IsSameNet {N : Type 0} (told_before told_after : Option N) (counted_before counted : ℕ) : Type 0 where
@@ -163,8 +166,8 @@ module _ {D R L M : Type 0} (shown : D → DiskShown) (told : R → Option (Door
     pub count_is : length clocks ≡ length old
     -- what each clock and its journal came to, the journal where its disk tells
     pub clocks_are : (k : ℕ) (c : ClockRun) → k < length clocks → IsClockRun (owner_of auction.terms k auction.digest) (slice_index_or clocks k c)
-    pub journals_are : (k : ℕ) (c : ClockRun) (d : D) → k < length clocks → IsTrue (is_told (shown (slice_index_or disks k d)))
-        → IsJournalRun (owner_of auction.terms k auction.digest) (slice_index_or clocks k c) (told_moments (shown (slice_index_or old k d))) (told_moments (shown (slice_index_or disks k d)))
+    pub journals_are : (k : ℕ) (c : ClockRun) (d : D) → k < length clocks
+        → IfDiskTold (shown (slice_index_or old k d)) (shown (slice_index_or disks k d)) (IsJournalRun (owner_of auction.terms k auction.digest) (slice_index_or clocks k c))
     -- each disk is claimed, and has counted a fault for each mark
     pub claimed : (k : ℕ) (d : D) → k < length clocks → IsTrue (shown (slice_index_or disks k d)).claimed
     pub marks : (k : ℕ) (c : ClockRun) (d : D) → k < length clocks → min (marks_in (slice_index_or clocks k c).closed.history) (2 ^ 64 - 1) ≤ (shown (slice_index_or disks k d)).faults
@@ -214,3 +217,24 @@ module _ {D R L M : Type 0} (shown : D → DiskShown) (told : R → Option (Door
   HostOutcome old (Err end) disks told_before told_after counted_before counted =
       IsHosted shown told faults link_told link_faults auction address count sessions old disks (Err end) told_before told_after counted_before counted
       ⊎ IsUnhosted old disks end told_before told_after counted_before counted
+
+-- no call on these doors has failed
+abbrev pub AreUnfailed : {R M : Type 0} → doors.Ghosts R M → List R → Type 0
+AreUnfailed door given = AllByRecursion (λ d. door.faults d ≡ 0) given
+
+-- The same by what a disk, the net, its doors and their links show.
+module _ {D N R L M : Type 0} (shown : D → DiskShown) (net : nets.Ghosts N L R M) (door : doors.Ghosts R M) (link : links.Ghosts M) (auction : Auction) (address : List ℕ) (count sessions : ℕ) where
+  -- what a house comes to that is served at doors of the net, and closed
+  abbrev pub HouseOutcomeBy : List (Opened (BookOf D)) → List HousePassOf → Result Hosted Ended → List D → N → N → Type 0
+  HouseOutcomeBy desks passes answer disks old new =
+      HouseOutcome shown door.told door.faults link.told link.faults auction address count sessions desks passes answer disks (net.told old) (net.told new) (net.faults old) (net.faults new)
+
+  -- the same of doors that the net gave at this address
+  abbrev pub GivenOutcomeBy : List R → List (Opened (BookOf D)) → List HousePassOf → Result Hosted Ended → List D → N → N → Type 0
+  GivenOutcomeBy given desks passes answer disks old new = (before : Option (NetLists R L)) → IfTold before (net.told old) (GivesDoors door.told address count given)
+      → HouseOutcome shown door.told door.faults link.told link.faults auction address count sessions desks passes answer disks before (net.told new) (net.faults old) (net.faults new)
+
+  -- what a house comes to that is opened on these disks, served at doors of the net, and closed
+  abbrev pub HostOutcomeBy : List D → Result Hosted Ended → List D → N → N → Type 0
+  HostOutcomeBy disks answer back old new =
+      HostOutcome shown door.told door.faults link.told link.faults auction address count sessions disks answer back (net.told old) (net.told new) (net.faults old) (net.faults new)

@@ -3,6 +3,7 @@ use Rattle.std.specs.Prelude.{◌≡◌, ◌≤◌, ◌<◌, ℕ, List, [], leng
 use Rattle.house_io.specs.Shelves.{NamedFile, IfTells, bytes_of}
 use Rattle.house_io.specs.declared.shelves.Shelf as shelves
 use Rattle.house_io.specs.declared.sinks.Sink as sinks
+use Rattle.lot_base.specs.declared.limits.TheConstants.{GREATEST_AUCTION, GREATEST_VALUES}
 use Rattle.auction_file.specs.AuctionFile.{Listing, auction_of}
 use Rattle.report_log.specs.Logs.{AreBytes}
 
@@ -50,11 +51,11 @@ sink_seen sink before after = record {
 
 -- the greatest number of bytes of an auction file
 abbrev pub auction_limit : ℕ
-auction_limit = 65536
+auction_limit = GREATEST_AUCTION
 
 -- the greatest number of bytes of a file of valuations
 abbrev pub values_limit : ℕ
-values_limit = 1048576
+values_limit = GREATEST_VALUES
 
 -- the bytes of a file, none where it is absent
 abbrev pub content : List NamedFile → List ℕ → List ℕ

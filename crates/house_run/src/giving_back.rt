@@ -1,10 +1,9 @@
 //! What is given back once a house was served: its doors to the net, and the disks of its books.
 ghost use Rattle.std.specs.Prelude.{◌≡◌, ◌≤◌, ◌+◌, List, length, map, true, false, All, vec_len, vec_capacity, IsTrue, IfOk};
 ghost use Rattle.std.specs.List.{AllByRecursion};
-ghost use Rattle.house_io.specs.Told.{IfTold};
 ghost use Rattle.clock.specs.Reports.{histories};
 ghost use Rattle.clock_book.specs.Books.{IsKept};
-ghost use Rattle.house_run.specs.GivingBack.{TakesAll, raised_by_all};
+ghost use Rattle.house_run.specs.GivingBack.{HasTaken, CountsDoors};
 
 use clock::Clock;
 use clock_book::ClockBook;
@@ -13,8 +12,8 @@ use house_serve::{DoorLog, SessionEnd};
 
 /// Gives doors back to the net, in order.
 pub(crate) fn close_doors<N: Net>(net: &mut N, doors: Vec<N::Door>)
-    ensures lists { IfTold (N.told net.old) (N.told net.new) (TakesAll doors.items) }
-    ensures faults { N.faults net.new ≡ raised_by_all (N.faults net.old) (map N.Door.Door.faults doors.items) }
+    ensures lists { HasTaken N.Net doors.items net.old net.new }
+    ensures faults { CountsDoors N.Net N.Door.Door (λ door. door) doors.items net.old net.new }
 {
     let mut rest = doors;
     rest.reverse();
@@ -32,8 +31,8 @@ pub(crate) fn close_logs<N: Net>(
 )
     requires empty { length ends.old.items ≡ 0 }
     requires room { length logs.items ≤ vec_capacity ends.old }
-    ensures lists { IfTold (N.told net.old) (N.told net.new) (TakesAll (map (λ log. log.door) logs.items)) }
-    ensures faults { N.faults net.new ≡ raised_by_all (N.faults net.old) (map (λ log. N.Door.Door.faults log.door) logs.items) }
+    ensures lists { HasTaken N.Net (map (λ log. log.door) logs.items) net.old net.new }
+    ensures faults { CountsDoors N.Net N.Door.Door (λ log. log.door) logs.items net.old net.new }
     ensures ends { map (λ v. v.items) ends.new.items ≡ map (λ log. log.ends.items) logs.items }
 {
     let mut rest = logs;

@@ -1,13 +1,12 @@
 //! Serving a house at doors on a net, from the disks of its journals to these disks again.
 ghost use Rattle.std.specs.Prelude.{◌≡◌, ◌≤◌, ◌+◌, List, length, map, true, false, vec_len, vec_capacity, IsTrue, IfOk, IfErr};
 ghost use Rattle.std.specs.List.{AllByRecursion};
+ghost use Rattle.lot_base.specs.declared.limits.TheConstants.{MOST_DOORS, MOST_SESSIONS};
 ghost use Rattle.clock_family.specs.Houses.{AreAllOf, IsNewPass};
-ghost use Rattle.house_io.specs.Told.{IfTold};
 ghost use Rattle.clock.specs.Reports.{histories};
 ghost use Rattle.clock_book.specs.Books.{IsKept};
-ghost use Rattle.house_io.specs.Nets.{GivesDoors};
-ghost use Rattle.house_run.specs.GivingBack.{TakesAll, raised_by_all};
-ghost use Rattle.house_run.specs.Hosting.{HostOutcome, HouseOutcome, HouseUnused, IsRoom, LogsOutcome, net_end};
+ghost use Rattle.house_run.specs.GivingBack.{HasTaken, CountsDoors};
+ghost use Rattle.house_run.specs.Hosting.{AreUnfailed, GivenOutcomeBy, HostOutcomeBy, HouseOutcomeBy, HouseUnused, IsRoom, LogsOutcome, net_end};
 
 use crate::ends::{Ended, end_at};
 use crate::giving_back::{close_doors, close_logs, has_failed, take_apart};
@@ -92,8 +91,8 @@ fn close_served<D: Disk, N: Net>(
     requires { IsRoom (length books.items) (length logs.items) room }
     ensures disks { result.1.items ≡ map (λ book. book.disk) books.items }
     ensures kept { AllByRecursion (λ book. IsKept D.shown book) books.items }
-    ensures lists { IfTold (N.told net.old) (N.told net.new) (TakesAll (map (λ log. log.door) logs.items)) }
-    ensures faults { N.faults net.new ≡ raised_by_all (N.faults net.old) (map (λ log. N.Door.Door.faults log.door) logs.items) }
+    ensures lists { HasTaken N.Net (map (λ log. log.door) logs.items) net.old net.new }
+    ensures faults { CountsDoors N.Net N.Door.Door (λ log. log.door) logs.items net.old net.new }
     ensures outcome { LogsOutcome books.items logs.items result.0 }
 {
     let failed = has_failed(&logs);
@@ -125,14 +124,11 @@ fn host_doors<T: Threads + Wait + Sync, D: Disk + Send, N: Net>(
     requires auction { house.terms ≡ auction.now.terms }
     requires passes { AreAllOf house.desks passes.items }
     requires new { AllByRecursion (IsNewPass house) passes.items }
-    requires doors { (length doors.items ≡ length passes.items) × AllByRecursion (λ door. N.Door.Door.faults door ≡ 0) doors.items }
-    requires sessions { (1 ≤ sessions) × (sessions ≤ 10000) }
+    requires doors { (length doors.items ≡ length passes.items) × AreUnfailed N.Door.Door doors.items }
+    requires sessions { (1 ≤ sessions) × (sessions ≤ MOST_SESSIONS) }
     requires room { IsRoom (length house.desks) (length doors.items) room }
-    ensures { (before : _) (address : _)
-        → IfTold before (N.told net.old) (GivesDoors N.Door.Door.told address (length doors.items) doors.items)
-        → HouseOutcome D.shown N.Door.Door.told N.Door.Door.faults N.Door.Link.Link.told N.Door.Link.Link.faults auction.now address
-        (length doors.items) sessions house.desks passes.items result.0 result.1.items before (N.told net.new) (N.faults net.old)
-        (N.faults net.new) }
+    ensures { (address : List ℕ) → GivenOutcomeBy D.shown N.Net N.Door.Door N.Door.Link.Link auction.now address (length doors.items)
+        sessions doors.items house.desks passes.items result.0 result.1.items net.old net.new }
 {
     match serve(rt, alloc, auction, house, passes, doors, sessions) {
         Ok(served) => {
@@ -168,11 +164,10 @@ fn host_house<T: Threads + Wait + Sync, D: Disk + Send, N: Net>(
     requires passes { AreAllOf house.desks passes.items }
     requires new { AllByRecursion (IsNewPass house) passes.items }
     requires doors { length passes.items ≡ doors }
-    requires sessions { (1 ≤ sessions) × (sessions ≤ 10000) }
+    requires sessions { (1 ≤ sessions) × (sessions ≤ MOST_SESSIONS) }
     requires room { IsRoom (length house.desks) doors room }
-    ensures { HouseOutcome D.shown N.Door.Door.told N.Door.Door.faults N.Door.Link.Link.told N.Door.Link.Link.faults auction.now address.now
-        doors sessions house.desks passes.items result.0 result.1.items (N.told net.old) (N.told net.new) (N.faults net.old)
-        (N.faults net.new) }
+    ensures { HouseOutcomeBy D.shown N.Net N.Door.Door N.Door.Link.Link auction.now address.now doors sessions house.desks passes.items
+        result.0 result.1.items net.old net.new }
 {
     match net.doors(alloc, address, doors) {
         Ok(doors) => host_doors(
@@ -194,10 +189,10 @@ pub(crate) fn host<T: Threads + Wait + Sync, D: Disk + Send, N: Net>(
     net: &mut N,
 ) -> (Result<Hosted, Ended>, Vec<D>)
     requires disks { length disks.items ≡ auction.now.terms.bidders + 1 }
-    requires doors { (1 ≤ doors) × (doors ≤ 64) }
-    requires sessions { (1 ≤ sessions) × (sessions ≤ 10000) }
-    ensures { HostOutcome D.shown N.Door.Door.told N.Door.Door.faults N.Door.Link.Link.told N.Door.Link.Link.faults auction.now address.now
-        doors sessions disks.items result.0 result.1.items (N.told net.old) (N.told net.new) (N.faults net.old) (N.faults net.new) }
+    requires doors { (1 ≤ doors) × (doors ≤ MOST_DOORS) }
+    requires sessions { (1 ≤ sessions) × (sessions ≤ MOST_SESSIONS) }
+    ensures { HostOutcomeBy D.shown N.Net N.Door.Door N.Door.Link.Link auction.now address.now doors sessions disks.items result.0
+        result.1.items net.old net.new }
 {
     let Ok(room) = reserve(alloc, disks.len(), doors as usize) else {
         return (Err(Ended::NoMemory), disks);

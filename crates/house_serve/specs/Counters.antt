@@ -3,6 +3,8 @@ use Rattle.std.specs.Prelude.{◌≡◌, ◌<◌, ℕ, true, false, length, Opti
 use Rattle.house_io.specs.Faults.{Rose}
 use Rattle.house_io.specs.Links.{LinkBytes}
 use Rattle.house_io.specs.Doors.{DoorLinks}
+use Rattle.house_io.specs.declared.doors.Door as doors
+use Rattle.house_io.specs.declared.links.Link as links
 use Rattle.auction_file.specs.declared.listing.Auction.{Auction}
 use Rattle.clock_family.specs.Houses.{HousePassOf, all_still}
 use Rattle.house_serve.specs.Doors.{IsDoor}
@@ -16,6 +18,10 @@ pub record WasServed {R L : Type 0} (told : R → Option (DoorLinks L)) (faults 
   pub done : new.failed ≡ false → (length new.ends.items ≡ sessions) × (faults new.door ≡ faults old.door)
   pub failed : new.failed ≡ true → (length new.ends.items < sessions) × Rose (faults old.door) (faults new.door)
   pub still : all_still new.pass ≡ all_still old.pass
+
+-- the same by what doors and links show
+abbrev pub WasServedBy : {R L : Type 0} → doors.Ghosts R L → links.Ghosts L → Auction → ℕ → Counter HousePassOf R → Counter HousePassOf R → Type 0
+WasServedBy door link auction sessions old new = WasServed door.told door.faults link.told link.faults auction sessions old new
 
 -- what became of a counter's door
 abbrev pub log_of : {P R : Type 0} → Counter P R → DoorLog R

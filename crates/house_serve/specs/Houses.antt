@@ -8,6 +8,8 @@ use Rattle.house_io.specs.Faults.{Rose}
 use Rattle.house_io.specs.Told.{IfTold}
 use Rattle.house_io.specs.Links.{LinkBytes}
 use Rattle.house_io.specs.Doors.{DoorLinks}
+use Rattle.house_io.specs.declared.doors.Door as doors
+use Rattle.house_io.specs.declared.links.Link as links
 use Rattle.auction_file.specs.declared.listing.Auction.{Auction}
 use Rattle.clock_book.specs.Books.{BookOf}
 use Rattle.clock_book.specs.DeskHistories.{reports_in, IsInDoubt}
@@ -116,3 +118,7 @@ module _ {R L : Type 0} (told : R → Option (DoorLinks L)) (faults : R → ℕ)
     pub closed : AreClosed house.desks (map (λ (r : DoorRun R L). r.after) runs) books
     pub joins : (clock : ℕ) (d : Opened (BookOf D)) (b : BookOf D) → clock < length house.desks
         → Joins (slice_index_or house.desks clock d).book.state.history (slice_index_or books clock b).state.history (flat_map turns_of runs) clock
+
+-- the same by what doors and links show
+abbrev pub IsServedBy : {R L D : Type 0} → doors.Ghosts R L → links.Ghosts L → Auction → ℕ → HouseOf D → List HousePassOf → List R → List (BookOf D) → List (DoorLog R) → Type 0
+IsServedBy door link auction sessions house passes doors books logs = IsServed door.told door.faults link.told link.faults auction sessions house passes doors books logs

@@ -1,7 +1,7 @@
 //! Doors on threads, each with a pass of a house.
 ghost use Rattle.std.specs.Prelude.{◌≡◌, ◌≤◌, ◌<◌, ℕ, All, length, slice_index_or, vec_len, vec_capacity};
 ghost use Rattle.clock_family.specs.Turns.{AreOf};
-ghost use Rattle.house_serve.specs.Counters.{WasServed};
+ghost use Rattle.house_serve.specs.Counters.{WasServedBy};
 
 use crate::doors::serve_door;
 use crate::ends::SessionEnd;
@@ -49,7 +49,7 @@ fn serve_counter<D: Disk, R: Door, T: Wait>(
     requires of_house { AreOf common.now.house.now.terms common.now.house.now.digest common.now.house.now.desks counter.old.pass.passes }
     requires empty { (length counter.old.ends.items ≡ 0) × (vec_len counter.old.ends ≡ 0) }
     requires room { common.now.sessions ≤ vec_capacity counter.old.ends }
-    ensures served { WasServed R.told R.faults R.Link.told R.Link.faults common.now.auction.now common.now.sessions counter.old counter.new }
+    ensures served { WasServedBy R.Door R.Link.Link common.now.auction.now common.now.sessions counter.old counter.new }
 {
     let mut seat = HouseSeat {
         house: common.house,
@@ -85,8 +85,7 @@ where
     requires room { All (λ c. sessions ≤ vec_capacity c.ends) counters.old }
     ensures count { length counters.new ≡ length counters.old }
     ensures served { (i : ℕ) (d : _) → i < length counters.old
-        → WasServed R.told R.faults R.Link.told R.Link.faults auction.now sessions (slice_index_or counters.old i d)
-        (slice_index_or counters.new i d) }
+        → WasServedBy R.Door R.Link.Link auction.now sessions (slice_index_or counters.old i d) (slice_index_or counters.new i d) }
 {
     let common = Common {
         rt,

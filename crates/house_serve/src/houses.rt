@@ -1,8 +1,9 @@
 //! Serving at the doors of a house, from the opened house to its closed books.
 ghost use Rattle.std.specs.Prelude.{◌≡◌, ◌≤◌, ℕ, length, IfOk, IfErr};
+ghost use Rattle.lot_base.specs.declared.limits.TheConstants.{MOST_SESSIONS};
 ghost use Rattle.std.specs.List.{AllByRecursion};
 ghost use Rattle.clock_family.specs.Houses.{AreAllOf, IsNewPass};
-ghost use Rattle.house_serve.specs.Houses.{IsServed};
+ghost use Rattle.house_serve.specs.Houses.{IsServedBy};
 
 use crate::counters::serve_counters;
 use crate::ends::SessionEnd;
@@ -62,9 +63,9 @@ where
     requires passes { AreAllOf house.desks passes.items }
     requires new { AllByRecursion (IsNewPass house) passes.items }
     requires doors { length doors.items ≡ length passes.items }
-    requires sessions { (1 ≤ sessions) × (sessions ≤ 10000) }
-    ensures served { IfOk result (λ s. IsServed R.told R.faults R.Link.told R.Link.faults auction.now sessions house passes.items
-        doors.items s.books.items s.doors.items) }
+    requires sessions { (1 ≤ sessions) × (sessions ≤ MOST_SESSIONS) }
+    ensures served { IfOk result (λ s. IsServedBy R.Door R.Link.Link auction.now sessions house passes.items doors.items
+        s.books.items s.doors.items) }
     ensures refused { IfErr result (λ n. (n.house ≡ house) × (n.passes ≡ passes) × (n.doors ≡ doors)) }
 {
     let room = match reserve(alloc, doors.len(), sessions) {

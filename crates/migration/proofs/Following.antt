@@ -5,6 +5,7 @@ use Rattle.std.proofs.lemmas.Option.{slice_get_within, get_or_from_slice_get}
 use Rattle.lot_base.specs.Demands.{IsDemand}
 use Rattle.lot_base.specs.declared.auction_terms.Terms.{Terms}
 use Rattle.demand_set.specs.declared.reports.Report.{Report}
+use Rattle.house_io.specs.Disks.{DiskShown, IfDiskTold, told_moments}
 use Rattle.house_io.specs.Moments.{Moments, AtEach}
 use Rattle.house_io.proofs.Moments.{at_weaker, at_both}
 use Rattle.clock.specs.Reports.{ClockHistory}
@@ -54,9 +55,9 @@ mended-same old mid settled mended =
     ⊎_elim (λ is. is ∙ same) (λ one. absurd (let e : None ≡ Some one.0 = sym settled ∙ one.1 in cc e)) mended
 
 -- where nothing was pending, the answer is that of the state as it was
-pub answered : (owner : Owner) (old : BookState) (r : Report) (answer : Offered) (new : BookState) (told : Type 0) (before after : Moments) → old.pending ≡ None → IsOffer owner old r answer new told before after
+pub answered : (owner : Owner) (old : BookState) (r : Report) (answer : Offered) (new : BookState) (before after : DiskShown) → old.pending ≡ None → IsOffer owner old r answer new before after
     → Answers owner answer old r new
-answered owner old r answer new told before after settled offer = ⊎_elim
+answered owner old r answer new before after settled offer = ⊎_elim
     (λ failed. absurd (not-some old.pending settled failed.pending))
     (λ on. let A : BookState → Type 0 = λ s. Answers owner answer s r new in subst A (mended-same old on.mid settled on.mended) on.answered)
     offer
@@ -90,14 +91,14 @@ module _ (owner : Owner) (reports : List Report) (n : ℕ) (old : BookState) (r 
   front-rest before after each = at_weaker (IsEither owner old.clock.reports old.pending) Front before after
       (λ file is. let E : Option Report → Type 0 = λ o. IsEither owner old.clock.reports o file in front-as n old.clock.reports file are (omega arith) (omega arith) (subst E settled is)) each
 
-  pub front-leaves : (answer : Offered) (new : BookState) (told : Type 0) (before after : Moments) → IsOffer owner old r answer new told before after → told → AtEach Front before after
-  front-leaves answer new told before after offer t = ⊎_elim
-      (λ failed. front-rest before after (failed.leaves t))
+  pub front-leaves : (answer : Offered) (new : BookState) (before after : DiskShown) → IsOffer owner old r answer new before after → IfDiskTold before after (AtEach Front)
+  front-leaves answer new before after offer t = ⊎_elim
+      (λ failed. front-rest (told_moments before) (told_moments after) (failed.leaves t))
       (λ on.
       let mid = on.mid in
       let left = on.leaves t in
       let same : mid ≡ old = mended-same old mid settled on.mended in
       let is : mid.clock.reports ≡ take n reports = ap (λ (s : BookState). s.clock.reports) same ∙ are in
-      at_both Front before left.between after (front-rest before left.between left.mending)
-      (at_weaker (IsEither owner mid.clock.reports (Some r)) Front left.between after (λ file either. front-either mid.clock.reports file is either) left.answering))
+      at_both Front (told_moments before) left.between (told_moments after) (front-rest (told_moments before) left.between left.mending)
+      (at_weaker (IsEither owner mid.clock.reports (Some r)) Front left.between (told_moments after) (λ file either. front-either mid.clock.reports file is either) left.answering))
       offer

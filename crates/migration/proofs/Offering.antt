@@ -30,19 +30,19 @@ module _ {D : Type 0} (shown : D → DiskShown) (source : ClockHistory) where
   goes-nowhere b = record { origin = refl; later = record { told = λ t. t; claim = refl }; leaves = λ t. inl refl }
 
   module _ (n : ℕ) (old new : BookOf D) (r : Report) (answer : Offered) (has : HasFirst source n old) (at : slice_get source.reports n ≡ Some r)
-      (offer : IsOffer (owner_in old.origin) old.state r answer new.state (IsTrue (is_told (shown new.disk))) (told_moments (shown old.disk)) (told_moments (shown new.disk))) (origin : new.origin ≡ old.origin) where
+      (offer : IsOffer (owner_in old.origin) old.state r answer new.state (shown old.disk) (shown new.disk)) (origin : new.origin ≡ old.origin) where
     pub goes-next : IsLater (shown old.disk) (shown new.disk) → GoesOn shown source old new
     goes-next later = record {
       origin = origin;
       later = later;
-      leaves = λ t. inr (front-leaves (owner_in old.origin) source.reports n old.state r has.reports has.settled at answer new.state (IsTrue (is_told (shown new.disk))) (told_moments (shown old.disk)) (told_moments (shown new.disk)) offer t);
+      leaves = λ t. inr (front-leaves (owner_in old.origin) source.reports n old.state r has.reports has.settled at answer new.state (shown old.disk) (shown new.disk) offer t);
     }
 
     pub has-next : answer ≡ answers.Taken → HasFirst source (n + 1) new
     has-next is =
         let within = slice_get_within source.reports n r at in
         let A : Offered → Type 0 = λ a. Answers (owner_in old.origin) a old.state r new.state in
-        let taken = subst A is (answered (owner_in old.origin) old.state r answer new.state (IsTrue (is_told (shown new.disk))) (told_moments (shown old.disk)) (told_moments (shown new.disk)) has.settled offer) in
+        let taken = subst A is (answered (owner_in old.origin) old.state r answer new.state (shown old.disk) (shown new.disk) has.settled offer) in
         let reports : new.state.clock.reports ≡ old.state.clock.reports ++ r ∷ [] = ap (λ (s : BookState). s.clock.reports) taken.1 in
         record {
           few = omega (arith, within);

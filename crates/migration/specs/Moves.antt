@@ -1,6 +1,6 @@
 -- What a move of journals answers, and what it leaves.
 use Rattle.std.specs.Prelude.{◌≡◌, ◌⊎◌, ℕ, ◌+◌, ◌<◌, ◌≤◌, Bool, IsTrue, List, length, take, slice_get, slice_index_or, Some, Result, Ok, Err, OnOk, IfErr}
-use Rattle.house_io.specs.Disks.{DiskShown, is_told, told_moments}
+use Rattle.house_io.specs.Disks.{DiskShown, IfDiskTold, HasTold}
 use Rattle.lot_base.specs.declared.auction_terms.Terms.{Terms}
 use Rattle.lot_base.specs.declared.limits.TheConstants.{GREATEST_FILE}
 use Rattle.demand_set.specs.declared.reports.Report.{Report}
@@ -41,17 +41,17 @@ module _ {D : Type 0} (shown : D → DiskShown) (terms : Terms) (digest : List �
 
   -- the target of the clock stood for a legal history
   abbrev pub WasOpen : ℕ → D → Type 0
-  WasOpen k d = IsTrue (is_told (shown (slice_index_or new k d))) → (c : ClockHistory) × IsOpening (owner_of terms k digest) (told_moments (shown (slice_index_or old k d))).now.read (Ok c)
+  WasOpen k d = IfDiskTold (shown (slice_index_or old k d)) (shown (slice_index_or new k d)) (λ before _. (c : ClockHistory) × IsOpening (owner_of terms k digest) before.now.read (Ok c))
 
   -- the target of the clock stood for a front of its reports
   abbrev pub WasFront : ℕ → D → ClockHistory → Type 0
-  WasFront k d c = IsTrue (is_told (shown (slice_index_or new k d))) → IsFront (owner_of terms k digest) (reports_at k c) (told_moments (shown (slice_index_or old k d))).now.read
+  WasFront k d c = IfDiskTold (shown (slice_index_or old k d)) (shown (slice_index_or new k d)) (λ before _. IsFront (owner_of terms k digest) (reports_at k c) before.now.read)
 
   -- The book of this clock was not opened, for this fault, and those of the smaller ones were.
   pub record IsNotOpened (clock : ℕ) (fault : OpenFault) : Type 0 where
     pub within : clock < length old
     pub before : (k : ℕ) (d : D) → k < clock → WasOpen k d
-    pub refused : (d : D) → IsTrue (is_told (shown (slice_index_or new clock d))) → ReadsClock (owner_of terms clock digest) (told_moments (shown (slice_index_or old clock d))).now.read (Err fault)
+    pub refused : (d : D) → IfDiskTold (shown (slice_index_or old clock d)) (shown (slice_index_or new clock d)) (λ before _. ReadsClock (owner_of terms clock digest) before.now.read (Err fault))
     pub counts : (d : D) → CountsFaults {T = ℕ} (shown (slice_index_or old clock d)).faults (shown (slice_index_or new clock d)).faults (Err fault)
 
   -- All books were opened, and this clock's is the first that has no front: its report of this number is the first that differs.
@@ -59,12 +59,12 @@ module _ {D : Type 0} (shown : D → DiskShown) (terms : Terms) (digest : List �
     pub within : clock < length old
     pub opened : (k : ℕ) (d : D) → k < length old → WasOpen k d
     pub before : (k : ℕ) (d : D) (c : ClockHistory) → k < clock → WasFront k d c
-    pub differs : (d : D) (x : ClockHistory) → IsTrue (is_told (shown (slice_index_or new clock d)))
-        → (c : ClockHistory) × IsOpening (owner_of terms clock digest) (told_moments (shown (slice_index_or old clock d))).now.read (Ok c) × IsNoFrontAt number c.reports (reports_at clock x)
+    pub differs : (d : D) (x : ClockHistory) → IfDiskTold (shown (slice_index_or old clock d)) (shown (slice_index_or new clock d))
+        (λ before _. (c : ClockHistory) × IsOpening (owner_of terms clock digest) before.now.read (Ok c) × IsNoFrontAt number c.reports (reports_at clock x))
 
   -- the target of the clock stood for a front of its reports, and stands for all of them now
   abbrev pub WasMoved : ℕ → D → ClockHistory → Type 0
-  WasMoved k d c = IsTrue (is_told (shown (slice_index_or new k d))) → IsMoved (owner_of terms k digest) (reports_at k c) (told_moments (shown (slice_index_or old k d))) (told_moments (shown (slice_index_or new k d)))
+  WasMoved k d c = IfDiskTold (shown (slice_index_or old k d)) (shown (slice_index_or new k d)) (IsMoved (owner_of terms k digest) (reports_at k c))
 
   -- All targets were opened and had fronts. The journal of this clock has no room for its reports, and those of the smaller ones were moved.
   pub record IsFull (clock needed : ℕ) : Type 0 where
@@ -92,13 +92,13 @@ module _ {D : Type 0} (shown : D → DiskShown) (terms : Terms) (digest : List �
 
   -- nothing but the opening of a book was done to the target of the clock
   abbrev pub WasOnlyOpened : ℕ → D → Type 0
-  WasOnlyOpened k d = IsTrue (is_told (shown (slice_index_or new k d)))
-      → AtEach (IsAsOpened (owner_of terms k digest) (told_moments (shown (slice_index_or old k d))).now.read) (synced_at (told_moments (shown (slice_index_or old k d)))) (told_moments (shown (slice_index_or new k d)))
+  WasOnlyOpened k d = IfDiskTold (shown (slice_index_or old k d)) (shown (slice_index_or new k d))
+      (λ before after. AtEach (IsAsOpened (owner_of terms k digest) before.now.read) (synced_at before) after)
 
   -- The targets of the smaller clocks were only opened, this clock's was left by an opening that was refused, and the others are as they were.
   pub record AreOpenedUpTo (clock : ℕ) : Type 0 where
     pub before : (k : ℕ) (d : D) → k < clock → WasOnlyOpened k d
-    pub here : (d : D) → IsTrue (is_told (shown (slice_index_or new clock d))) → LeftUnopened (owner_of terms clock digest) (told_moments (shown (slice_index_or old clock d))) (told_moments (shown (slice_index_or new clock d)))
+    pub here : (d : D) → IfDiskTold (shown (slice_index_or old clock d)) (shown (slice_index_or new clock d)) (LeftUnopened (owner_of terms clock digest))
     pub later : (k : ℕ) (d : D) → clock < k → slice_index_or new k d ≡ slice_index_or old k d
 
   -- with these answers no report was offered to any target
@@ -110,9 +110,9 @@ module _ {D : Type 0} (shown : D → DiskShown) (terms : Terms) (digest : List �
   -- The whole. The disks come back in order.
   pub record Moves (answer : Result (Unit {0}) MoveFault) : Type 0 where
     pub count : length new ≡ length old
-    pub left : (k : ℕ) (d : D) (c : ClockHistory) → k < length old → IsTrue (is_told (shown (slice_index_or new k d))) → LeavesTarget (owner_of terms k digest) (reports_at k c) (told_moments (shown (slice_index_or old k d))) (told_moments (shown (slice_index_or new k d)))
+    pub left : (k : ℕ) (d : D) (c : ClockHistory) → k < length old → IfDiskTold (shown (slice_index_or old k d)) (shown (slice_index_or new k d)) (LeavesTarget (owner_of terms k digest) (reports_at k c))
     pub unoffered : OnlyOpened answer
-    pub told : (k : ℕ) (d : D) → k < length old → IsTrue (is_told (shown (slice_index_or new k d))) → IsTrue (is_told (shown (slice_index_or old k d)))
+    pub told : (k : ℕ) (d : D) → k < length old → HasTold (shown (slice_index_or old k d)) (shown (slice_index_or new k d))
     pub unclaimed : (k : ℕ) (d : D) → k < length old → IsLeftUnlessClaimed (shown (slice_index_or old k d)) (shown (slice_index_or new k d))
     pub counts : (k : ℕ) (d : D) → k < length old → ((shown (slice_index_or new k d)).faults ≡ (shown (slice_index_or old k d)).faults)
         ⊎ (TellsFaultOf k answer × ((shown (slice_index_or old k d)).faults ≤ (shown (slice_index_or new k d)).faults))

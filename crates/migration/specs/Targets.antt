@@ -1,6 +1,6 @@
 -- The books on the targets, and what offering reports to them does.
 use Rattle.std.specs.Prelude.{◌≡◌, ◌⊎◌, ℕ, ◌<◌, ◌≤◌, Bool, IsTrue, List, length, map, take, slice_index_or, Option, Some, None, Result, OnOk, IfErr}
-use Rattle.house_io.specs.Disks.{DiskShown, is_told, told_moments, IsLater}
+use Rattle.house_io.specs.Disks.{DiskShown, IsLater, IfDiskTells, IfDiskTold}
 use Rattle.lot_base.specs.declared.auction_terms.Terms.{Terms}
 use Rattle.demand_set.specs.declared.reports.Report.{Report}
 use Rattle.house_io.specs.Faults.{Rose}
@@ -65,8 +65,8 @@ pub record HasFirst {D : Type 0} (source : ClockHistory) (count : ℕ) (b : Book
 pub record GoesOn {D : Type 0} (shown : D → DiskShown) (source : ClockHistory) (old new : BookOf D) : Type 0 where
   pub origin : new.origin ≡ old.origin
   pub later : IsLater (shown old.disk) (shown new.disk)
-  pub leaves : IsTrue (is_told (shown new.disk)) → (told_moments (shown new.disk) ≡ told_moments (shown old.disk))
-      ⊎ AtEach (StandsForFront (owner_in old.origin) source.reports (length old.state.clock.reports)) (told_moments (shown old.disk)) (told_moments (shown new.disk))
+  pub leaves : IfDiskTold (shown old.disk) (shown new.disk)
+      (λ before after. (after ≡ before) ⊎ AtEach (StandsForFront (owner_in old.origin) source.reports (length old.state.clock.reports)) before after)
 
 -- why not all reports were offered, by the count of the disk's faults
 abbrev pub StopsFor : ℕ → ℕ → Owner → List Report → Stopped → Type 0
@@ -87,7 +87,7 @@ pub record AreReady {D : Type 0} (clocks : List ClockHistory) (books : List (Boo
 module _ {D : Type 0} (shown : D → DiskShown) (clocks : List ClockHistory) (old new : List (BookOf D)) where
   -- the book of this clock stands for all reports of the clock
   abbrev pub IsWhole : ℕ → BookOf D → ClockHistory → Type 0
-  IsWhole k b c = IsTrue (is_told (shown (slice_index_or new k b).disk)) → Leaves (StandsForReports (owner_in (slice_index_or old k b).origin) (slice_index_or clocks k c).reports) (told_moments (shown (slice_index_or new k b).disk)).now
+  IsWhole k b c = IfDiskTells (shown (slice_index_or new k b).disk) (λ moments. Leaves (StandsForReports (owner_in (slice_index_or old k b).origin) (slice_index_or clocks k c).reports) moments.now)
 
   -- at this clock the reports were not all offered, for want of room or for a fault of the disk, and those of the smaller clocks were
   pub record StopsAt (clock : ℕ) (why : Stopped) : Type 0 where

@@ -1,6 +1,6 @@
 //! Reports that are offered to the books on the targets.
 ghost use Rattle.std.specs.Prelude.{◌≡◌, ◌+◌, ◌<◌, length, IsTrue, OnOk, IfErr};
-ghost use Rattle.house_io.specs.Disks.{is_told, told_moments};
+ghost use Rattle.house_io.specs.Disks.{IfDiskTells};
 ghost use Rattle.house_io.specs.Moments.{Leaves};
 ghost use Rattle.recovery.specs.Journaled.{StandsForReports};
 ghost use Rattle.clock.specs.Reports.{histories};
@@ -54,8 +54,8 @@ fn move_reports<D: Disk>(
 ) -> Result<(), Stopped>
     requires { HasFirst source.now.history (length book.old.state.clock.reports) book.old }
     ensures goes_on { GoesOn D.shown source.now.history book.old book.new }
-    ensures whole { OnOk result (IsTrue (is_told (D.shown book.new.disk))
-        → Leaves (StandsForReports (owner_in book.old.origin) source.now.history.reports) (told_moments (D.shown book.new.disk)).now) }
+    ensures whole { OnOk result (IfDiskTells (D.shown book.new.disk)
+        (λ moments. Leaves (StandsForReports (owner_in book.old.origin) source.now.history.reports) moments.now)) }
     ensures steady { OnOk result ((D.shown book.new.disk).faults ≡ (D.shown book.old.disk).faults) }
     ensures err { IfErr result (StopsFor (D.shown book.old.disk).faults (D.shown book.new.disk).faults (owner_in book.old.origin)
         source.now.history.reports) }

@@ -179,6 +179,32 @@ fn a_glance_tells_what_the_last_turn_left(rt: HostRuntime) -> Result<(), Fail> {
     Ok(())
 }
 
+/// What a pass finds by a glance and in a turn, once it has heard what another one saw that wrote a note.
+fn hears<T: Wait>(rt: &T, alloc: Global, notes: Notes) -> Result<(u64, usize), Fail> {
+    let Ok((desk, mut passes)) = Desk::new(alloc, notes, 2) else {
+        return Err(Fail::from("memory"));
+    };
+    let mut second = passes.pop().unwrap();
+    let mut first = passes.pop().unwrap();
+    let _before = write(rt, &desk, &mut first, 9);
+    let seen = desk.witness(&mut first);
+    desk.hear(&mut second, seen);
+    let glanced = desk.glance(&mut second);
+    let found = look(rt, &desk, &mut second);
+    passes.push_reserved(first);
+    passes.push_reserved(second);
+    let _book = desk.close(passes);
+    Ok((glanced, found))
+}
+
+#[test]
+fn a_pass_that_heard_of_a_note_finds_it(rt: HostRuntime) -> Result<(), Fail> {
+    let mut notes = Notes::empty(rt.alloc());
+    assert!(rt; notes.add(4));
+    assert_eq!(rt; hears(&rt, rt.alloc(), notes)?, (2, 2));
+    Ok(())
+}
+
 #[test]
 fn the_second_pass_sees_what_the_first_appended(rt: HostRuntime) -> Result<(), Fail> {
     let (before, seen, book) = one_after_the_other(&rt, rt.alloc())?;

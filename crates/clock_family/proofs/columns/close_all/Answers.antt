@@ -81,7 +81,7 @@ loop-desk-preserved g c =
     let k = c.close-book.ensures in
     let Is : BookOf g.row.D.Denot → List (Known Entry Origin) → Type 0 = λ b ps. Closes (λ (x : BookOf g.row.D.Denot). x.state.history) (λ (x : BookOf g.row.D.Denot). x.origin) c.in-Some.desk.book ps b in
     let Closed = Is c.close-book.result in
-    let closed : Closed (column m c.args.rows.now.items) = subst Closed col (record { origin_is = k.origin_is; goes_on = k.goes_on; seen = k.seen; own = k.own; places = k.places }) in
+    let closed : Closed (column m c.args.rows.now.items) = subst Closed col (record { origin_is = k.origin_is; goes_on = k.goes_on; seen = k.seen; also = k.also; own = k.own; places = k.places }) in
     let closed = subst (λ (b : BookOf g.row.D.Denot). Is b (column m c.args.rows.now.items)) (sym c.into_book.ensures) closed in
     let back : reverse c.push_reserved.new.self.items ≡ c.into_book.result ∷ reverse c.loop-desk.books.items = ap reverse c.push_reserved.ensures.items ∙ reverse-append c.loop-desk.books.items (c.into_book.result ∷ []) in
     let From : ℕ → List (BookOf g.row.D.Denot) → Type 0 = λ n. AreClosedFrom n c.args.desks.items c.args.rows.now.items in

@@ -3,7 +3,7 @@ use Rattle.recovery.specs.Journaled.{Owner, owner_of}
 use Rattle.clock_book.specs.declared.entries.Entry.{Entry}
 use Rattle.clock_book.specs.declared.origins.Origin.{Origin}
 use Rattle.clock_book.specs.Past.{owner_in}
-use Rattle.turn_desk.specs.Histories.{StartsWith}
+use Rattle.turn_desk.specs.Histories.{StartsWith, StartsWithAll}
 use Rattle.turn_desk.specs.Passes.{Known, at_turn, after_giving}
 use Rattle.clock_family.proofs.Offering.{same-some}
 use Rattle.clock_family.proofs.Turning.{looked}
@@ -36,7 +36,8 @@ returns-clause-looks g c =
       origin = book.origin;
       origin_is = ap (λ (p : Known Entry Origin). p.origin) (sym c.pass.view_is) ∙ c.take-book.ensures.origin;
       before = before;
-      goes_on = subst (λ (p : Known Entry Origin). StartsWith before p.seen) c.pass.view_is c.take-book.ensures.goes_on;
+      goes_on = subst (λ (p : Known Entry Origin). StartsWith before p.seen) c.pass.view_is c.take-book.ensures.goes_on.0;
+      also = subst (λ (p : Known Entry Origin). StartsWithAll before p.also) c.pass.view_is c.take-book.ensures.goes_on.1;
       shows = c.look-look.ensures.shows;
       same = looked mid c.give.new.pass before (ap (λ (p : Known Entry Origin). p.turn) on.sees ∙ c.requires.rests)
           (c.give.ensures.given ∙ ap (λ (p : Known Entry Origin). after_giving p before) (c.take-book.ensures.turn ∙ ap (λ (p : Known Entry Origin). at_turn p before) c.pass.view_is));

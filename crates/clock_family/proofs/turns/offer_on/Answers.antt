@@ -6,7 +6,7 @@ use Rattle.session.specs.Asking.{IsOffered}
 use Rattle.clock_book.specs.declared.entries.Entry.{Entry}
 use Rattle.clock_book.specs.declared.origins.Origin.{Origin}
 use Rattle.clock_book.specs.Past.{owner_in}
-use Rattle.turn_desk.specs.Histories.{StartsWith}
+use Rattle.turn_desk.specs.Histories.{StartsWith, StartsWithAll}
 use Rattle.turn_desk.specs.Passes.{Known, at_turn, after_giving}
 use Rattle.clock_family.proofs.Offering.{same-some, refusal-of}
 use Rattle.clock_family.proofs.Glancing.{given-shown}
@@ -26,7 +26,8 @@ returns-clause-offers g c =
       origin = book.origin;
       origin_is = ap (λ (p : Known Entry Origin). p.origin) (sym c.pass.view_is) ∙ c.take-book.ensures.origin;
       before = book.state.history;
-      goes_on = subst (λ (p : Known Entry Origin). StartsWith book.state.history p.seen) c.pass.view_is c.take-book.ensures.goes_on;
+      goes_on = subst (λ (p : Known Entry Origin). StartsWith book.state.history p.seen) c.pass.view_is c.take-book.ensures.goes_on.0;
+      also = subst (λ (p : Known Entry Origin). StartsWithAll book.state.history p.also) c.pass.view_is c.take-book.ensures.goes_on.1;
       after = after;
       offers = c.offer-answer.ensures.history;
       gives = c.give.ensures.given ∙ ap (λ (p : Known Entry Origin). after_giving p after) (c.take-book.ensures.turn ∙ ap (λ (p : Known Entry Origin). at_turn p book.state.history) c.pass.view_is);

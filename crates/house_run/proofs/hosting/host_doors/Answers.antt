@@ -8,13 +8,13 @@ use Rattle.house_run.proofs.HouseBack.{doors-back, none-added, served-outcome}
 use Rattle.house_run.proofs.hosting.host_doors.Goals as goal
 
 pub returns-in-Ok : goal.returns-in-Ok
-returns-in-Ok g c = λ before address gives.
+returns-in-Ok g c = λ address before gives.
     served-outcome g.D.Disk.shown g.N.Door.Door.told g.N.Door.Door.faults g.N.Door.Link.Link.told g.N.Door.Link.Link.faults c.args.auction.now c.args.sessions c.close_served.result.0 address c.args.house c.args.passes.items c.args.doors.items
     c.in-Ok.served.books.items c.in-Ok.served.doors.items c.close_served.result.1.items before (g.N.Net.told c.args.net.now) (g.N.Net.told c.close_served.new.net) (g.N.Net.faults c.args.net.now) (g.N.Net.faults c.close_served.new.net)
     c.in-Ok.ensures.served c.requires.doors.1 gives c.close_served.ensures.disks c.close_served.ensures.kept c.close_served.ensures.lists c.close_served.ensures.faults c.close_served.ensures.outcome
 
 pub returns-in-Err : goal.returns-in-Err
-returns-in-Err g c = λ before address gives.
+returns-in-Err g c = λ address before gives.
     let r = c.in-Err.ensures.refused in
     let given = c.args.doors.items in
     let same : c.in-Err.not_served.doors.items ≡ given = ap (λ (v : Vec g.row.N-Door.Denot Global). v.items) r.2 in

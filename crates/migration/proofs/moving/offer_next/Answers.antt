@@ -40,7 +40,7 @@ unreachable-requires g c =
     let r = c.in-Ok.report in
     let at = at-place source.reports c.args.place r c.in-Ok.ensures in
     not-refused (owner_in b.origin) b.state r c.offer.result c.offer.new.self.state (book-takes source c.args.place r c.number-legal.ensures.legal at b c.requires.first kept.terms kept.number)
-    (answered (owner_in b.origin) b.state r c.offer.result c.offer.new.self.state _ _ _ c.requires.first.settled c.offer.ensures.answer) c.in-Again.is
+    (answered (owner_in b.origin) b.state r c.offer.result c.offer.new.self.state _ _ c.requires.first.settled c.offer.ensures.answer) c.in-Again.is
 
 pub returns-in-Taken-clause-goes_on : goal.returns-in-Taken-clause-goes_on
 returns-in-Taken-clause-goes_on g c =

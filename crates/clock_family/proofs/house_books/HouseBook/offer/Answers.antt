@@ -24,7 +24,7 @@ returns-clause-history g c =
     let r : Report = record { bidder = c.args.bidder; round = c.args.round; demand = c.args.demand } in
     let Is : BookOf g.row.D.Denot → Type 0 = λ x. IsHistoryOffer (owner_in x.origin) x.state.history r c.offer_hinted.result c.offer_hinted.new.self.state.history in
     subst Is here (history-offer (owner_in b.origin) b.state c.offer_hinted.new.self.state r c.offer_hinted.result
-    (λ i. record { terms = kept.terms i; number = kept.number i; reports = sym kept.reports i }) kept.doubt _ _ _ c.offer_hinted.ensures.answer)
+    (λ i. record { terms = kept.terms i; number = kept.number i; reports = sym kept.reports i }) kept.doubt _ _ c.offer_hinted.ensures.answer)
 
 pub returns-clause-goes_on : goal.returns-clause-goes_on
 returns-clause-goes_on g c =
@@ -34,4 +34,4 @@ returns-clause-goes_on g c =
     let r : Report = record { bidder = c.args.bidder; round = c.args.round; demand = c.args.demand } in
     subst (λ (x : BookOf g.row.D.Denot). GoesOn x.state.history c.offer_hinted.new.self.state.history) here (goes-on (owner_in b.origin) b.state.history c.offer_hinted.new.self.state.history r c.offer_hinted.result
     (history-offer (owner_in b.origin) b.state c.offer_hinted.new.self.state r c.offer_hinted.result
-    (λ i. record { terms = kept.terms i; number = kept.number i; reports = sym kept.reports i }) kept.doubt _ _ _ c.offer_hinted.ensures.answer))
+    (λ i. record { terms = kept.terms i; number = kept.number i; reports = sym kept.reports i }) kept.doubt _ _ c.offer_hinted.ensures.answer))

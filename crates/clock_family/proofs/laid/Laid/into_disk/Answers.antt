@@ -17,7 +17,7 @@ returns g c =
     let Nothing : LaidOf g.row.D.Denot → Type 0 = λ l. AllByRecursion (λ (p : Known Entry Origin). p.own ≡ []) l.passes in
     let nothing = subst Nothing (sym c.self.view_is) c.requires.unused.made_nothing in
     let Is : BookOf g.row.D.Denot → Type 0 = Closes (λ (x : BookOf g.row.D.Denot). x.state.history) (λ (x : BookOf g.row.D.Denot). x.origin) first ps in
-    let closes : Is b = subst Is (sym c.into_book-book.ensures) (record { origin_is = k.origin_is; goes_on = k.goes_on; seen = k.seen; own = k.own; places = k.places }) in
+    let closes : Is b = subst Is (sym c.into_book-book.ensures) (record { origin_is = k.origin_is; goes_on = k.goes_on; seen = k.seen; also = k.also; own = k.own; places = k.places }) in
     let same = same-history (λ (x : BookOf g.row.D.Denot). x.state.history) (λ (x : BookOf g.row.D.Denot). x.origin) first ps b nothing closes in
     let back = given-back g.D.Disk.shown b first.origin first.state.history c.into_parts-clock.result.1 c.clock-kept.ensures.kept closes.origin_is same c.into_parts-clock.ensures.disk in
     let Back : LaidOf g.row.D.Denot → Type 0 = λ l. IsGivenBack g.D.Disk.shown l.desk.book.origin l.desk.book.state.history c.into_parts-clock.result.1 in
