@@ -3,7 +3,7 @@ use Rattle.std.proofs.Common.{◌≡◌, ◌<◌, ◌^◌, ℕ, zero, suc, ◌+�
 use Rattle.std.specs.List.{AllByRecursion, flat_map}
 use Rattle.byteorder.specs.Endian.{big_bytes, big_number}
 use Rattle.byte_numbers.specs.Spelling.{short_numbers}
-use Rattle.byte_numbers.proofs.Spelled.{read_back, spelled}
+use Rattle.byte_numbers.proofs.Spelled.{read_back, same_bytes}
 
 pub length-short_numbers : (count : ℕ) (bytes : List ℕ) → length bytes ≡ 2 * count → length (short_numbers bytes) ≡ count
 length-short_numbers zero [] long = refl
@@ -36,6 +36,6 @@ pairs_again zero (a ∷ bytes) long are = absurd (omega arith)
 pairs_again (suc n) [] long are = absurd (omega arith)
 pairs_again (suc n) (a ∷ []) long are = absurd (omega arith)
 pairs_again (suc n) (a ∷ b ∷ bytes) long are =
-    let pair = spelled 2 (a ∷ b ∷ []) (big_number 2 (a ∷ b ∷ [])) refl (two_bytes a b (are 0) (are 1)) refl in
+    let pair = same_bytes 2 (a ∷ b ∷ []) (big_number 2 (a ∷ b ∷ [])) refl (two_bytes a b (are 0) (are 1)) refl in
     let rest = pairs_again n bytes (omega arith) (λ place. are (suc (suc place))) in
     λ i. pair i ++ rest i

@@ -56,8 +56,8 @@ written_back (suc n) (b ∷ bytes) long are =
     ap (λ (r : ℕ). big_bytes (suc n) (b * 256 ^ n + r)) tail ∙ (λ i. first i ∷ others i)
 
 -- the bytes whose number this is
-pub spelled : (n : ℕ) (bytes : List ℕ) (x : ℕ) → length bytes ≡ n → ((place : ℕ) → slice_index bytes place < 256) → x ≡ big_number n bytes → big_bytes n x ≡ bytes
-spelled n bytes x long are is = ap (big_bytes n) is ∙ written_back n bytes (omega arith) are ∙ take_all n bytes (omega arith)
+pub same_bytes : (n : ℕ) (bytes : List ℕ) (x : ℕ) → length bytes ≡ n → ((place : ℕ) → slice_index bytes place < 256) → x ≡ big_number n bytes → big_bytes n x ≡ bytes
+same_bytes n bytes x long are is = ap (big_bytes n) is ∙ written_back n bytes (omega arith) are ∙ take_all n bytes (omega arith)
 
 -- numbers of the same bytes are the same
 pub one_number : (n x y : ℕ) → x < 256 ^ n → y < 256 ^ n → big_bytes n x ≡ big_bytes n y → x ≡ y

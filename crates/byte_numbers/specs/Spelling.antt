@@ -1,6 +1,7 @@
--- Many numbers as bytes. One of n bytes is byteorder's `big_bytes n`, and what n bytes spell is its `big_number n`, the highest byte first.
+-- Numbers as bytes, the highest byte first: the bytes of one and what bytes spell in byteorder's words, `big_bytes` and `big_number`, which
+-- pass on here, and what pairs of bytes spell.
 use Rattle.std.specs.Prelude.{ℕ, List, [], ◌∷◌}
-use Rattle.byteorder.specs.Endian.{big_number}
+pub use Rattle.byteorder.specs.Endian.{big_bytes, big_number}
 
 -- the numbers that pairs of bytes spell; a last byte alone spells none
 abbrev pub short_numbers : List ℕ → List ℕ
