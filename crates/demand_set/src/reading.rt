@@ -1,10 +1,11 @@
 //! Demands, and how they are read.
 ghost use Rattle.std.specs.Prelude.{◌≡◌, ◌↔◌, ◌<◌, ◌≤◌, ◌+◌, ◌*◌, length, take, drop, slice_get, Some, IsTrue, IfOk};
+ghost use Rattle.byte_numbers.specs.Spelling.{short_numbers};
 ghost use Rattle.demand_set.specs.Reading.{IsOrNoMemory};
-ghost use Rattle.demand_set.specs.Packed.{numbers_in};
 ghost use Rattle.demand_set.specs.Same.{same_demand};
 
 use crate::places::fault_of;
+use byte_numbers::short_numbers_of;
 use lot_base::{Bundle, Goods, NoMemory, RawDemand};
 use std::alloc::{AllocError, AllocFailed, Global};
 use std::marker::Model;
@@ -88,11 +89,11 @@ impl Demand {
         count: u8,
         bytes: &[u8],
     ) -> Result<Demand, DemandFault>
-        requires { AreWhole count (numbers_in bytes.now) }
+        requires { AreWhole count (short_numbers bytes.now) }
         ensures fits { IfOk result (λ d. IsDemand goods.now d) }
-        ensures value { IsOrNoMemory result (demand_of goods.now count (bundles_of count (numbers_in bytes.now))) }
+        ensures value { IsOrNoMemory result (demand_of goods.now count (bundles_of count (short_numbers bytes.now))) }
     {
-        let quantities = match numbers_of(alloc, bytes) {
+        let quantities = match short_numbers_of(alloc, bytes) {
             Ok(quantities) => quantities,
             Err(_) => return Err(DemandFault::NoMemory),
         };
@@ -175,17 +176,4 @@ fn bundle_at(quantities: &[u16], goods: u8, place: u32) -> Bundle
     let start = place as usize * goods as usize;
     let others = quantities.split_at(start).1;
     Bundle::read(&others[..goods as usize]).unwrap()
-}
-
-/// The numbers that pairs of bytes stand for.
-fn numbers_of(alloc: Global, bytes: &[u8]) -> Result<Vec<u16>, AllocError>
-    ensures { IfOk result (λ v. v.items ≡ numbers_in bytes.now) }
-{
-    let mut numbers = Vec::with_capacity(alloc, bytes.len() / 2)?;
-    let mut rest = bytes;
-    while let [high, low, others @ ..] = rest {
-        numbers.push(u16::from_be_bytes([*high, *low]))?;
-        rest = others;
-    }
-    Ok(numbers)
 }
