@@ -3,9 +3,9 @@ use Rattle.std.proofs.Common.{◌≡◌, ◌⊎◌, inl, inr, ⊎_elim, ℕ, ◌
 use Rattle.std.specs.Prelude.{Option, Some, None, MatchOption}
 use Rattle.std.proofs.lemmas.Bool.{cases_lt, lt-ltb, le-ltb}
 use Rattle.std.proofs.lemmas.List.{take-append-le}
-use Rattle.std.proofs.lemmas.Nat.{from_be_bytes-to_be_bytes_4}
+use Rattle.byte_numbers.specs.Spelling.{big_number}
+use Rattle.byte_numbers.proofs.Spelled.{read_back}
 use Rattle.std.specs.List.{flat_map}
-use Rattle.std.specs.Int.{w32, from_be_bytes}
 use Rattle.report_wire.specs.declared.frames.WireKind.{WireKind}
 use Rattle.report_wire.specs.declared.frames.WireKind.TheVariants.{TooLong, UnknownKind, BadPayload}
 use Rattle.report_wire.specs.Frames.{Direction, Sent, IsPartial, IsFault, Reads, spelled, stream_of, length_at}
@@ -38,10 +38,10 @@ one_at_most d rest piece [] after fault partial le reads = inl refl
 one_at_most d rest piece (m ∷ ms) after fault partial le reads =
     let whole : rest ++ piece ≡ spelled m ++ stream_of ms after = reads.whole ∙ append_assoc (spelled m) (flat_map spelled ms) after in
     let short = reads.each.0.short in
-    let size : length_at (spelled m ++ stream_of ms after) ≡ length m.payload = from_be_bytes-to_be_bytes_4 (length m.payload) (omega (arith, short)) in
+    let size : length_at (spelled m ++ stream_of ms after) ≡ length m.payload = read_back 4 (length m.payload) (omega (arith, short)) in
     let long : 5 ≤ length rest → (length rest ≤ 5 + length_at rest) × (length_at rest ≡ length m.payload) = λ e. (
       ⊎_elim (λ p. absurd (omega (arith, p, e))) (λ p. ⊎_elim (λ q. let q0 = q.0 in absurd (omega (arith, q0, e))) (λ q. let q2 = q.2 in omega (arith, q2)) p) partial,
-      ap (from_be_bytes w32) (sym (take-append-le 4 rest piece (omega (arith, e)))) ∙ ap length_at whole ∙ size,
+      ap (big_number 4) (sym (take-append-le 4 rest piece (omega (arith, e)))) ∙ ap length_at whole ∙ size,
     ) in
     let few = few_enough rest (length piece) (length m.payload) le long in
     let lengths = ap length whole in

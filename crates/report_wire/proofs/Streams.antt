@@ -3,18 +3,18 @@ use Rattle.std.proofs.Common.{◌≡◌, inl, inr, ⊎_elim, ℕ, ◌^◌, ◌<�
 use Rattle.std.specs.Prelude.{Option, Some, None, MatchOption}
 use Rattle.std.proofs.lemmas.Bool.{both_ways}
 use Rattle.std.proofs.lemmas.List.{take_at, drop_at}
-use Rattle.std.proofs.lemmas.Nat.{from_be_bytes-to_be_bytes_4}
+use Rattle.byte_numbers.specs.Spelling.{big_bytes, big_number}
+use Rattle.byte_numbers.proofs.Spelled.{read_back}
 use Rattle.std.specs.List.{AllByRecursion, flat_map}
-use Rattle.std.specs.Int.{w32, to_be_bytes, from_be_bytes}
 use Rattle.report_wire.specs.declared.frames.WireKind.{WireKind}
 use Rattle.report_wire.specs.declared.frames.WireKind.TheVariants.{TooLong, UnknownKind, BadPayload}
 use Rattle.report_wire.specs.Frames.{Direction, Sent, IsSent, IsPartial, IsFault, Reads, spelled, stream_of, length_at, payload_at}
 
-number_is : (m n : ℕ) (x y : List ℕ) → m < 2 ^ 32 → n < 2 ^ 32 → to_be_bytes w32 m ++ x ≡ to_be_bytes w32 n ++ y → (m ≡ n) × (x ≡ y)
+number_is : (m n : ℕ) (x y : List ℕ) → m < 2 ^ 32 → n < 2 ^ 32 → big_bytes 4 m ++ x ≡ big_bytes 4 n ++ y → (m ≡ n) × (x ≡ y)
 number_is m n x y m_fits n_fits same =
-    let first : to_be_bytes w32 m ≡ to_be_bytes w32 n = ap (λ (l : List ℕ). take 4 l) same in
+    let first : big_bytes 4 m ≡ big_bytes 4 n = ap (λ (l : List ℕ). take 4 l) same in
     let rest : x ≡ y = ap (λ (l : List ℕ). drop 4 l) same in
-    (sym (from_be_bytes-to_be_bytes_4 m m_fits) ∙ ap (from_be_bytes w32) first ∙ from_be_bytes-to_be_bytes_4 n n_fits, rest)
+    (sym (read_back 4 m m_fits) ∙ ap (big_number 4) first ∙ read_back 4 n n_fits, rest)
 
 -- frames in two lists, and what follows them
 pub stream_on : (ms ns : List Sent) (rest : List ℕ) → stream_of (ms ++ ns) rest ≡ stream_of ms (stream_of ns rest)
@@ -38,7 +38,7 @@ pieces d ms ns stream r piece t f before more = record {
 
 module _ (d : Direction) (formed : (kind : ℕ) (payload : List ℕ) → d.is_payload kind payload ≡ true → (d.is_kind kind ≡ true) × (d.allows kind (length payload) ≡ true)) where
   sized : (m : Sent) (x : List ℕ) → IsSent d m → length_at (spelled m ++ x) ≡ length m.payload
-  sized m x is = from_be_bytes-to_be_bytes_4 (length m.payload) (let s = is.short in omega arith)
+  sized m x is = read_back 4 (length m.payload) (let s = is.short in omega arith)
 
   -- no frame begins another
   pub no_prefix : (m n : Sent) (x y : List ℕ) → IsSent d m → IsSent d n → spelled m ++ x ≡ spelled n ++ y → (m ≡ n) × (x ≡ y)
@@ -46,7 +46,7 @@ module _ (d : Direction) (formed : (kind : ℕ) (payload : List ℕ) → d.is_pa
       let sm = is_m.short in
       let sn = is_n.short in
       let numbers = number_is (length m.payload) (length n.payload) (m.kind ∷ m.payload ++ x) (n.kind ∷ n.payload ++ y) (omega arith) (omega arith)
-      (sym (append_assoc (to_be_bytes w32 (length m.payload)) (m.kind ∷ m.payload) x) ∙ same ∙ append_assoc (to_be_bytes w32 (length n.payload)) (n.kind ∷ n.payload) y) in
+      (sym (append_assoc (big_bytes 4 (length m.payload)) (m.kind ∷ m.payload) x) ∙ same ∙ append_assoc (big_bytes 4 (length n.payload)) (n.kind ∷ n.payload) y) in
       let kinds : m.kind ≡ n.kind = ap (λ (l : List ℕ). get_or l 0 0) numbers.1 in
       let tails : m.payload ++ x ≡ n.payload ++ y = ap (λ (l : List ℕ). drop 1 l) numbers.1 in
       let size = length m.payload in

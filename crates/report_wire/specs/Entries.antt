@@ -1,6 +1,6 @@
 -- Entries of reports, as logs and journals keep them: a payload of a report whose first byte is the bidder, of at most 32,768 bytes.
-use Rattle.std.specs.Prelude.{◌≡◌, ◌≤◌, ℕ, ◌*◌, nat_le, Bool, true, false, ◌&&◌, List, [], ◌∷◌, length, Option, Some, None}
-use Rattle.std.specs.Int.{w16, from_be_bytes}
+use Rattle.std.specs.Prelude.{◌≡◌, ◌≤◌, ℕ, ◌*◌, nat_le, Bool, true, false, ◌&&◌, List, length, Option, Some, None}
+use Rattle.byte_numbers.specs.Spelling.{short_numbers}
 use Rattle.lot_base.specs.declared.raw.RawReport.{RawReport}
 use Rattle.lot_base.specs.declared.limits.TheConstants.{MOST_GOODS, GREATEST_PAYLOAD}
 use Rattle.report_wire.specs.declared.entries.EntryView.{EntryView}
@@ -23,12 +23,6 @@ pub record IsWhole (goods : ℕ) (quantities : List ℕ) : Type 0 where
 abbrev pub IsReport : (List ℕ → Bool) → Option RawReport → List ℕ → Type 0
 IsReport is_one None payload = is_one payload ≡ false
 IsReport is_one (Some r) payload = (is_one payload ≡ true) × (entry_payload r ≡ payload) × IsWhole r.demand.goods r.demand.quantities
-
--- the numbers that pairs of bytes spell, big-endian
-abbrev pub short_numbers : List ℕ → List ℕ
-short_numbers [] = []
-short_numbers (high ∷ []) = []
-short_numbers (high ∷ low ∷ rest) = from_be_bytes w16 (high ∷ low ∷ []) ∷ short_numbers rest
 
 -- what is seen of a payload: the parts of the report that it spells, or that it spells none
 abbrev pub IsViewed : (List ℕ → Bool) → Option EntryView → List ℕ → Type 0

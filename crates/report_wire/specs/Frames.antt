@@ -3,7 +3,7 @@
 -- A stream is read as the frames at its front, and then either less than a frame, or what cannot be one: a fault. A fault stands
 -- there as soon as the bytes so far decide it.
 use Rattle.std.specs.Prelude.{◌≡◌, ◌≤◌, ◌<◌, ℕ, ◌+◌, Bool, true, false, List, ◌∷◌, ◌++◌, length, take, drop, slice_index, Option, Some, None, ◌⊎◌, MatchOption}
-use Rattle.std.specs.Int.{w32, to_be_bytes, from_be_bytes}
+use Rattle.byte_numbers.specs.Spelling.{big_bytes, big_number}
 use Rattle.std.specs.List.{AllByRecursion, flat_map}
 use Rattle.lot_base.specs.declared.limits.TheConstants.{GREATEST_PAYLOAD}
 use Rattle.report_wire.specs.declared.frames.WireKind.{WireKind}
@@ -21,7 +21,7 @@ pub record Sent : Type 0 where
   pub payload : List ℕ
 
 abbrev pub spelling : ℕ → List ℕ → List ℕ
-spelling kind payload = to_be_bytes w32 (length payload) ++ kind ∷ payload
+spelling kind payload = big_bytes 4 (length payload) ++ kind ∷ payload
 
 abbrev pub spelled : Sent → List ℕ
 spelled s = spelling s.kind s.payload
@@ -36,7 +36,7 @@ IsSent d s = IsMessage d s.kind s.payload
 
 -- the length and the kind that bytes begin with, and the payload that follows
 abbrev pub length_at : List ℕ → ℕ
-length_at bytes = from_be_bytes w32 (take 4 bytes)
+length_at bytes = big_number 4 (take 4 bytes)
 
 abbrev pub kind_at : List ℕ → ℕ
 kind_at bytes = slice_index bytes 4

@@ -1,6 +1,6 @@
 -- The messages of both directions, and how each is spelled.
 use Rattle.std.specs.Prelude.{ℕ, ◌==◌, nat_le, Bool, true, ◌&&◌, ◌||◌, List, [], ◌∷◌, length, if◌then◌else◌}
-use Rattle.std.specs.Int.{w32, to_be_bytes}
+use Rattle.byte_numbers.specs.Spelling.{big_bytes}
 use Rattle.report_wire.specs.Frames.{Direction, Sent}
 use Rattle.report_wire.specs.Payloads.{report_payload, price_payload, is_report_payload, is_price_payload, is_refused_payload, is_between}
 use Rattle.report_wire.specs.declared.messages.ToHouse.{ToHouse}
@@ -40,9 +40,9 @@ bidder_kind bidder.Bye = 22
 abbrev pub bidder_payload : ToBidder → List ℕ
 bidder_payload (bidder.Welcome goods clocks) = goods ∷ clocks ∷ []
 bidder_payload (bidder.Price clock round phase prices) = price_payload clock round phase prices
-bidder_payload (bidder.Taken clock round) = clock ∷ to_be_bytes w32 round
-bidder_payload (bidder.Again clock round) = clock ∷ to_be_bytes w32 round
-bidder_payload (bidder.Refused code detail value) = code ∷ detail ∷ to_be_bytes w32 value
+bidder_payload (bidder.Taken clock round) = clock ∷ big_bytes 4 round
+bidder_payload (bidder.Again clock round) = clock ∷ big_bytes 4 round
+bidder_payload (bidder.Refused code detail value) = code ∷ detail ∷ big_bytes 4 value
 bidder_payload bidder.Bye = []
 
 abbrev pub bidder_allows : ℕ → ℕ → Bool

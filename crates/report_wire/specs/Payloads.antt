@@ -3,21 +3,21 @@
 -- clock, the round in four bytes, the phase, the good at which the clock is halted, the number of goods, and the prices in four
 -- bytes each.
 use Rattle.std.specs.Prelude.{ℕ, ◌+◌, ◌*◌, ◌/◌, ◌==◌, nat_le, nat_lt, Bool, ◌&&◌, ◌||◌, List, ◌∷◌, ◌++◌, length, take, drop, slice_index, if◌then◌else◌}
-use Rattle.std.specs.Int.{w16, w32, to_be_bytes, from_be_bytes}
+use Rattle.byte_numbers.specs.Spelling.{big_bytes, big_number}
 use Rattle.std.specs.List.{flat_map}
 use Rattle.lot_base.specs.declared.phases.Phase.{Phase}
 use Rattle.lot_base.specs.declared.phases.Phase.TheVariants.{Running, Ended, Halted}
 
 abbrev pub report_payload : ℕ → ℕ → ℕ → List ℕ → List ℕ
 report_payload first round goods quantities =
-    first ∷ to_be_bytes w32 round ++ goods ∷ to_be_bytes w16 (length quantities / goods) ++ flat_map (to_be_bytes w16) quantities
+    first ∷ big_bytes 4 round ++ goods ∷ big_bytes 2 (length quantities / goods) ++ flat_map (big_bytes 2) quantities
 
 -- how many goods and how many bundles a report's payload names
 abbrev pub goods_in : List ℕ → ℕ
 goods_in payload = slice_index payload 5
 
 abbrev pub bundles_in : List ℕ → ℕ
-bundles_in payload = from_be_bytes w16 (take 2 (drop 6 payload))
+bundles_in payload = big_number 2 (take 2 (drop 6 payload))
 
 abbrev pub is_between : ℕ → ℕ → ℕ → Bool
 is_between low high n = nat_le low n && nat_le n high
@@ -37,7 +37,7 @@ halted_good (Halted good) = good
 
 abbrev pub price_payload : ℕ → ℕ → Phase → List ℕ → List ℕ
 price_payload clock round phase prices =
-    clock ∷ to_be_bytes w32 round ++ phase_number phase ∷ halted_good phase ∷ length prices ∷ flat_map (to_be_bytes w32) prices
+    clock ∷ big_bytes 4 round ++ phase_number phase ∷ halted_good phase ∷ length prices ∷ flat_map (big_bytes 4) prices
 
 -- a phase in two numbers: only a halted clock has a good, one of the goods
 abbrev pub is_phase : ℕ → ℕ → ℕ → Bool

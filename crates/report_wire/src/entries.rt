@@ -4,9 +4,9 @@ ghost use Rattle.lot_base.specs.declared.limits.TheConstants.{GREATEST_PAYLOAD};
 ghost use Rattle.report_wire.specs.Payloads.{report_payload, is_report_payload};
 ghost use Rattle.report_wire.specs.Entries.{IsReport, IsViewed, IsWhole, entry_payload, is_entry};
 
-use crate::numbers::{
-    fill_short_numbers, number_of, push_number, push_short_numbers, short_number_of,
-    short_numbers_of,
+use byte_numbers::{
+    fill_number, fill_short_number, fill_short_numbers, number_of, push_number, push_short_number,
+    push_short_numbers, short_number_of, short_numbers_of,
 };
 use lot_base::limits::{GREATEST_PAYLOAD, MOST_GOODS};
 use lot_base::{NoMemory, RawDemand, RawReport, Sequence};
@@ -55,9 +55,9 @@ pub fn entry_to(bidder: u8, round: u32, goods: u8, quantities: &[u16], into: &mu
     let size = HEAD + 2 * quantities.len();
     let count = bundles_of(goods, quantities);
     into[0] = bidder;
-    into[1..5].copy_from_slice(&round.to_be_bytes());
+    fill_number(round, &mut into[1..5]);
     into[5] = goods;
-    into[6..HEAD].copy_from_slice(&count.to_be_bytes());
+    fill_short_number(count, &mut into[6..HEAD]);
     fill_short_numbers(quantities, &mut into[HEAD..size]);
     size as u32
 }
@@ -78,7 +78,7 @@ pub(crate) fn push_report(
     bytes.push(first)?;
     push_number(bytes, round)?;
     bytes.push(demand.goods)?;
-    bytes.extend_from_slice(&count.to_be_bytes())?;
+    push_short_number(bytes, count)?;
     push_short_numbers(bytes, quantities)
 }
 

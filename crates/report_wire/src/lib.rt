@@ -4,9 +4,9 @@
 
 pub mod entries;
 pub mod frames;
+mod heads;
 pub mod laws;
 pub mod messages;
-mod numbers;
 pub mod readers;
 mod to_bidder;
 mod to_house;

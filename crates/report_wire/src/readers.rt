@@ -5,7 +5,7 @@ ghost use Rattle.report_wire.specs.Frames.{IsSent, IsPartial, IsFault, stream_of
 ghost use Rattle.report_wire.specs.Reading.{IsFound, sent_of, fresh, fault_of, needs_of};
 
 use crate::frames::{Frame, WireFault, WireKind};
-use crate::numbers::number_of;
+use byte_numbers::number_of;
 use lot_base::NoMemory;
 use lot_base::limits::GREATEST_PAYLOAD;
 use std::alloc::Global;

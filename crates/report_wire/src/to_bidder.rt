@@ -1,14 +1,15 @@
 //! Frames to a bidder.
 ghost use Rattle.std.specs.Prelude.{◌≡◌, ◌≤◌, ◌<◌, ◌*◌, ◌+◌, ◌++◌, length, true, take, drop, slice_index, IfOk, OnOk, MatchOption};
-ghost use Rattle.std.specs.Int.{w32, to_be_bytes, from_be_bytes};
+ghost use Rattle.byte_numbers.specs.Spelling.{big_bytes};
 ghost use Rattle.std.specs.List.{flat_map};
 ghost use Rattle.report_wire.specs.Frames.{IsMessage, IsRead, spelling};
 ghost use Rattle.report_wire.specs.Messages.{to_bidder, bidder_kind, bidder_payload};
 ghost use Rattle.report_wire.specs.Payloads.{phase_number, halted_good, is_phase, is_price_payload, is_refused_payload, price_payload};
 
 use crate::frames::Frame;
+use crate::heads::push_head;
 use crate::messages::ToBidder;
-use crate::numbers::{number_of, push_head, push_number};
+use byte_numbers::{number_of, push_number};
 use lot_base::{NoMemory, Phase, Prices};
 use std::alloc::{AllocError, Global};
 
@@ -156,7 +157,7 @@ fn prices_of(bytes: &[u8], goods: u8) -> Prices
     requires few { goods ≤ 6 }
     requires length { length bytes.now ≡ 4 * goods }
     ensures count { length result ≡ goods }
-    ensures spelled { flat_map (to_be_bytes w32) result ≡ bytes.now }
+    ensures spelled { flat_map (big_bytes 4) result ≡ bytes.now }
 {
     let mut cells = [0u32; 6];
     fill_numbers(bytes, &mut cells[..goods as usize]);
@@ -166,7 +167,7 @@ fn prices_of(bytes: &[u8], goods: u8) -> Prices
 /// The numbers in four bytes each.
 fn fill_numbers(bytes: &[u8], cells: &mut [u32])
     requires { length bytes.now ≡ 4 * length cells.old }
-    ensures { flat_map (to_be_bytes w32) cells.new ≡ bytes.now }
+    ensures { flat_map (big_bytes 4) cells.new ≡ bytes.now }
 {
     for good in 0..cells.len() {
         cells[good] = number_of(&bytes[4 * good..4 * good + 4]);
@@ -251,7 +252,7 @@ fn numbers_of(phase: &Phase) -> (u8, u8)
 
 /// Appends the prices.
 fn push_prices(bytes: &mut Vec<u8>, prices: &Prices) -> Result<(), AllocError>
-    ensures { OnOk result (bytes.new.items ≡ bytes.old.items ++ flat_map (to_be_bytes w32) prices.now) }
+    ensures { OnOk result (bytes.new.items ≡ bytes.old.items ++ flat_map (big_bytes 4) prices.now) }
 {
     for good in 0..prices.count() {
         push_number(bytes, prices.get(good))?;

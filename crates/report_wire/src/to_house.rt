@@ -6,8 +6,8 @@ ghost use Rattle.report_wire.specs.Payloads.{report_payload};
 
 use crate::entries::{push_report, read_report};
 use crate::frames::Frame;
+use crate::heads::push_head;
 use crate::messages::ToHouse;
-use crate::numbers::push_head;
 use lot_base::{NoMemory, RawDemand, RawReport, Sequence};
 use std::alloc::{AllocError, Global};
 
