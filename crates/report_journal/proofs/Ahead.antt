@@ -2,7 +2,7 @@
 use Rattle.std.proofs.Common.{◌≡◌, ◌⊎◌, inl, inr, ℕ, ◌+◌, ◌<◌, ◌≤◌, List, [], ◌∷◌, ◌++◌, length, get_or, take, drop, Option, Some, None, sym, ◌∙◌, ap, subst, arith, append_assoc, length-append, take-append-drop}
 use Rattle.std.proofs.lemmas.Bool.{cases_eq}
 use Rattle.std.proofs.lemmas.List.{length-take-le, length-drop, drop_at, drop_more, drop-drop}
-use Rattle.std.specs.Int.{w32, to_be_bytes}
+use Rattle.byte_numbers.specs.Spelling.{big_bytes}
 use Rattle.house_io.specs.Moments.{Torn, overlaid}
 use Rattle.house_io.proofs.Overlays.{overlaid_behind}
 use Rattle.report_journal.specs.Format.{Contents, StandsFor, body, front}
@@ -17,7 +17,7 @@ abbrev pub closed : List ℕ → List ℕ
 closed payload = body payload ++ 0 ∷ []
 
 pub closed-length : (payload : List ℕ) → length (closed payload) ≡ length payload + 5
-closed-length payload = omega (arith, length-append (body payload) (0 ∷ []), length-append (to_be_bytes w32 (length payload)) payload)
+closed-length payload = omega (arith, length-append (body payload) (0 ∷ []), length-append (big_bytes 4 (length payload)) payload)
 
 pub closed-first : (payload bytes : List ℕ) (has : HasRecord payload bytes) → bytes ≡ closed payload ++ has.0
 closed-first payload bytes has = has.1 ∙ sym (append_assoc (body payload) (0 ∷ []) has.0)

@@ -1,8 +1,8 @@
 -- The records of a file, gate by gate, are the only ones that it can be read as.
 use Rattle.std.proofs.Common.{◌≡◌, ◌≢◌, ◌⊎◌, inl, inr, ⊎_elim, ℕ, ◌+◌, ◌^◌, ◌<◌, ◌≤◌, List, [], ◌∷◌, ◌++◌, length, get_or, take, drop, refl, sym, ◌∙◌, ap, subst, arith, append_assoc, length-append}
 use Rattle.std.proofs.lemmas.List.{take_at, drop_at, get_or_at}
-use Rattle.std.proofs.lemmas.Nat.{from_be_bytes-to_be_bytes_4}
-use Rattle.std.specs.Int.{w32, to_be_bytes, from_be_bytes}
+use Rattle.byte_numbers.specs.Spelling.{big_bytes, big_number}
+use Rattle.byte_numbers.proofs.Spelled.{read_back}
 use Rattle.std.specs.List.{AllByRecursion}
 use Rattle.lot_base.specs.declared.limits.TheConstants.{GREATEST_PAYLOAD, GREATEST_FILE}
 use Rattle.report_journal.specs.declared.spellings.TheConstants.{OPEN}
@@ -11,7 +11,7 @@ use Rattle.report_journal.specs.Format.{records, body, IsPayload, length_at, Has
 -- a record with this payload stands at this open gate
 pub record IsRecord (payload : List ℕ) (gate : ℕ) (file : List ℕ) : Type 0 where
   pub opened : get_or file gate 0 ≡ OPEN
-  pub spelled : length_at file gate ≡ to_be_bytes w32 (length payload)
+  pub spelled : length_at file gate ≡ big_bytes 4 (length payload)
   pub bytes : take (length payload) (drop (gate + 5) file) ≡ payload
   pub short : length payload ≤ GREATEST_PAYLOAD
   pub whole : gate + 6 + length payload ≤ length file
@@ -26,9 +26,9 @@ abbrev pub IsChain : List ℕ → ℕ → List (List ℕ) → ℕ → Type 0
 IsChain file gate [] end = gate ≡ end
 IsChain file gate (payload ∷ payloads) end = IsRecord payload gate file × IsChain file (gate + 5 + length payload) payloads end
 
-value_is : (payload : List ℕ) (gate : ℕ) (file : List ℕ) → IsRecord payload gate file → from_be_bytes w32 (length_at file gate) ≡ length payload
+value_is : (payload : List ℕ) (gate : ℕ) (file : List ℕ) → IsRecord payload gate file → big_number 4 (length_at file gate) ≡ length payload
 value_is payload gate file is =
-    ap (from_be_bytes w32) is.spelled ∙ from_be_bytes-to_be_bytes_4 (length payload) (let fits : length payload < 2 ^ 32 = omega (arith, is.short) in fits)
+    ap (big_number 4) is.spelled ∙ read_back 4 (length payload) (let fits : length payload < 2 ^ 32 = omega (arith, is.short) in fits)
 
 not_both : (payload : List ℕ) (gate : ℕ) (file : List ℕ) → IsRecord payload gate file → IsEnd gate file → ⊥
 not_both payload gate file is (inl closed) = closed is.opened
@@ -55,7 +55,7 @@ one_chain file (p ∷ ps) (q ∷ qs) gate end other chain ends chain' ends' =
 -- a record in a file of three parts
 module _ (pre payload more : List ℕ) (gate : ℕ) (is : length pre ≡ gate) (short : length payload ≤ GREATEST_PAYLOAD) (some : 1 ≤ length more) (limit : gate + 6 + length payload ≤ GREATEST_FILE) where
   abbrev size : List ℕ
-  size = to_be_bytes w32 (length payload)
+  size = big_bytes 4 (length payload)
 
   abbrev file : List ℕ
   file = pre ++ OPEN ∷ body payload ++ more
@@ -94,9 +94,9 @@ pub chain_of : (pre : List ℕ) (payloads : List (List ℕ)) (more : List ℕ) (
 chain_of pre [] more gate is all some limit = omega arith
 chain_of pre (p ∷ payloads) more gate is all some limit =
     let sizes : length (records (p ∷ payloads)) ≡ 5 + length p + length (records payloads) =
-    omega (arith, length-append (OPEN ∷ body p) (records payloads), length-append (to_be_bytes w32 (length p)) p) in
+    omega (arith, length-append (OPEN ∷ body p) (records payloads), length-append (big_bytes 4 (length p)) p) in
     let next = pre ++ OPEN ∷ body p in
-    let next_is : length next ≡ gate + 5 + length p = omega (arith, is, length-append pre (OPEN ∷ body p), length-append (to_be_bytes w32 (length p)) p) in
+    let next_is : length next ≡ gate + 5 + length p = omega (arith, is, length-append pre (OPEN ∷ body p), length-append (big_bytes 4 (length p)) p) in
     let here = record_at pre p (records payloads ++ more) gate is all.0 (omega (arith, some, length-append (records payloads) more)) (omega (arith, limit, sizes)) in
     let rest = chain_of next payloads more (gate + 5 + length p) next_is all.1 some (omega (arith, limit, sizes)) in
     let end_is : (gate + 5 + length p) + length (records payloads) ≡ gate + length (records (p ∷ payloads)) = omega (arith, sizes) in

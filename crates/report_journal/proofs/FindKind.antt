@@ -3,8 +3,8 @@ use Rattle.std.proofs.Common.{◌≡◌, ◌⊎◌, inl, inr, ⊎_elim, ℕ, zer
 use Rattle.std.proofs.lemmas.Bool.{cases_lt, cases_eq}
 use Rattle.std.proofs.lemmas.List.{length-take-le, get_or-take, get_or-drop, get_or_past}
 use Rattle.std.proofs.Math.Seq.{take-add}
-use Rattle.std.proofs.lemmas.Nat.{be_bytes_4}
-use Rattle.std.specs.Int.{w32, to_be_bytes, from_be_bytes}
+use Rattle.byte_numbers.specs.Spelling.{big_bytes, big_number}
+use Rattle.byte_numbers.proofs.Spelled.{same_bytes}
 use Rattle.std.specs.List.{AllByRecursion, flat_map}
 use Rattle.lot_base.specs.declared.limits.TheConstants.{GREATEST_PAYLOAD, GREATEST_FILE, MOST_GOODS}
 use Rattle.report_journal.specs.declared.spellings.TheConstants.{OPEN, SHORTEST_FORMED}
@@ -47,10 +47,10 @@ bytes_at file are_bytes at i = elim (cases_lt i 4) [
   | inr more ↦ subst (λ (b : ℕ). b < 256) (sym (get_or_past (take 4 (drop at file)) i 0 (omega (arith, more, at_most 4 (drop at file))))) (lit< tt)
 ]
 
-spelled_at : (file : List ℕ) → AreBytes file → (at : ℕ) → at + 4 ≤ length file → to_be_bytes w32 (from_be_bytes w32 (take 4 (drop at file))) ≡ take 4 (drop at file)
-spelled_at file are_bytes at long = be_bytes_4 (take 4 (drop at file)) (from_be_bytes w32 (take 4 (drop at file))) (length-take-le 4 (drop at file) (omega (arith, length-drop at file, long))) (bytes_at file are_bytes at) refl
+spelled_at : (file : List ℕ) → AreBytes file → (at : ℕ) → at + 4 ≤ length file → big_bytes 4 (big_number 4 (take 4 (drop at file))) ≡ take 4 (drop at file)
+spelled_at file are_bytes at long = same_bytes 4 (take 4 (drop at file)) (big_number 4 (take 4 (drop at file))) (length-take-le 4 (drop at file) (omega (arith, length-drop at file, long))) (bytes_at file are_bytes at) refl
 
-fits_at : (file : List ℕ) → AreBytes file → (at : ℕ) → from_be_bytes w32 (take 4 (drop at file)) < 2 ^ 32
+fits_at : (file : List ℕ) → AreBytes file → (at : ℕ) → big_number 4 (take 4 (drop at file)) < 2 ^ 32
 fits_at file are_bytes at = omega (arith, bytes_at file are_bytes at 0, bytes_at file are_bytes at 1, bytes_at file are_bytes at 2, bytes_at file are_bytes at 3)
 
 drop_bytes : (n : ℕ) (file : List ℕ) → AreBytes file → AreBytes (drop n file)
@@ -70,12 +70,12 @@ record Numbers (n : ℕ) (bytes : List ℕ) : Type 0 where
   pub numbers : List ℕ
   pub count : length numbers ≡ n
   pub fit : AllByRecursion (λ price. price < 2 ^ 32) numbers
-  pub spelled : flat_map (to_be_bytes w32) numbers ≡ take (4 * n) bytes
+  pub spelled : flat_map (big_bytes 4) numbers ≡ take (4 * n) bytes
 
 numbers_in : (n : ℕ) (bytes : List ℕ) → AreBytes bytes → 4 * n ≤ length bytes → Numbers n bytes
 numbers_in zero bytes are_bytes long = record { numbers = []; count = refl; fit = tt; spelled = refl }
 numbers_in (suc n) bytes are_bytes long =
-    let x = from_be_bytes w32 (take 4 (drop 0 bytes)) in
+    let x = big_number 4 (take 4 (drop 0 bytes)) in
     let rest = numbers_in n (drop 4 bytes) (drop_bytes 4 bytes are_bytes) (omega (arith, length-drop 4 bytes, long)) in
     let e : 4 * suc n ≡ 4 + 4 * n = omega arith in
     record {
@@ -123,7 +123,7 @@ record Headed (bytes : List ℕ) : Type 0 where
 
 header_of : (bytes : List ℕ) → AreBytes bytes → SHORTEST_FORMED ≤ length bytes + 1 → Headed bytes ⊎ ((h : Header) → BeginsWith h bytes → ⊥)
 header_of bytes are_bytes long =
-    let clock = from_be_bytes w32 (take 4 (drop 4 bytes)) in
+    let clock = big_number 4 (take 4 (drop 4 bytes)) in
     let digest = take 32 (drop 8 bytes) in
     let fits = fits_at bytes are_bytes 4 in
     let spelled = spelled_at bytes are_bytes 4 (omega (arith, long)) in
@@ -145,9 +145,9 @@ record IsThere (n gate : ℕ) (file : List ℕ) : Type 0 where
   pub limit : gate + 6 + n ≤ GREATEST_FILE
 
 module _ (file : List ℕ) (are_bytes : AreBytes file) where
-  at_gate : (gate : ℕ) → get_or file gate 0 ≡ OPEN → HasNoRecord file gate ⊎ IsThere (from_be_bytes w32 (length_at file gate)) gate file
+  at_gate : (gate : ℕ) → get_or file gate 0 ≡ OPEN → HasNoRecord file gate ⊎ IsThere (big_number 4 (length_at file gate)) gate file
   at_gate gate opened =
-      let n = from_be_bytes w32 (length_at file gate) in
+      let n = big_number 4 (length_at file gate) in
       elim (cases_lt (length file) (gate + 5)) [
         | inl short ↦ inl (inl short)
         | inr long ↦ elim (cases_lt GREATEST_PAYLOAD n) [
@@ -171,7 +171,7 @@ module _ (file : List ℕ) (are_bytes : AreBytes file) where
       | inl open_gate ↦ ⊎_elim
           (λ none. (Damaged (said h places file), damaged file h has places gate are limit open_gate none))
           (λ there.
-          let n = from_be_bytes w32 (length_at file gate) in
+          let n = big_number 4 (length_at file gate) in
           from_gate fuel (places ++ record { at = gate + 5; length = n } ∷ []) (gate + 5 + n) (read_more (first_gate h) places gate n file are there.next there.short) (omega (arith, there.limit)) (omega (arith, enough)))
           (at_gate gate open_gate)
     ]

@@ -1,7 +1,7 @@
 -- What the bytes at a gate say.
 use Rattle.std.proofs.Common.{◌≡◌, ◌≢◌, ℕ, ◌+◌, ◌-◌, ◌≤◌, min, List, [], ◌∷◌, ◌++◌, length, get_or, take, drop, refl, sym, ◌∙◌, ap, subst, arith, append_assoc, take-append-drop, length-append, length-drop}
 use Rattle.std.proofs.lemmas.List.{get_or-take, get_or-drop, drop-take, drop-drop, drop_more, length-take-le, append-nil, map_push, take_at}
-use Rattle.std.specs.Int.{w32, to_be_bytes}
+use Rattle.byte_numbers.specs.Spelling.{big_bytes}
 use Rattle.std.specs.List.{AllByRecursion}
 use Rattle.lot_base.specs.declared.limits.TheConstants.{GREATEST_PAYLOAD, GREATEST_FILE}
 use Rattle.report_journal.specs.declared.spellings.TheConstants.{OPEN}
@@ -54,8 +54,8 @@ module _ (first : ℕ) (places : List Place) (gate n : ℕ) (file : List ℕ) (r
       drop_more file gate 0 (omega (arith, next.2))
       ∙ (λ i. next.0 i ∷ sym (take-append-drop 4 (drop (gate + 1) file)) i)
       ∙ (λ i. OPEN ∷ next.1 i ++ after i)
-      ∙ ap (λ (k : ℕ). OPEN ∷ to_be_bytes w32 k ++ (payload ++ drop (gate + 5 + n) file)) (sym long)
-      ∙ sym (append_assoc (OPEN ∷ to_be_bytes w32 (length payload)) payload (drop (gate + 5 + n) file))
+      ∙ ap (λ (k : ℕ). OPEN ∷ big_bytes 4 k ++ (payload ++ drop (gate + 5 + n) file)) (sym long)
+      ∙ sym (append_assoc (OPEN ∷ big_bytes 4 (length payload)) payload (drop (gate + 5 + n) file))
     where
       after : drop 4 (drop (gate + 1) file) ≡ take n (drop (gate + 5) file) ++ drop (gate + 5 + n) file
       after =
@@ -77,7 +77,7 @@ module _ (first : ℕ) (places : List Place) (gate n : ℕ) (file : List ℕ) (r
     split = whole;
     placed = subst (ArePlaced first (places ++ place ∷ [])) (sym more_payloads) (placed-push places (payloads_at file places) payload place first gate read.placed (sym read.size) refl (sym long));
     payloads = subst (AllByRecursion IsPayload) (sym more_payloads) (payloads-push (payloads_at file places) payload read.payloads (omega (arith, long, short)));
-    size = omega (arith, read.size, ap (λ (ps : List (List ℕ)). length (records ps)) more_payloads, ap length (records-push (payloads_at file places) payload), length-append (records (payloads_at file places)) (OPEN ∷ body payload), length-append (to_be_bytes w32 (length payload)) payload, long);
+    size = omega (arith, read.size, ap (λ (ps : List (List ℕ)). length (records ps)) more_payloads, ap length (records-push (payloads_at file places) payload), length-append (records (payloads_at file places)) (OPEN ∷ body payload), length-append (big_bytes 4 (length payload)) payload, long);
     within = omega (arith, next.2);
   }
 

@@ -1,7 +1,7 @@
 -- Where the payloads of a journal lie.
 use Rattle.std.proofs.Common.{◌≡◌, ◌≢◌, ◌↔◌, Bool, true, false, IsTrue, get_or, inl, inr, ⊎_elim, ℕ, ◌+◌, ◌≤◌, List, [], ◌∷◌, ◌++◌, length, take, drop, Option, Some, None, refl, sym, ◌∙◌, ap, subst, arith, append_assoc, length-append}
 use Rattle.std.proofs.lemmas.List.{take_at, drop_at, get_or_at}
-use Rattle.std.specs.Int.{w32, to_be_bytes}
+use Rattle.byte_numbers.specs.Spelling.{big_bytes}
 use Rattle.house_io.specs.Moments.{Moment, Moments, Leaves, AtEach, Torn, IsSettled, settled, synced_at}
 use Rattle.std.specs.List.{AllByRecursion}
 use Rattle.house_io.proofs.Moments.{at_start, at_next, at_both, at_weaker, at_now, leaves_settled}
@@ -24,15 +24,15 @@ regroup pre size payload more = ap (λ (l : List ℕ). l ++ more) (sym (append_a
 one_at : (pre payload more : List ℕ) (gate : ℕ) (place : Place) → length pre ≡ gate → place.at ≡ gate + 5 → place.length ≡ length payload
     → payload_at (pre ++ OPEN ∷ body payload ++ more) place ≡ payload
 one_at pre payload more gate place is at long =
-    let before = pre ++ OPEN ∷ to_be_bytes w32 (length payload) in
-    let size : length before ≡ place.at = omega (arith, length-append pre (OPEN ∷ to_be_bytes w32 (length payload)), is, at) in
+    let before = pre ++ OPEN ∷ big_bytes 4 (length payload) in
+    let size : length before ≡ place.at = omega (arith, length-append pre (OPEN ∷ big_bytes 4 (length payload)), is, at) in
     let split : pre ++ OPEN ∷ body payload ++ more ≡ before ++ payload ++ more = grouped in
     ap (λ (l : List ℕ). take place.length (drop place.at l)) (split ∙ append_assoc before payload more)
     ∙ ap (λ (l : List ℕ). take place.length l) (drop_at before (payload ++ more) place.at size)
     ∙ take_at payload more place.length (sym long)
   where
-    grouped : pre ++ OPEN ∷ body payload ++ more ≡ (pre ++ OPEN ∷ to_be_bytes w32 (length payload)) ++ payload ++ more
-    grouped = regroup pre (to_be_bytes w32 (length payload)) payload more
+    grouped : pre ++ OPEN ∷ body payload ++ more ≡ (pre ++ OPEN ∷ big_bytes 4 (length payload)) ++ payload ++ more
+    grouped = regroup pre (big_bytes 4 (length payload)) payload more
 
 first_is : (pre one others more : List ℕ) → pre ++ (one ++ others) ++ more ≡ pre ++ one ++ (others ++ more)
 first_is pre one others more = simp append_assoc
@@ -47,7 +47,7 @@ placed [] (payload ∷ payloads) pre more gate is are = absurd are
 placed (place ∷ places) [] pre more gate is are = absurd are
 placed (place ∷ places) (payload ∷ payloads) pre more gate is are =
     let next = pre ++ OPEN ∷ body payload in
-    let size : length next ≡ gate + 5 + length payload = omega (arith, length-append pre (OPEN ∷ body payload), length-append (to_be_bytes w32 (length payload)) payload, is) in
+    let size : length next ≡ gate + 5 + length payload = omega (arith, length-append pre (OPEN ∷ body payload), length-append (big_bytes 4 (length payload)) payload, is) in
     let first : pre ++ records (payload ∷ payloads) ++ more ≡ pre ++ OPEN ∷ body payload ++ (records payloads ++ more) = first_is pre (OPEN ∷ body payload) (records payloads) more in
     let rest : pre ++ records (payload ∷ payloads) ++ more ≡ next ++ records payloads ++ more = rest_is pre (OPEN ∷ body payload) (records payloads) more in
     let head : payload_at (pre ++ records (payload ∷ payloads) ++ more) place ≡ payload =
@@ -79,7 +79,7 @@ placed-push [] [] payload place gate end are is at long = (omega (arith, is, at)
 placed-push [] (p ∷ payloads) payload place gate end are is at long = absurd are
 placed-push (q ∷ places) [] payload place gate end are is at long = absurd are
 placed-push (q ∷ places) (p ∷ payloads) payload place gate end are is at long =
-    (are.0, are.1, placed-push places payloads payload place (gate + 5 + length p) end are.2 (omega (arith, is, length-append (OPEN ∷ body p) (records payloads), length-append (to_be_bytes w32 (length p)) p)) at long)
+    (are.0, are.1, placed-push places payloads payload place (gate + 5 + length p) end are.2 (omega (arith, is, length-append (OPEN ∷ body p) (records payloads), length-append (big_bytes 4 (length p)) p)) at long)
 
 module _ (header : Header) (places : List Place) (end : ℕ) (old : Moments) (payload : List ℕ) where
   abbrev x : Contents
@@ -105,7 +105,7 @@ module _ (header : Header) (places : List Place) (end : ℕ) (old : Moments) (pa
       put_kept past is = subst (λ (z : Contents). IsKept z (places ++ place ∷ []) past None new) (sym put_is) (record {
         stands = (is_settled, has_it);
         placed = more_placed;
-        size = omega (arith, ap length (front-push x payload), length-append (front x) (OPEN ∷ body payload), length-append (to_be_bytes w32 (length payload)) payload, kept.size, is);
+        size = omega (arith, ap length (front-push x payload), length-append (front x) (OPEN ∷ body payload), length-append (big_bytes 4 (length payload)) payload, kept.size, is);
       })
 
     -- after a call that failed
@@ -137,7 +137,7 @@ module _ (x : Contents) (places : List Place) (end : ℕ) (pending : Option (Lis
     fits = record {
       header = stands.1.fits.header;
       payloads = payloads-push x.payloads payload stands.1.fits.payloads short;
-      end = omega (arith, ap length (front-push x payload), length-append (front x) (OPEN ∷ body payload), length-append (to_be_bytes w32 (length payload)) payload, kept.size, room);
+      end = omega (arith, ap length (front-push x payload), length-append (front x) (OPEN ∷ body payload), length-append (big_bytes 4 (length payload)) payload, kept.size, room);
     };
   }
 

@@ -1,11 +1,11 @@
 -- A header at the front of the bytes after a file's gate.
 use Rattle.std.proofs.Common.{◌≡◌, ◌≢◌, ◌⊎◌, ⊎_elim, ℕ, suc, ◌+◌, ◌-◌, ◌*◌, ◌^◌, ◌<◌, ◌≤◌, min, List, [], ◌∷◌, ◌++◌, length, get_or, take, drop, Option, Some, None, refl, sym, ◌∙◌, ap, subst, arith, append_assoc, take-append-drop, length-append, length-drop}
 use Rattle.std.proofs.lemmas.List.{take_at, drop_at, drop-drop, drop-take, take-take, length-take-le, get_or-take, take_more_set, flat_map_more}
-use Rattle.std.proofs.lemmas.Nat.{from_be_bytes-to_be_bytes_4}
+use Rattle.byte_numbers.specs.Spelling.{big_bytes, big_number}
+use Rattle.byte_numbers.proofs.Spelled.{read_back}
 use Rattle.std.proofs.Math.ListN.{set}
 use Rattle.std.proofs.Math.Seq.{take-add}
 use Rattle.std.specs.Option.{IfSome, IfNone}
-use Rattle.std.specs.Int.{w32, to_be_bytes, from_be_bytes}
 use Rattle.std.specs.List.{AllByRecursion, flat_map}
 use Rattle.lot_base.specs.declared.limits.TheConstants.{MOST_GOODS}
 use Rattle.report_journal.specs.declared.spellings.TheConstants.{OPEN, SHORTEST_FORMED}
@@ -25,32 +25,32 @@ followed_at spelled rest bytes is some = record {
 }
 
 -- the prices of an opening
-length-flat_map : (prices : List ℕ) → length (flat_map (to_be_bytes w32) prices) ≡ 4 * length prices
+length-flat_map : (prices : List ℕ) → length (flat_map (big_bytes 4) prices) ≡ 4 * length prices
 length-flat_map [] = refl
-length-flat_map (x ∷ prices) = omega (arith, length-append (to_be_bytes w32 x) (flat_map (to_be_bytes w32) prices), length-flat_map prices)
+length-flat_map (x ∷ prices) = omega (arith, length-append (big_bytes 4 x) (flat_map (big_bytes 4) prices), length-flat_map prices)
 
 one_prices : (p q r s : List ℕ) → length p ≡ length q → AllByRecursion (λ price. price < 2 ^ 32) p → AllByRecursion (λ price. price < 2 ^ 32) q
-    → flat_map (to_be_bytes w32) p ++ r ≡ flat_map (to_be_bytes w32) q ++ s → p ≡ q
+    → flat_map (big_bytes 4) p ++ r ≡ flat_map (big_bytes 4) q ++ s → p ≡ q
 one_prices [] [] r s long all all' same = refl
 one_prices [] (y ∷ q) r s long all all' same = absurd (omega (arith, long))
 one_prices (x ∷ p) [] r s long all all' same = absurd (omega (arith, long))
 one_prices (x ∷ p) (y ∷ q) r s long all all' same =
-    let more = flat_map (to_be_bytes w32) p ++ r in
-    let more' = flat_map (to_be_bytes w32) q ++ s in
-    let both : to_be_bytes w32 x ++ more ≡ to_be_bytes w32 y ++ more' = sym (append_assoc (to_be_bytes w32 x) (flat_map (to_be_bytes w32) p) r) ∙ same ∙ append_assoc (to_be_bytes w32 y) (flat_map (to_be_bytes w32) q) s in
-    let first : to_be_bytes w32 x ≡ to_be_bytes w32 y = sym (take_at (to_be_bytes w32 x) more 4 refl) ∙ ap (λ (l : List ℕ). take 4 l) both ∙ take_at (to_be_bytes w32 y) more' 4 refl in
-    let rest : more ≡ more' = sym (drop_at (to_be_bytes w32 x) more 4 refl) ∙ ap (λ (l : List ℕ). drop 4 l) both ∙ drop_at (to_be_bytes w32 y) more' 4 refl in
-    let heads : x ≡ y = sym (from_be_bytes-to_be_bytes_4 x all.0) ∙ ap (from_be_bytes w32) first ∙ from_be_bytes-to_be_bytes_4 y all'.0 in
+    let more = flat_map (big_bytes 4) p ++ r in
+    let more' = flat_map (big_bytes 4) q ++ s in
+    let both : big_bytes 4 x ++ more ≡ big_bytes 4 y ++ more' = sym (append_assoc (big_bytes 4 x) (flat_map (big_bytes 4) p) r) ∙ same ∙ append_assoc (big_bytes 4 y) (flat_map (big_bytes 4) q) s in
+    let first : big_bytes 4 x ≡ big_bytes 4 y = sym (take_at (big_bytes 4 x) more 4 refl) ∙ ap (λ (l : List ℕ). take 4 l) both ∙ take_at (big_bytes 4 y) more' 4 refl in
+    let rest : more ≡ more' = sym (drop_at (big_bytes 4 x) more 4 refl) ∙ ap (λ (l : List ℕ). drop 4 l) both ∙ drop_at (big_bytes 4 y) more' 4 refl in
+    let heads : x ≡ y = sym (read_back 4 x all.0) ∙ ap (big_number 4) first ∙ read_back 4 y all'.0 in
     let tails : p ≡ q = one_prices p q r s (omega (arith, long)) all.1 all'.1 rest in
     λ i. heads i ∷ tails i
 
 -- one more price that was read
-pub prices_more : (prices bytes : List ℕ) (i price n : ℕ) → i < length prices → flat_map (to_be_bytes w32) (take i prices) ≡ take (4 * i) bytes → n ≡ 4
-    → to_be_bytes w32 price ≡ take n (drop (4 * i) bytes) → flat_map (to_be_bytes w32) (take (i + 1) (set prices i price)) ≡ take (4 * (i + 1)) bytes
+pub prices_more : (prices bytes : List ℕ) (i price n : ℕ) → i < length prices → flat_map (big_bytes 4) (take i prices) ≡ take (4 * i) bytes → n ≡ 4
+    → big_bytes 4 price ≡ take n (drop (4 * i) bytes) → flat_map (big_bytes 4) (take (i + 1) (set prices i price)) ≡ take (4 * (i + 1)) bytes
 prices_more prices bytes i price n room before four spelled =
     let e : 4 * i + 4 ≡ 4 * (i + 1) = omega arith in
-    ap (λ (l : List ℕ). flat_map (to_be_bytes w32) l) (take_more_set prices i price room)
-    ∙ sym (flat_map_more (to_be_bytes w32) [] (take i prices) price)
+    ap (λ (l : List ℕ). flat_map (big_bytes 4) l) (take_more_set prices i price room)
+    ∙ sym (flat_map_more (big_bytes 4) [] (take i prices) price)
     ∙ (λ k. before k ++ (spelled ∙ ap (λ (m : ℕ). take m (drop (4 * i) bytes)) four) k)
     ∙ sym (take-add (4 * i) 4 bytes)
     ∙ ap (λ (k : ℕ). take k bytes) e
@@ -82,7 +82,7 @@ name_length (Some p) = refl
 
 record Parts (h : Header) (bytes rest : List ℕ) : Type 0 where
   pub name : take 4 bytes ≡ name_of h.opening
-  pub clock : take 4 (drop 4 bytes) ≡ to_be_bytes w32 h.clock
+  pub clock : take 4 (drop 4 bytes) ≡ big_bytes 4 h.clock
   pub digest : take 32 (drop 8 bytes) ≡ h.digest
   pub opening : drop 40 bytes ≡ opening_bytes h.opening ++ rest
 
@@ -92,7 +92,7 @@ regroup n c d o rest = simp append_assoc
 parts : (h : Header) (bytes rest : List ℕ) → length h.digest ≡ 32 → bytes ≡ header_bytes h ++ rest → Parts h bytes rest
 parts h bytes rest long is =
     let n = name_of h.opening in
-    let c = to_be_bytes w32 h.clock in
+    let c = big_bytes 4 h.clock in
     let o = opening_bytes h.opening in
     let by_name : bytes ≡ n ++ (c ++ (h.digest ++ (o ++ rest))) = is ∙ regroup n c h.digest o rest in
     let after_name : drop 4 bytes ≡ c ++ (h.digest ++ (o ++ rest)) = ap (λ (l : List ℕ). drop 4 l) by_name ∙ drop_at n (c ++ (h.digest ++ (o ++ rest))) 4 (name_length h.opening) in
@@ -109,7 +109,7 @@ assembled h bytes rest of =
     sym (take-append-drop 4 bytes)
     ∙ ap (λ (l : List ℕ). take 4 bytes ++ l) (sym (take-append-drop 4 (drop 4 bytes)) ∙ ap (λ (l : List ℕ). take 4 (drop 4 bytes) ++ l) (drop-drop 4 4 bytes ∙ sym (take-append-drop 32 (drop 8 bytes)) ∙ ap (λ (l : List ℕ). take 32 (drop 8 bytes) ++ l) (drop-drop 32 8 bytes)))
     ∙ (λ i. of.name i ++ (of.clock i ++ (of.digest i ++ of.opening i)))
-    ∙ sym (regroup (name_of h.opening) (to_be_bytes w32 h.clock) h.digest (opening_bytes h.opening) rest)
+    ∙ sym (regroup (name_of h.opening) (big_bytes 4 h.clock) h.digest (opening_bytes h.opening) rest)
 
 -- no two headers stand at the front of the same bytes
 pub one_header : (h k : Header) (bytes r s : List ℕ) → IsHeader h → IsHeader k → bytes ≡ header_bytes h ++ r → bytes ≡ header_bytes k ++ s → h ≡ k
@@ -117,7 +117,7 @@ one_header h k bytes r s is is' one two =
     let p = parts h bytes r is.digest one in
     let q = parts k bytes s is'.digest two in
     let clocks : h.clock ≡ k.clock =
-    sym (from_be_bytes-to_be_bytes_4 h.clock is.clock) ∙ ap (from_be_bytes w32) (sym p.clock ∙ q.clock) ∙ from_be_bytes-to_be_bytes_4 k.clock is'.clock in
+    sym (read_back 4 h.clock is.clock) ∙ ap (big_number 4) (sym p.clock ∙ q.clock) ∙ read_back 4 k.clock is'.clock in
     let digests : h.digest ≡ k.digest = sym p.digest ∙ q.digest in
     let same = one_opening h.opening k.opening h.version k.version r s is.opening is'.opening (sym p.name ∙ q.name) (sym p.opening ∙ q.opening) in
     λ i. record { version = same.versions i; clock = clocks i; digest = digests i; opening = same.openings i }
@@ -129,7 +129,7 @@ opening_length v (Some p) has = omega (arith, length-flat_map p, has.2)
 
 pub header_length : (h : Header) → IsHeader h → length (header_bytes h) ≡ 40 + length (opening_bytes h.opening)
 header_length h is =
-    omega (arith, is.digest, name_length h.opening, length-append (name_of h.opening ++ to_be_bytes w32 h.clock ++ h.digest) (opening_bytes h.opening), length-append (name_of h.opening ++ to_be_bytes w32 h.clock) h.digest, length-append (name_of h.opening) (to_be_bytes w32 h.clock))
+    omega (arith, is.digest, name_length h.opening, length-append (name_of h.opening ++ big_bytes 4 h.clock ++ h.digest) (opening_bytes h.opening), length-append (name_of h.opening ++ big_bytes 4 h.clock) h.digest, length-append (name_of h.opening) (big_bytes 4 h.clock))
 
 -- the first gate of each version
 pub first_gate_without : (h : Header) → IsHeader h → h.opening ≡ None → first_gate h ≡ 1 + 40
@@ -162,7 +162,7 @@ two_parts (x ∷ []) long = absurd (omega arith)
 two_parts (x ∷ y ∷ bytes) long = refl
 
 pub opens : (prices bytes : List ℕ) → 1 ≤ length prices → length prices ≤ MOST_GOODS → AllByRecursion (λ price. price < 2 ^ 32) prices → Opened prices bytes
-    → flat_map (to_be_bytes w32) prices ≡ take (4 * length prices) (drop 2 bytes) → OpensWith prices bytes
+    → flat_map (big_bytes 4) prices ≡ take (4 * length prices) (drop 2 bytes) → OpensWith prices bytes
 opens prices bytes some few fit is spelled =
     let n = 4 * length prices in
     let rest = drop n (drop 2 bytes) in
@@ -180,7 +180,7 @@ opens prices bytes some few fit is spelled =
 -- what was read of an opening
 pub opening_read : (found : Option (List ℕ)) (prices bytes : List ℕ) → IfSome found (λ p. (p ≡ prices) × (1 ≤ length prices) × (length prices ≤ 6))
     → IfNone found ((length prices ≡ 0) ⊎ (6 < length prices)) → AllByRecursion (λ price. price < 2 ^ 32) prices → Opened prices bytes → length prices ≤ MOST_GOODS
-    → flat_map (to_be_bytes w32) prices ≡ take (4 * length prices) (drop 2 bytes) → IsOpeningAt found bytes
+    → flat_map (big_bytes 4) prices ≡ take (4 * length prices) (drop 2 bytes) → IsOpeningAt found bytes
 opening_read None prices bytes some none fit is few spelled = λ other opens_with.
     let same : length other ≡ length prices = sym (opened other bytes opens_with).count ∙ is.count in
     ⊎_elim (λ zero_prices. omega (arith, zero_prices, same, opens_with.some)) (λ many. omega (arith, many, few)) none
@@ -188,7 +188,7 @@ opening_read (Some p) prices bytes some none fit is few spelled = subst (λ (l :
 
 -- what the bytes of a header say
 module _ (bytes : List ℕ) (long : SHORTEST_FORMED ≤ length bytes + 1) (clock : ℕ) (digest : List ℕ) (fits : clock < 2 ^ 32)
-    (spelled : to_be_bytes w32 clock ≡ take 4 (drop 4 bytes)) (digest_is : digest ≡ take 32 (drop 8 bytes)) where
+    (spelled : big_bytes 4 clock ≡ take 4 (drop 4 bytes)) (digest_is : digest ≡ take 32 (drop 8 bytes)) where
   digest_long : length digest ≡ 32
   digest_long = ap length digest_is ∙ length-take-le 32 (drop 8 bytes) (omega (arith, length-drop 8 bytes, long))
 
@@ -284,7 +284,7 @@ module _ (file into : List ℕ) (count : ℕ) (is : count ≡ min 68 (length fil
 
   pub unread : unread_header (OPEN ∷ bytes) ≡ unread_header file
   unread =
-      let clocks = ap (from_be_bytes w32) (within 4 4 (omega (arith, long))) in
+      let clocks = ap (big_number 4) (within 4 4 (omega (arith, long))) in
       let digests = within 8 32 (omega (arith, long)) in
       λ i. record { version = 0; clock = clocks i; digest = digests i; opening = None }
 

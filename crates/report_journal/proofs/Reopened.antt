@@ -3,7 +3,6 @@ use Rattle.std.proofs.Common.{◌≡◌, inl, inr, ℕ, ◌+◌, ◌≤◌, List
 use Rattle.std.proofs.lemmas.Bool.{cases_eq}
 use Rattle.std.proofs.lemmas.List.{drop_more}
 use Rattle.std.specs.List.{AllByRecursion}
-use Rattle.std.specs.Int.{w32, to_be_bytes}
 use Rattle.house_io.specs.Moments.{Moments, Torn, overlaid, settled, synced_at, AtEach}
 use Rattle.house_io.proofs.Moments.{at_start, leaves_settled, settled_torn}
 use Rattle.report_journal.specs.declared.spellings.TheConstants.{OPEN}

@@ -1,7 +1,7 @@
 -- The room that a journal keeps.
 use Rattle.std.proofs.Common.{◌≡◌, ℕ, ◌+◌, ◌^◌, ◌<◌, ◌≤◌, List, ◌∷◌, ◌++◌, length, take, drop, Option, Some, None, refl, ◌∙◌, ap, arith, append_assoc, length-append}
 use Rattle.std.proofs.lemmas.List.{take_at, drop_at, length-take-le, length-drop}
-use Rattle.std.specs.Int.{w32, to_be_bytes}
+use Rattle.byte_numbers.specs.Spelling.{big_bytes}
 use Rattle.lot_base.specs.declared.limits.TheConstants.{GREATEST_PAYLOAD, GREATEST_FILE}
 use Rattle.report_journal.specs.Format.{body}
 use Rattle.report_journal.specs.Journals.{IsReserved, HasRoom, in_doubt}
@@ -9,14 +9,14 @@ use Rattle.report_journal.specs.Journals.{IsReserved, HasRoom, in_doubt}
 -- a buffer that was filled has the payload behind its length
 pub filled : (payload bytes behind : List ℕ) → bytes ≡ body payload ++ 0 ∷ behind → take (length payload) (drop 4 bytes) ≡ payload
 filled payload bytes behind is =
-    let grouped : bytes ≡ to_be_bytes w32 (length payload) ++ payload ++ 0 ∷ behind = is ∙ append_assoc (to_be_bytes w32 (length payload)) payload (0 ∷ behind) in
+    let grouped : bytes ≡ big_bytes 4 (length payload) ++ payload ++ 0 ∷ behind = is ∙ append_assoc (big_bytes 4 (length payload)) payload (0 ∷ behind) in
     ap (λ l. take (length payload) (drop 4 l)) grouped
-    ∙ ap (λ (l : List ℕ). take (length payload) l) (drop_at (to_be_bytes w32 (length payload)) (payload ++ 0 ∷ behind) 4 refl)
+    ∙ ap (λ (l : List ℕ). take (length payload) l) (drop_at (big_bytes 4 (length payload)) (payload ++ 0 ∷ behind) 4 refl)
     ∙ take_at payload (0 ∷ behind) (length payload) refl
 
 pub filled-length : (payload bytes behind : List ℕ) → bytes ≡ body payload ++ 0 ∷ behind → length bytes ≡ length payload + 5 + length behind
 filled-length payload bytes behind is =
-    omega (arith, ap length is, length-append (body payload) (0 ∷ behind), length-append (to_be_bytes w32 (length payload)) payload)
+    omega (arith, ap length is, length-append (body payload) (0 ∷ behind), length-append (big_bytes 4 (length payload)) payload)
 
 -- the payload in doubt has its length
 pub doubt-length : (size : ℕ) (bytes : List ℕ) → size + 4 ≤ length bytes → length (take size (drop 4 bytes)) ≡ size

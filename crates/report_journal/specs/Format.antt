@@ -10,7 +10,7 @@
 -- be longer than what it stands for. Odd cases: a file shorter than a header of version 1 and one gate is unformed, whatever it
 -- begins with. A file with an open first gate that begins with no header, or with one and nothing after it, is damaged in its header.
 use Rattle.std.specs.Prelude.{◌≡◌, ◌≢◌, ◌⊎◌, ℕ, ◌+◌, ◌^◌, ◌<◌, ◌≤◌, List, [], ◌∷◌, ◌++◌, length, take, drop, slice_index, Option, Some, None}
-use Rattle.std.specs.Int.{w32, to_be_bytes, from_be_bytes}
+use Rattle.byte_numbers.specs.Spelling.{big_bytes, big_number}
 use Rattle.std.specs.List.{AllByRecursion, flat_map}
 use Rattle.lot_base.specs.declared.limits.TheConstants.{GREATEST_PAYLOAD, GREATEST_FILE, MOST_GOODS}
 use Rattle.report_journal.specs.declared.spellings.TheConstants.{OPEN, SHORTEST_FORMED}
@@ -40,11 +40,11 @@ name_of (Some opening) = second_name
 
 abbrev pub opening_bytes : Option (List ℕ) → List ℕ
 opening_bytes None = []
-opening_bytes (Some opening) = 2 ∷ length opening ∷ flat_map (to_be_bytes w32) opening
+opening_bytes (Some opening) = 2 ∷ length opening ∷ flat_map (big_bytes 4) opening
 
 -- the bytes of a header, after the file's gate
 abbrev pub header_bytes : Header → List ℕ
-header_bytes h = name_of h.opening ++ to_be_bytes w32 h.clock ++ h.digest ++ opening_bytes h.opening
+header_bytes h = name_of h.opening ++ big_bytes 4 h.clock ++ h.digest ++ opening_bytes h.opening
 
 -- the offset of the first record's gate
 abbrev pub first_gate : Header → ℕ
@@ -56,7 +56,7 @@ pub record Contents : Type 0 where
 
 -- a length and that many bytes
 abbrev pub body : List ℕ → List ℕ
-body payload = to_be_bytes w32 (length payload) ++ payload
+body payload = big_bytes 4 (length payload) ++ payload
 
 -- open gates and bodies
 abbrev pub records : List (List ℕ) → List ℕ
@@ -86,7 +86,7 @@ pub record StandsFor (x : Contents) (file : List ℕ) : Type 0 where
 
 -- the clock and the digest where a header names them, whatever else it has
 abbrev pub clock_in : List ℕ → ℕ
-clock_in file = from_be_bytes w32 (take 4 (drop 5 file))
+clock_in file = big_number 4 (take 4 (drop 5 file))
 
 abbrev pub digest_in : List ℕ → List ℕ
 digest_in file = take 32 (drop 9 file)
@@ -102,9 +102,9 @@ length_at file gate = take 4 (drop (gate + 1) file)
 -- is past the file's end or the journal's
 abbrev pub HasNoRecord : List ℕ → ℕ → Type 0
 HasNoRecord file gate = (length file < gate + 5)
-    ⊎ ((GREATEST_PAYLOAD < from_be_bytes w32 (length_at file gate))
-    ⊎ ((length file < gate + 6 + from_be_bytes w32 (length_at file gate))
-    ⊎ (GREATEST_FILE < gate + 6 + from_be_bytes w32 (length_at file gate))))
+    ⊎ ((GREATEST_PAYLOAD < big_number 4 (length_at file gate))
+    ⊎ ((length file < gate + 6 + big_number 4 (length_at file gate))
+    ⊎ (GREATEST_FILE < gate + 6 + big_number 4 (length_at file gate))))
 
 -- the file begins with these contents, and then has an open gate with no record
 pub record IsDamaged (x : Contents) (file : List ℕ) : Type 0 where

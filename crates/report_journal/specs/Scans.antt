@@ -1,6 +1,6 @@
 -- What a scan finds in a file, gate by gate.
 use Rattle.std.specs.Prelude.{◌≡◌, ◌≢◌, ◌⊎◌, ℕ, ◌+◌, ◌*◌, ◌≤◌, ◌<◌, Bool, true, false, List, [], ◌∷◌, ◌++◌, length, take, drop, slice_index, None}
-use Rattle.std.specs.Int.{w32, to_be_bytes}
+use Rattle.byte_numbers.specs.Spelling.{big_bytes}
 use Rattle.std.specs.List.{AllByRecursion}
 use Rattle.lot_base.specs.declared.limits.TheConstants.{GREATEST_PAYLOAD, GREATEST_FILE}
 use Rattle.report_journal.specs.declared.headers.Header.{Header}
@@ -21,7 +21,7 @@ IsChunk bytes at filled file = take filled bytes ≡ take filled (drop at file)
 -- what stands at this gate
 abbrev pub IsNext : Next → ℕ → List ℕ → Type 0
 IsNext Closed gate file = slice_index file gate ≢ OPEN
-IsNext (Record n) gate file = (slice_index file gate ≡ OPEN) × (length_at file gate ≡ to_be_bytes w32 n) × (gate + 6 + n ≤ length file)
+IsNext (Record n) gate file = (slice_index file gate ≡ OPEN) × (length_at file gate ≡ big_bytes 4 n) × (gate + 6 + n ≤ length file)
 IsNext Damaged gate file = (slice_index file gate ≡ OPEN) × HasNoRecord file gate
 
 -- the list of records ends at this gate: it is closed, or open with no record after it

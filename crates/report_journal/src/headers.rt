@@ -1,6 +1,6 @@
 //! The header of a journal: of which clock of which auction its reports are, and from which prices that auction opens.
 ghost use Rattle.std.specs.Prelude.{◌≡◌, ◌↔◌, ◌+◌, ◌*◌, ◌^◌, ◌<◌, ◌≤◌, ◌++◌, ◌∷◌, length, take, drop, Some, IsTrue, IfOk, OnOk};
-ghost use Rattle.std.specs.Int.{w32, to_be_bytes};
+ghost use Rattle.byte_numbers.specs.Spelling.{big_bytes};
 ghost use Rattle.std.specs.List.{AllByRecursion, flat_map};
 ghost use Rattle.lot_base.specs.declared.limits.TheConstants.{MOST_GOODS};
 ghost use Rattle.report_journal.specs.declared.spellings.TheConstants.{OPEN, SHORTEST_FORMED};
@@ -9,7 +9,8 @@ ghost use Rattle.report_journal.specs.Puts.{IsHead};
 ghost use Rattle.report_journal.specs.Scans.{unread_header};
 ghost use Rattle.report_journal.specs.Fronts.{IsOpeningAt, IsHeaderAt};
 
-use crate::spellings::{SHORTEST_FORMED, SHUT, number_of};
+use crate::spellings::{SHORTEST_FORMED, SHUT};
+use byte_numbers::{number_of, push_number};
 use lot_base::Prices;
 use lot_base::limits::MOST_GOODS;
 use std::alloc::{AllocError, Global};
@@ -86,7 +87,7 @@ pub fn head_bytes(alloc: Global, header: &Header) -> Result<Vec<u8>, AllocError>
 {
     let mut bytes = Vec::new(alloc);
     bytes.extend_from_slice(name_of(&header.opening))?;
-    bytes.extend_from_slice(&header.clock.to_be_bytes())?;
+    push_number(&mut bytes, header.clock)?;
     bytes.extend_from_slice(&header.digest)?;
     push_opening(&mut bytes, &header.opening)?;
     bytes.push(SHUT)?;
@@ -117,7 +118,7 @@ fn push_prices(bytes: &mut Vec<u8>, opening: &Prices) -> Result<(), AllocError>
     bytes.push(OPENING)?;
     bytes.push(opening.count())?;
     for price in opening.as_slice() {
-        bytes.extend_from_slice(&price.to_be_bytes())?;
+        push_number(bytes, *price)?;
     }
     Ok(())
 }
@@ -154,7 +155,7 @@ pub fn read_header(bytes: &[u8]) -> Option<Header>
 pub fn unread_header(bytes: &[u8]) -> Header
     requires { SHORTEST_FORMED ≤ length bytes.now + 1 }
     ensures value { result ≡ unread_header (OPEN ∷ bytes.now) }
-    ensures spelled { to_be_bytes w32 result.clock ≡ take 4 (drop 4 bytes.now) }
+    ensures spelled { big_bytes 4 result.clock ≡ take 4 (drop 4 bytes.now) }
     ensures fits { result.clock < 2 ^ 32 }
 {
     let mut digest = [0; 32];
@@ -193,7 +194,7 @@ fn read_opening(bytes: &[u8]) -> Option<Prices>
 fn prices_in(bytes: &[u8], count: usize) -> [u32; MOST_GOODS]
     requires few { count ≤ MOST_GOODS }
     requires long { 4 * count ≤ length bytes.now }
-    ensures spelled { flat_map (to_be_bytes w32) (take count result) ≡ take (4 * count) bytes.now }
+    ensures spelled { flat_map (big_bytes 4) (take count result) ≡ take (4 * count) bytes.now }
     ensures fit { AllByRecursion (λ price. price < 2 ^ 32) (take count result) }
     ensures size { length result ≡ MOST_GOODS }
 {

@@ -9,7 +9,8 @@ ghost use Rattle.report_journal.specs.Scans.{IsChunk, IsNext, AreRead, FollowTo,
 use crate::chunks::{Chunk, read_head};
 use crate::faults::JournalFault;
 use crate::places::Place;
-use crate::spellings::{OPEN, number_of};
+use crate::spellings::OPEN;
+use byte_numbers::number_of;
 use house_io::{Disk, Failed};
 use lot_base::limits::{GREATEST_FILE, GREATEST_PAYLOAD};
 use std::alloc::Global;

@@ -1,6 +1,5 @@
 //! The bytes of gates and records. Numbers are big-endian.
 ghost use Rattle.std.specs.Prelude.{◌≡◌, ◌+◌, ℕ, ◌≤◌, ◌↔◌, ◌++◌, ◌∷◌, List, [], length, vec_capacity, IsTrue};
-ghost use Rattle.std.specs.Int.{w32, to_be_bytes, from_be_bytes};
 ghost use Rattle.lot_base.specs.declared.limits.TheConstants.{GREATEST_PAYLOAD, GREATEST_FILE};
 ghost use Rattle.report_journal.specs.Format.{body};
 ghost use Rattle.report_journal.specs.Padding.{put_of};
@@ -9,6 +8,7 @@ ghost use Rattle.report_journal.specs.declared.spellings.TheConstants.{LONGEST_R
 
 use crate::hints::{Hint, LONGEST_HINT};
 use crate::padding::{lays_next, pad_behind};
+use byte_numbers::number_bytes;
 use lot_base::limits::GREATEST_PAYLOAD;
 
 /// A gate with this byte is open; with any other it is closed.
@@ -74,7 +74,7 @@ fn push_record(bytes: &mut Vec<u8>, payload: &[u8])
     ensures record { bytes.new.items ≡ bytes.old.items ++ body payload.now ++ 0 ∷ [] }
     ensures room { vec_capacity bytes.old ≤ vec_capacity bytes.new }
 {
-    let _length = bytes.extend_from_slice(&(payload.len() as u32).to_be_bytes());
+    let _length = bytes.extend_from_slice(&number_bytes(payload.len() as u32));
     let _payload = bytes.extend_from_slice(payload);
     let _gate = bytes.push(SHUT);
 }
@@ -84,20 +84,11 @@ pub fn begins_with_record(bytes: &[u8], payload: &[u8]) -> bool
     requires { length payload.now ≤ GREATEST_PAYLOAD }
     ensures { IsTrue result ↔ HasRecord payload.now bytes.now }
 {
-    let Some(behind_length) = bytes.strip_prefix(&(payload.len() as u32).to_be_bytes()) else {
+    let Some(behind_length) = bytes.strip_prefix(&number_bytes(payload.len() as u32)) else {
         return false;
     };
     match behind_length.strip_prefix(payload) {
         None => false,
         Some(behind) => behind.starts_with(&[SHUT]),
     }
-}
-
-/// The number that four bytes spell.
-pub fn number_of(bytes: &[u8]) -> u32
-    requires { length bytes.now ≡ 4 }
-    ensures value { result ≡ from_be_bytes w32 bytes.now }
-    ensures spelled { to_be_bytes w32 result ≡ bytes.now }
-{
-    u32::from_be_bytes([bytes[0], bytes[1], bytes[2], bytes[3]])
 }
