@@ -1,13 +1,13 @@
 -- A payload spells at most one report, and what is read from it is the report that it spells.
 use Rattle.std.proofs.Common.{◌≡◌, ◌<◌, ◌≤◌, ◌^◌, ℕ, suc, ◌*◌, ◌/◌, true, List, [], ◌∷◌, length, get_or, take, drop, Ok, Err, refl, sym, ◌∙◌, ap, arith}
-use Rattle.std.specs.Int.{w16, w32, to_be_bytes, from_be_bytes}
+use Rattle.byte_numbers.specs.Spelling.{big_bytes, short_numbers}
+use Rattle.byte_numbers.proofs.Spelled.{one_number}
+use Rattle.byte_numbers.proofs.Pairs.{length-pairs}
 use Rattle.std.specs.Prelude.{nat_le}
 use Rattle.std.proofs.lemmas.Bool.{and_from}
 use Rattle.std.proofs.lemmas.Bool.Decides.{nat_tests}
-use Rattle.demand_set.specs.Packed.{numbers_in}
 use Rattle.std.specs.List.{flat_map, concat}
 use Rattle.std.proofs.Math.Nat.{mul-div_cancel}
-use Rattle.std.proofs.lemmas.Nat.{from_be_bytes-to_be_bytes_2, from_be_bytes-to_be_bytes_4}
 use Rattle.lot_base.specs.Demands.{IsDemand}
 use Rattle.lot_base.specs.declared.auction_terms.Terms.{Terms}
 use Rattle.demand_set.specs.declared.reports.Report.{Report}
@@ -15,20 +15,20 @@ use Rattle.demand_set.specs.declared.reading.DemandFault.{DemandFault}
 use Rattle.demand_set.specs.Reading.{bundles_of, demand_of, AreWhole}
 use Rattle.demand_set.proofs.Joined.{bundles_of-concat, demand_of-demand}
 use Rattle.report_wire.specs.Payloads.{report_payload}
-use Rattle.report_wire.specs.Entries.{is_entry, short_numbers}
-use Rattle.report_wire.proofs.Spelling.{length_flat, whole_is_formed}
+use Rattle.report_wire.specs.Entries.{is_entry}
+use Rattle.report_wire.proofs.Spelling.{whole_is_formed}
 use Rattle.recovery.specs.Entries.{AreSmall, payload_of, Spells, SpellsNone}
 use Rattle.recovery.proofs.Demands.{one-length, small-demand, demand-few, demand-some, demand-whole, concat-groups, found-by}
 
 -- numbers are told by their bytes
-one-numbers : (p q : List ℕ) → AreSmall p → AreSmall q → flat_map (to_be_bytes w16) p ≡ flat_map (to_be_bytes w16) q → p ≡ q
+one-numbers : (p q : List ℕ) → AreSmall p → AreSmall q → flat_map (big_bytes 2) p ≡ flat_map (big_bytes 2) q → p ≡ q
 one-numbers [] [] small small' e = refl
 one-numbers [] (y ∷ q) small small' e = absurd (let n = ap length e in omega arith)
 one-numbers (x ∷ p) [] small small' e = absurd (let n = ap length e in omega arith)
 one-numbers (x ∷ p) (y ∷ q) small small' e =
-    let first : to_be_bytes w16 x ≡ to_be_bytes w16 y = ap (λ (l : List ℕ). take 2 l) e in
-    let rest : flat_map (to_be_bytes w16) p ≡ flat_map (to_be_bytes w16) q = ap (λ (l : List ℕ). drop 2 l) e in
-    let heads : x ≡ y = sym (from_be_bytes-to_be_bytes_2 x small.0) ∙ ap (from_be_bytes w16) first ∙ from_be_bytes-to_be_bytes_2 y small'.0 in
+    let first : big_bytes 2 x ≡ big_bytes 2 y = ap (λ (l : List ℕ). take 2 l) e in
+    let rest : flat_map (big_bytes 2) p ≡ flat_map (big_bytes 2) q = ap (λ (l : List ℕ). drop 2 l) e in
+    let heads : x ≡ y = one_number 2 x y small.0 small'.0 first in
     let tails : p ≡ q = one-numbers p q small.1 small'.1 rest in
     λ i. heads i ∷ tails i
 
@@ -42,10 +42,10 @@ pub record IsSame (bidder round goods : ℕ) (quantities : List ℕ) (bidder' ro
 pub one-entry : (bidder round goods : ℕ) (quantities : List ℕ) (bidder' round' goods' : ℕ) (quantities' : List ℕ) → AreSmall quantities → AreSmall quantities'
     → report_payload bidder round goods quantities ≡ report_payload bidder' round' goods' quantities' → IsSame bidder round goods quantities bidder' round' goods' quantities'
 one-entry bidder round goods quantities bidder' round' goods' quantities' small small' e =
-    let rounds : to_be_bytes w32 round ≡ to_be_bytes w32 round' = ap (λ (l : List ℕ). take 4 (drop 1 l)) e in
+    let rounds : big_bytes 4 round ≡ big_bytes 4 round' = ap (λ (l : List ℕ). take 4 (drop 1 l)) e in
     record {
       bidder_is = ap (λ (l : List ℕ). get_or l 0 0) e;
-      round_is = λ few few'. sym (from_be_bytes-to_be_bytes_4 round few) ∙ ap (from_be_bytes w32) rounds ∙ from_be_bytes-to_be_bytes_4 round' few';
+      round_is = λ few few'. one_number 4 round round' few few' rounds;
       goods_are = ap (λ (l : List ℕ). get_or l 5 0) e;
       quantities_are = one-numbers quantities quantities' small small' (ap (λ (l : List ℕ). drop 8 l) e);
     }
@@ -64,7 +64,7 @@ spelled-formed terms payload r spells =
     let goods = length terms.goods in
     let numbers = concat r.demand in
     let few = demand-few terms.goods r.demand terms.supply spells.report.fits in
-    let long = length_flat numbers in
+    let long = length-pairs numbers in
     let short : nat_le (length (report_payload r.bidder r.round goods numbers)) 32768 ≡ true = grind (arith, nat_tests) in
     let formed = whole_is_formed r.bidder r.round goods numbers (demand-whole terms.goods r.demand terms.supply spells.report.fits) (omega (arith, few)) in
     ap is_entry spells.is ∙ and_from _ _ short formed
@@ -124,12 +124,7 @@ one-report terms payload r s one two =
     ∙ bundles_of-concat goods s.demand terms.supply.some_good (one-length terms.goods s.demand two.report.fits) in
     λ i. record { bidder = same.bidder_is i; round = same.round_is one.report.round two.report.round i; demand = apart i }
 
--- numbers that two bytes spell
-pub numbers-same : (bytes : List ℕ) → numbers_in bytes ≡ short_numbers bytes
-numbers-same [] = refl
-numbers-same (a ∷ []) = refl
-numbers-same (a ∷ b ∷ bytes) = ap (λ ns. from_be_bytes w16 (a ∷ b ∷ []) ∷ ns) (numbers-same bytes)
-
+-- numbers that two bytes spell fit them
 pub numbers-small : (bytes : List ℕ) → ((i : ℕ) → get_or bytes i 0 < 2 ^ 8) → AreSmall (short_numbers bytes)
 numbers-small [] each = tt
 numbers-small (a ∷ []) each = tt

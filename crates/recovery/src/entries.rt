@@ -1,7 +1,8 @@
 //! How a record's payload is read as a report.
 ghost use Rattle.std.specs.Prelude.{◌≡◌, ◌↔◌, ◌≤◌, length, IsTrue, IfOk, IfSome, IfNone};
 ghost use Rattle.report_wire.specs.Payloads.{report_payload};
-ghost use Rattle.report_wire.specs.Entries.{IsWhole, short_numbers};
+ghost use Rattle.byte_numbers.specs.Spelling.{short_numbers};
+ghost use Rattle.report_wire.specs.Entries.{IsWhole};
 ghost use Rattle.recovery.specs.Entries.{Spells, SpellsNone, AreSmall};
 
 use demand_set::{Demand, DemandFault, Report};

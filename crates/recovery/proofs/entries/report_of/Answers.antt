@@ -1,9 +1,8 @@
-use Rattle.std.proofs.Common.{◌≡◌, ◌∙◌, ℕ, List, length, ap, arith, rules, Ok, Err}
+use Rattle.std.proofs.Common.{◌≡◌, arith, rules, Err}
 use Rattle.report_journal.proofs.Kept.{is_false}
 use Rattle.demand_set.specs.Reading.{demand_of, bundles_of, AreWhole}
-use Rattle.demand_set.specs.Packed.{numbers_in}
-use Rattle.report_wire.specs.Entries.{short_numbers}
-use Rattle.recovery.proofs.Spelling.{spelled-none, spelled-empty, spelled-bidder, spelled-some, numbers-same, numbers-some}
+use Rattle.byte_numbers.specs.Spelling.{short_numbers}
+use Rattle.recovery.proofs.Spelling.{spelled-none, spelled-empty, spelled-bidder, spelled-some, numbers-some}
 use Rattle.recovery.proofs.entries.report_of.Goals as goal
 use Rattle.recovery.proofs.entries.report_of.Goals.{then-bidder-lt1-via-then-bidder-lt1, then-bidder-lt1-via-else-bidder-lt1+then-bidder-terms}
 
@@ -22,21 +21,17 @@ returns-then-not-has_some-clause-none c =
 
 pub read_bytes-requires : goal.read_bytes-requires
 read_bytes-requires c =
-    let same = numbers-same c.args.quantities.now in
     let whole = c.requires in
-    record { some_good = whole.some_good; few_goods = whole.few_goods; count = whole.count; whole = ap length same ∙ whole.whole }
+    record { some_good = whole.some_good; few_goods = whole.few_goods; count = whole.count; whole = whole.whole }
 
 pub returns-in-Ok-clause-some : goal.returns-in-Ok-clause-some
 returns-in-Ok-clause-some c =
     let numbers = short_numbers c.args.quantities.now in
     let whole : AreWhole c.args.goods numbers = record { some_good = c.requires.some_good; few_goods = c.requires.few_goods; count = c.requires.count; whole = c.requires.whole } in
-    let read : Ok c.in-Ok.demand ≡ demand_of c.args.terms.now.goods c.args.goods (bundles_of c.args.goods numbers) =
-    c.in-Ok.ensures.value ∙ ap (λ (ns : List ℕ). demand_of c.args.terms.now.goods c.args.goods (bundles_of c.args.goods ns)) (numbers-same c.args.quantities.now) in
-    spelled-some c.args.terms.now c.args.bidder c.args.round c.args.goods numbers c.in-Ok.demand (omega arith) (omega arith) (omega arith) whole c.in-Ok.ensures.fits read
+    spelled-some c.args.terms.now c.args.bidder c.args.round c.args.goods numbers c.in-Ok.demand (omega arith) (omega arith) (omega arith) whole c.in-Ok.ensures.fits c.in-Ok.ensures.value
 
 pub returns-in-Err : goal.returns-in-Err
 returns-in-Err c =
     let numbers = short_numbers c.args.quantities.now in
-    let refused : Err c.in-Err.field-0 ≡ demand_of c.args.terms.now.goods c.args.goods (bundles_of c.args.goods (numbers_in c.args.quantities.now)) = search rules in
-    let same = ap (λ (ns : List ℕ). demand_of c.args.terms.now.goods c.args.goods (bundles_of c.args.goods ns)) (numbers-same c.args.quantities.now) in
-    record { some = tt; none = spelled-none c.args.terms.now c.args.bidder c.args.round c.args.goods numbers c.in-Err.field-0 c.has_some.ensures.small (refused ∙ same) }
+    let refused : Err c.in-Err.field-0 ≡ demand_of c.args.terms.now.goods c.args.goods (bundles_of c.args.goods numbers) = search rules in
+    record { some = tt; none = spelled-none c.args.terms.now c.args.bidder c.args.round c.args.goods numbers c.in-Err.field-0 c.has_some.ensures.small refused }
