@@ -47,7 +47,7 @@ fn put_after_gate<D: Disk>(disk: &mut D, gate: u64, bytes: &[u8]) -> Result<(), 
     ensures cause { HasCause (D.shown disk.old).faults (D.shown disk.new).faults result }
 {
     // The bytes are on the disk before the gate is open, as those of a record are: the other way round a crash could leave an open gate, and
-    // after it no header.
+    // after it no header (must-fail/the_header_behind_its_gate.edit).
     write_synced(disk, gate + 1, bytes)?;
     write_synced(disk, gate, &[OPEN])
 }
@@ -197,7 +197,7 @@ pub fn form_file<D: Disk>(disk: &mut D, bytes: &[u8]) -> Result<(), Failed>
     ensures cause { HasCause (D.shown disk.old).faults (D.shown disk.new).faults result }
 {
     // A short file may begin with an open gate by chance: were that not closed first, the bytes of the header would make it a
-    // file with an open gate and a torn header. `put_header` requires a closed one.
+    // file with an open gate and a torn header (must-fail/a_short_file_is_not_shut.edit). `put_header` requires a closed one.
     shut_gate(disk)?;
     put_header(disk, bytes)
 }
