@@ -1,7 +1,7 @@
 -- The report of a frame that is well formed has the quantities of some bundles.
 use Rattle.std.proofs.Common.{◌≡◌, ◌≤◌, ℕ, ◌+◌, ◌*◌, true, ◌&&◌, List, [], ◌∷◌, length, refl, subst, sym, ◌∙◌, arith, mul_comm, nat_eq}
 use Rattle.std.specs.Prelude.{nat_le, nat_lt}
-use Rattle.std.specs.Int.{w32, to_be_bytes}
+use Rattle.byte_numbers.specs.Spelling.{big_bytes}
 use Rattle.std.specs.List.{flat_map}
 use Rattle.std.proofs.lemmas.Bool.{and_parts, and_from}
 use Rattle.std.proofs.lemmas.Bool.Decides.{nat_tests}
@@ -15,7 +15,7 @@ use Rattle.lot_base.specs.declared.phases.Phase.{Phase}
 use Rattle.lot_base.specs.declared.phases.Phase.TheVariants.{Running, Ended, Halted}
 use Rattle.report_wire.specs.declared.messages.ToHouse.{ToHouse}
 use Rattle.report_wire.specs.declared.messages.ToHouse.TheVariants as house
-use Rattle.report_wire.proofs.Spelling.{length_flat}
+use Rattle.report_wire.proofs.Spelling.{length-pairs}
 
 pub whole_of : (m : ToHouse) (clock round : ℕ) (d : RawDemand) → m ≡ house.Report clock round d → IsMessage to_house (house_kind m) (house_payload m) → AreWhole d.goods d.quantities
 whole_of m clock round d is message =
@@ -28,12 +28,12 @@ whole_of m clock round d is message =
     let low : 1 ≤ d.goods = (let w = v.0 in grind (arith, nat_tests)) in
     let high : d.goods ≤ 6 = (let w = v.1 in grind (arith, nat_tests)) in
     let size : length payload ≡ 8 + 2 * (d.goods * bundles_in payload) = (let w = t.1 in grind (arith, nat_tests)) in
-    let n = length_flat d.quantities in
+    let n = length-pairs d.quantities in
     let long : length payload ≡ 8 + 2 * length d.quantities = omega (arith, n) in
     let whole : length d.quantities ≡ d.goods * bundles_in payload = omega (arith, size, long) in
     record { some_good = low; few_goods = high; count = bundles_in payload; whole = whole ∙ mul_comm d.goods (bundles_in payload) }
 
-length_prices : (prices : List ℕ) → length (flat_map (to_be_bytes w32) prices) ≡ 4 * length prices
+length_prices : (prices : List ℕ) → length (flat_map (big_bytes 4) prices) ≡ 4 * length prices
 length_prices [] = refl
 length_prices (p ∷ ps) = let h = length_prices ps in omega (arith, h)
 
