@@ -1,16 +1,8 @@
 -- The first entry of a log.
-use Rattle.std.proofs.Common.{◌≡◌, ◌≤◌, ℕ, zero, suc, List, [], ◌∷◌, length, get_or, Option, Some, None, Result, Ok, Err, ◌+◌, ◌-◌, ◌<◌, ◌++◌, refl, ap, arith}
+use Rattle.std.proofs.Common.{◌≡◌, ◌≤◌, ℕ, zero, suc, List, [], ◌∷◌, length, Option, Some, None, Result, Ok, Err, ◌+◌, ◌-◌, ◌<◌, ◌++◌, refl, ap, arith}
 use Rattle.demand_set.specs.declared.reports.Report.{Report}
 use Rattle.clock.specs.Reports.{ClockHistory}
 use Rattle.report_log.specs.Entries.{entry_in, log_from}
-
-pub four : (xs : List ℕ) → length xs ≡ 4 → get_or xs 0 0 ∷ get_or xs 1 0 ∷ get_or xs 2 0 ∷ get_or xs 3 0 ∷ [] ≡ xs
-four [] e = absurd (omega arith)
-four (a ∷ []) e = absurd (omega arith)
-four (a ∷ b ∷ []) e = absurd (omega arith)
-four (a ∷ b ∷ d ∷ []) e = absurd (omega arith)
-four (a ∷ b ∷ d ∷ f ∷ []) e = refl
-four (a ∷ b ∷ d ∷ f ∷ g ∷ xs) e = absurd (omega arith)
 
 pub log-end : (fuel : ℕ) (c : ClockHistory) (place : ℕ) (rest : List ℕ) → length rest ≡ 0 → log_from fuel c place rest ≡ Ok c
 unfolding log_from

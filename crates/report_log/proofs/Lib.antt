@@ -1,4 +1,3 @@
-pub mod Numbers
 pub mod FirstEntry
 pub mod PlainPayloads
 pub mod Quantities

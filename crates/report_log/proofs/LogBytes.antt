@@ -1,6 +1,7 @@
 -- Bytes are a log of one history, or have one first faulty entry, and not both. What is a log is bytes.
 use Rattle.std.proofs.Common.{◌≡◌, ◌<◌, ◌^◌, ◌/◌, ◌⊎◌, inl, inr, ℕ, zero, suc, List, [], ◌∷◌, ◌++◌, length, Result, Ok, Err, arith, refl, sym, ◌∙◌, subst, lit<}
-use Rattle.std.specs.Int.{w16, w32, to_be_bytes, bytes_high_first, byte_at}
+use Rattle.byte_numbers.specs.Spelling.{big_bytes}
+use Rattle.std.specs.Int.{byte_at}
 use Rattle.std.specs.List.{AllByRecursion, concat, flat_map}
 use Rattle.std.proofs.Math.Nat.{mod-lt}
 use Rattle.lot_base.specs.declared.auction_terms.Terms.{Terms}
@@ -29,24 +30,24 @@ one-byte : (k n : ℕ) → byte_at k n < 256
 one-byte zero n = mod-lt n (lit< tt)
 one-byte (suc k) n = mod-lt (n / 256 ^ suc k) (lit< tt)
 
-number-bytes : (k n : ℕ) → AllBytes (bytes_high_first k n)
+number-bytes : (k n : ℕ) → AllBytes (big_bytes k n)
 number-bytes zero n = tt
 number-bytes (suc k) n = (one-byte k n, number-bytes k n)
 
-bundle-bytes : (bundle : List ℕ) → AllBytes (flat_map (to_be_bytes w16) bundle)
+bundle-bytes : (bundle : List ℕ) → AllBytes (flat_map (big_bytes 2) bundle)
 bundle-bytes [] = tt
-bundle-bytes (x ∷ bundle) = joined (to_be_bytes w16 x) (flat_map (to_be_bytes w16) bundle) (number-bytes 2 x) (bundle-bytes bundle)
+bundle-bytes (x ∷ bundle) = joined (big_bytes 2 x) (flat_map (big_bytes 2) bundle) (number-bytes 2 x) (bundle-bytes bundle)
 
 entry-bytes : (goods : ℕ) (r : Report) → r.bidder < 256 → goods < 256 → AllBytes (entry_of goods r)
 unfolding payload_of
 entry-bytes goods r bidder few =
     let count = length (concat r.demand) / goods in
-    let quantities = flat_map (to_be_bytes w16) (concat r.demand) in
-    let body = to_be_bytes w16 count ++ quantities in
-    joined (to_be_bytes w32 (length (payload_of goods r))) (payload_of goods r) (number-bytes 4 (length (payload_of goods r))) (
+    let quantities = flat_map (big_bytes 2) (concat r.demand) in
+    let body = big_bytes 2 count ++ quantities in
+    joined (big_bytes 4 (length (payload_of goods r))) (payload_of goods r) (number-bytes 4 (length (payload_of goods r))) (
       bidder,
-      joined (to_be_bytes w32 r.round) (goods ∷ body) (number-bytes 4 r.round)
-          (few, joined (to_be_bytes w16 count) quantities (number-bytes 2 count) (bundle-bytes (concat r.demand))),
+      joined (big_bytes 4 r.round) (goods ∷ body) (number-bytes 4 r.round)
+          (few, joined (big_bytes 2 count) quantities (number-bytes 2 count) (bundle-bytes (concat r.demand))),
     )
 
 entries-bytes : (reports : List Report) (c : ClockHistory) → TakesAll c reports → AllBytes (entries_of (length c.terms.goods) reports)

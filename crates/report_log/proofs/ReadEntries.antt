@@ -1,11 +1,12 @@
 -- The first entry of a log: what is read there is the entry of a report of bundles that may be demanded, which is judged Take.
 use Rattle.std.proofs.Common.{◌≡◌, ◌<◌, ◌≤◌, ℕ, ◌*◌, ◌/◌, Bool, true, false, ◌&&◌, ◌||◌, nat_lt, cond, List, ◌++◌, length, take, drop, Option, Some, None, Result, Ok, Err, refl, sym, ◌∙◌, ap, subst, arith, append_assoc, take-append-drop}
 use Rattle.std.specs.Prelude.{nat_le}
-use Rattle.std.specs.Int.{w16, w32, to_be_bytes, from_be_bytes}
+use Rattle.byte_numbers.specs.Spelling.{big_bytes, big_number}
+use Rattle.byte_numbers.proofs.Parts.{part_bytes}
+use Rattle.byte_numbers.proofs.Spelled.{same_bytes}
 use Rattle.std.specs.List.{flat_map}
 use Rattle.std.proofs.lemmas.Bool.Decides.{nat_tests}
 use Rattle.std.proofs.lemmas.List.{length-take-le}
-use Rattle.std.proofs.lemmas.Nat.{be_bytes_4}
 use Rattle.std.proofs.Math.Nat.{mul-div_cancel}
 use Rattle.lot_base.specs.Demands.{IsDemand}
 use Rattle.demand_set.specs.declared.reports.Report.{Report}
@@ -21,7 +22,7 @@ use Rattle.report_log.specs.Entries.{SpelledReport, spelled_in, taken, judged_in
 use Rattle.report_log.specs.Logs.{AreBytes, entry_of}
 use Rattle.report_log.proofs.PlainPayloads.{payload-plain, plain_payload, quantity_bytes}
 use Rattle.report_log.proofs.Quantities.{bytes-groups}
-use Rattle.report_log.proofs.Payloads.{payload, IsWritten, spelled-written, part-bytes}
+use Rattle.report_log.proofs.Payloads.{payload, IsWritten, spelled-written}
 use Rattle.report_log.proofs.Faultless.{IsFound, found-by}
 
 behind : {X : Type 0} (b : Bool) (o : Option X) (x : X) → cond b None o ≡ Some x → (b ≡ false) × (o ≡ Some x)
@@ -95,7 +96,7 @@ said-by c whole behind s r rest written found judged =
     let groups_are : length (bundles_of s.goods s.quantities) ≡ n = length-groups n s.goods s.quantities in
     let in_groups : length s.quantities ≡ n * s.goods = written.whole ∙ ap (λ k. k * s.goods) (sym count) in
     let count_is : written.count ≡ length r.demand = sym count ∙ sym groups_are ∙ ap length found.same in
-    let bytes_are : flat_map (to_be_bytes w16) s.quantities ≡ quantity_bytes r.demand = sym (bytes-groups n s.goods s.quantities in_groups) ∙ ap quantity_bytes found.same in
+    let bytes_are : flat_map (big_bytes 2) s.quantities ≡ quantity_bytes r.demand = sym (bytes-groups n s.goods s.quantities in_groups) ∙ ap quantity_bytes found.same in
     let Q : ℕ → Type 0 = λ g. Ok r.demand ≡ unless (fault_from c.terms.goods 0 None (bundles_of g s.quantities)) (bundles_of g s.quantities) in
     let filled : 1 ≤ n = (let some = found.some in omega arith) in
     let R : ℕ → Type 0 = λ g. 1 ≤ length s.quantities / g in
@@ -119,17 +120,17 @@ payload-said c whole behind r rest are e = by (spelled_in whole) refl e
 
 pub entry-said : (c : ClockHistory) (bytes : List ℕ) (r : Report) (rest : List ℕ) → AreBytes bytes → entry_in c bytes ≡ Some (r, rest) → IsFirst c bytes r rest
 entry-said c bytes r rest are e =
-    let size = from_be_bytes w32 (take 4 bytes) in
+    let size = big_number 4 (take 4 bytes) in
     let after = drop 4 bytes in
     let a = behind (nat_lt (length bytes) 4) (payload_in c size after) (r, rest) e in
     let b = behind (nat_lt 32768 size || nat_lt (length after) size) (report_in c (spelled_in (take size after)) (drop size after)) (r, rest) a.1 in
     let d = neither (nat_lt 32768 size) (nat_lt (length after) size) b.0 in
     let long : 4 ≤ length bytes = (let t = a.0 in grind (arith, nat_tests)) in
     let reaches : size ≤ length after = (let t = d.1 in grind (arith, nat_tests)) in
-    let said = payload-said c (take size after) (drop size after) r rest (part-bytes bytes 4 size are) b.1 in
+    let said = payload-said c (take size after) (drop size after) r rest (part_bytes bytes 4 size are) b.1 in
     let written = plain_payload (length c.terms.goods) r in
     let value : length written ≡ size = ap length (sym said.payload_is) ∙ length-take-le size after reaches in
-    let front : to_be_bytes w32 (length written) ≡ take 4 bytes = be_bytes_4 (take 4 bytes) (length written) (length-take-le 4 bytes long) (part-bytes bytes 0 4 are) value in
+    let front : big_bytes 4 (length written) ≡ take 4 bytes = same_bytes 4 (take 4 bytes) (length written) (length-take-le 4 bytes long) (part_bytes bytes 0 4 are) value in
     record {
       demand = said.demand;
       take = said.take;
@@ -138,5 +139,5 @@ entry-said c bytes r rest are e =
           ∙ ap (λ others. take 4 bytes ++ others) (sym (take-append-drop size after))
           ∙ sym (append_assoc (take 4 bytes) (take size after) (drop size after))
           ∙ (λ i. (sym front i ++ said.payload_is i) ++ said.rest_is i)
-          ∙ ap (λ p. (to_be_bytes w32 (length p) ++ p) ++ rest) (sym (payload-plain c.terms.goods r c.terms.supply said.demand));
+          ∙ ap (λ p. (big_bytes 4 (length p) ++ p) ++ rest) (sym (payload-plain c.terms.goods r c.terms.supply said.demand));
     }

@@ -12,8 +12,8 @@ use Rattle.clock.proofs.Append.{legal-push, all-push}
 use Rattle.report_log.specs.Entries.{entry_in, log_from, log_of}
 use Rattle.report_log.specs.Logs.{AreBytes, entry_of, entries_of, IsLogOf, IsFaultyAt}
 use Rattle.report_log.proofs.FirstEntry.{log-end, log-fault, log-next}
-use Rattle.report_log.proofs.Payloads.{later-bytes}
 use Rattle.report_log.proofs.WrittenEntries.{entry-read}
+use Rattle.byte_numbers.proofs.Parts.{later_bytes}
 use Rattle.report_log.proofs.ReadEntries.{IsFirst, entry-said}
 
 -- a log, and an entry more
@@ -33,7 +33,7 @@ log-more terms c front bytes rest r is first =
     }
 
 rest-bytes : (entry rest bytes : List ℕ) → AreBytes bytes → bytes ≡ entry ++ rest → AreBytes rest
-rest-bytes entry rest bytes are e = subst AreBytes (ap (drop (length entry)) e ∙ drop-append_seam entry rest) (later-bytes bytes (length entry) are)
+rest-bytes entry rest bytes are e = subst AreBytes (ap (drop (length entry)) e ∙ drop-append_seam entry rest) (later_bytes bytes (length entry) are)
 
 read-whole : (fuel : ℕ) (terms : Terms) (c d : ClockHistory) (place : ℕ) (front bytes : List ℕ) → IsLogOf terms c front → AreBytes bytes → log_from fuel c place bytes ≡ Ok d → IsLogOf terms d (front ++ bytes)
 unfolding log_from
@@ -169,7 +169,7 @@ fault-here terms bytes place are faulty =
     none : (r : Report) (others : List ℕ) → entry_in faulty.before (drop place bytes) ≡ Some (r, others) → ⊥
     none r others read =
         let c = faulty.before in
-        let first = entry-said c (drop place bytes) r others (later-bytes bytes place are) read in
+        let first = entry-said c (drop place bytes) r others (later_bytes bytes place are) read in
         let terms_are = faulty.log.terms_are in
         faulty.no_entry r others (subst (λ (t : Terms). IsDemand t.goods r.demand) terms_are first.demand) first.take
         (first.whole ∙ ap (λ (t : Terms). entry_of (length t.goods) r ++ others) terms_are)

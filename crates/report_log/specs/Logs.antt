@@ -4,7 +4,7 @@
 -- at most 32,768 bytes need not be said: a demand has at most 2,048 bundles of at most 6 goods, so no report that is taken has more
 -- than 24,584.
 use Rattle.std.specs.Prelude.{◌≡◌, ◌<◌, ◌^◌, ℕ, List, ◌++◌, length, take, drop, slice_index}
-use Rattle.std.specs.Int.{w32, to_be_bytes}
+use Rattle.byte_numbers.specs.Spelling.{big_bytes}
 use Rattle.std.specs.List.{flat_map}
 use Rattle.lot_base.specs.Demands.{IsDemand}
 use Rattle.lot_base.specs.declared.auction_terms.Terms.{Terms}
@@ -25,7 +25,7 @@ AreBytes bytes = (i : ℕ) → slice_index bytes i < 2 ^ 8
 
 -- the entry of a report: the length of its payload, and the payload
 abbrev pub entry_of : ℕ → Report → List ℕ
-entry_of goods r = to_be_bytes w32 (length (payload_of goods r)) ++ payload_of goods r
+entry_of goods r = big_bytes 4 (length (payload_of goods r)) ++ payload_of goods r
 
 -- the entries of reports, one after another
 abbrev pub entries_of : ℕ → List Report → List ℕ

@@ -6,6 +6,7 @@ ghost use Rattle.clock.specs.Judging.{judgement_of};
 ghost use Rattle.clock.specs.declared.judging.Judgement.TheVariants.{Take};
 ghost use Rattle.report_log.specs.Pieces.{IsFront, IsUpTo, StopsAt, left_of};
 
+use byte_numbers::number_of;
 use clock::{Clock, Judgement};
 use demand_set::Report;
 use lot_base::limits::GREATEST_PAYLOAD;
@@ -45,7 +46,7 @@ fn next_entry<'a>(
         return Ok(Front::Unfinished);
     }
     let (head, after) = bytes.split_at(4);
-    let size = u32::from_be_bytes([head[0], head[1], head[2], head[3]]) as usize;
+    let size = number_of(head) as usize;
     if size > GREATEST_PAYLOAD as usize {
         return Ok(Front::Faulty);
     }

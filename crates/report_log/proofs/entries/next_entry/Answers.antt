@@ -1,7 +1,6 @@
 -- The front was cut into a length, a payload and the rest, as far as it reaches.
 use Rattle.std.proofs.Common.{◌∙◌, ap, arith, length, length-drop}
-use Rattle.std.specs.Int.{w32, from_be_bytes}
-use Rattle.report_log.proofs.FirstEntry.{four}
+use Rattle.byte_numbers.specs.Spelling.{big_number}
 use Rattle.report_log.proofs.TakenEntries.{cut-by, cut-short, no-report, taken-entry, too-long, too-short}
 use Rattle.report_log.proofs.entries.next_entry.Goals as goal
 
@@ -10,29 +9,29 @@ returns-then-bytes-lt4 c = record { short = omega arith; no_entry = too-short c.
 
 pub returns-then-size : goal.returns-then-size
 returns-then-size c =
-    let size = c.from_be_bytes-size.ensures ∙ ap (from_be_bytes w32) (four c.split_at.result.0.now c.split_at.ensures.front_len ∙ c.split_at.ensures.front) in
-    too-long c.args.terms.now c.args.clock.now.history c.args.bytes.now c.from_be_bytes-size.result (omega arith) size (omega arith)
+    let size = c.number_of-size.ensures.value ∙ ap (big_number 4) c.split_at.ensures.front in
+    too-long c.args.terms.now c.args.clock.now.history c.args.bytes.now c.number_of-size.result (omega arith) size (omega arith)
 
 pub returns-then-after-size : goal.returns-then-after-size
 returns-then-after-size c =
-    let size = c.from_be_bytes-size.ensures ∙ ap (from_be_bytes w32) (four c.split_at.result.0.now c.split_at.ensures.front_len ∙ c.split_at.ensures.front) in
+    let size = c.number_of-size.ensures.value ∙ ap (big_number 4) c.split_at.ensures.front in
     record {
       short = omega (arith, ap length c.split_at.ensures.back, length-drop 4 c.args.bytes.now);
-      no_entry = cut-short c.args.terms.now c.args.clock.now.history c.args.bytes.now c.from_be_bytes-size.result size (omega (arith, ap length c.split_at.ensures.back));
+      no_entry = cut-short c.args.terms.now c.args.clock.now.history c.args.bytes.now c.number_of-size.result size (omega (arith, ap length c.split_at.ensures.back));
     }
 
 pub returns-in-Some : goal.returns-in-Some
 returns-in-Some c =
     let front = c.split_at.result.0.now in
-    let size = c.from_be_bytes-size.ensures ∙ ap (from_be_bytes w32) (four front c.split_at.ensures.front_len) in
-    let cut = cut-by c.args.bytes.now front c.split_at.result.1.now c.split_at-2.result.0.now c.split_at-2.result.1.now c.from_be_bytes-size.result (omega arith) c.split_at.ensures.front c.split_at.ensures.back size (omega arith) c.split_at-2.ensures.front c.split_at-2.ensures.back in
-    taken-entry c.args.terms.now c.args.clock.now.history c.args.bytes.now c.split_at-2.result.0.now c.split_at-2.result.1.now c.from_be_bytes-size.result c.in-Some.report (λ i. let fits = c.type_inv.bytes i in omega arith) cut
+    let size = c.number_of-size.ensures.value in
+    let cut = cut-by c.args.bytes.now front c.split_at.result.1.now c.split_at-2.result.0.now c.split_at-2.result.1.now c.number_of-size.result (omega arith) c.split_at.ensures.front c.split_at.ensures.back size (omega arith) c.split_at-2.ensures.front c.split_at-2.ensures.back in
+    taken-entry c.args.terms.now c.args.clock.now.history c.args.bytes.now c.split_at-2.result.0.now c.split_at-2.result.1.now c.number_of-size.result c.in-Some.report (λ i. let fits = c.type_inv.bytes i in omega arith) cut
     (rw c.in-Some.is at c.in_ok-take_report.ensures.some) (rw c.in-Some.is at c.in_ok-take_report.ensures.take)
 
 pub returns-in-None : goal.returns-in-None
 returns-in-None c =
     let front = c.split_at.result.0.now in
-    let size = c.from_be_bytes-size.ensures ∙ ap (from_be_bytes w32) (four front c.split_at.ensures.front_len) in
-    let cut = cut-by c.args.bytes.now front c.split_at.result.1.now c.split_at-2.result.0.now c.split_at-2.result.1.now c.from_be_bytes-size.result (omega arith) c.split_at.ensures.front c.split_at.ensures.back size (omega arith) c.split_at-2.ensures.front c.split_at-2.ensures.back in
-    no-report c.args.terms.now c.args.clock.now.history c.args.bytes.now c.split_at-2.result.0.now c.split_at-2.result.1.now c.from_be_bytes-size.result c.requires (λ i. let fits = c.type_inv.bytes i in omega arith) cut (omega arith)
+    let size = c.number_of-size.ensures.value in
+    let cut = cut-by c.args.bytes.now front c.split_at.result.1.now c.split_at-2.result.0.now c.split_at-2.result.1.now c.number_of-size.result (omega arith) c.split_at.ensures.front c.split_at.ensures.back size (omega arith) c.split_at-2.ensures.front c.split_at-2.ensures.back in
+    no-report c.args.terms.now c.args.clock.now.history c.args.bytes.now c.split_at-2.result.0.now c.split_at-2.result.1.now c.number_of-size.result c.requires (λ i. let fits = c.type_inv.bytes i in omega arith) cut (omega arith)
     (rw c.in-None.is at c.in_ok-take_report.ensures.none)

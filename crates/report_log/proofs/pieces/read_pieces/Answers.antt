@@ -6,8 +6,8 @@ use Rattle.house_io.specs.Sources.{Takes}
 use Rattle.house_io.specs.Told.{IfTold}
 use Rattle.report_log.specs.Logs.{AreBytes}
 use Rattle.report_log.specs.Pieces.{HasRead}
-use Rattle.report_log.proofs.Payloads.{later-bytes}
 use Rattle.report_log.proofs.PieceReading.{held-and-piece, more-so-far, not-failed, too-much, whole-given, whole-so-far}
+use Rattle.byte_numbers.proofs.Parts.{later_bytes}
 use Rattle.report_log.proofs.pieces.read_pieces.Goals as goal
 
 pub returns-clause-read : goal.returns-clause-read
@@ -56,7 +56,7 @@ pulls-preserved g c =
     let long : length bytes ≡ end = length-take-le end new (omega (arith, few, fits, length-drop c.pulls.held new)) in
     let held_long : length held ≡ c.pulls.held = length-take-le c.pulls.held c.pulls.buffer (omega arith) in
     let piece_is : drop c.pulls.held bytes ≡ piece = ap (drop c.pulls.held) are ∙ drop_at held piece c.pulls.held held_long in
-    let piece_bytes : AreBytes piece = subst AreBytes piece_is (later-bytes bytes c.pulls.held c.in-Ok-take.ensures.are_bytes) in
+    let piece_bytes : AreBytes piece = subst AreBytes piece_is (later_bytes bytes c.pulls.held c.in-Ok-take.ensures.are_bytes) in
     let read = c.in-Ok-take.ensures.read all held piece are (omega (arith, i.read.long, size, length-append all piece)) i.read.has in
     let later : drop (length bytes - left) bytes ≡ take left c.keep_end.new.buffer = ap (λ n. drop (n - left) bytes) long ∙ sym c.keep_end.ensures in
     record {
