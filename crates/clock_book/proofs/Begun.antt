@@ -2,7 +2,7 @@
 use Rattle.std.proofs.Common.{◌≡◌, inl, inr, ⊎_elim, ℕ, ◌+◌, ◌∙◌, IsTrue, List, [], ◌∷◌, ◌++◌, length, take, map, Option, None, Err, refl, sym, ap, subst, arith, append_assoc, length-append}
 use Rattle.std.proofs.lemmas.Bool.{true≢false}
 use Rattle.house_io.specs.Disks.{DiskShown, is_told, told_moments}
-use Rattle.std.specs.Int.{w32, to_be_bytes}
+use Rattle.byte_numbers.specs.Spelling.{big_bytes}
 use Rattle.std.proofs.lemmas.List.{take_all, length-map}
 use Rattle.demand_set.specs.declared.reports.Report.{Report}
 use Rattle.clock.specs.Reports.{ClockHistory, ClockOf, applied}
@@ -162,8 +162,8 @@ gates goods (p ∷ places) (r ∷ reports) gate long =
     let heads : p.length ≡ length payload = ap (head_or 0) long in
     let tails : AreLong goods places reports = ap tail_of long in
     let e = gates goods places reports (gate + 5 + p.length) tails in
-    let a = length-append (to_be_bytes w32 (length payload) ++ payload) (records (map (payload_of goods) reports)) in
-    let b = length-append (to_be_bytes w32 (length payload)) payload in
+    let a = length-append (big_bytes 4 (length payload) ++ payload) (records (map (payload_of goods) reports)) in
+    let b = length-append (big_bytes 4 (length payload)) payload in
     omega (arith, e, a, b, heads)
   where
     head_or : ℕ → List ℕ → ℕ

@@ -1,9 +1,9 @@
 -- Of two lists of records with which a file begins one begins the other.
 use Rattle.std.proofs.Common.{◌≡◌, ◌⊎◌, inl, inr, ⊎_elim, ◌<◌, ◌^◌, ℕ, ◌+◌, List, [], ◌∷◌, ◌++◌, length, get_or, take, drop, refl, sym, ◌∙◌, ap, subst, arith, append_assoc, length-append}
-use Rattle.std.specs.Int.{w32, to_be_bytes, from_be_bytes}
+use Rattle.byte_numbers.specs.Spelling.{big_bytes, big_number}
+use Rattle.byte_numbers.proofs.Spelled.{read_back}
 use Rattle.std.specs.List.{AllByRecursion}
 use Rattle.std.proofs.lemmas.List.{take_at, drop_at, get_or_at, append-nil}
-use Rattle.std.proofs.lemmas.Nat.{from_be_bytes-to_be_bytes_4}
 use Rattle.report_journal.specs.declared.headers.Header.{Header}
 use Rattle.report_journal.specs.declared.spellings.TheConstants.{OPEN}
 use Rattle.report_journal.specs.Format.{Contents, header_bytes, body, records, front, IsPayload, StandsFor, IsDamaged}
@@ -25,10 +25,10 @@ records-either : (ps qs : List (List ℕ)) (x y : List ℕ) → AllByRecursion I
 records-either [] qs x y all all' same = inl (record { more = qs; is = refl })
 records-either (p ∷ ps) [] x y all all' same = inr (record { more = p ∷ ps; is = refl })
 records-either (p ∷ ps) (q ∷ qs) x y all all' same =
-    let sizes : to_be_bytes w32 (length p) ≡ to_be_bytes w32 (length q) = ap (λ (l : List ℕ). take 4 (drop 1 l)) same in
+    let sizes : big_bytes 4 (length p) ≡ big_bytes 4 (length q) = ap (λ (l : List ℕ). take 4 (drop 1 l)) same in
     let p_fits : length p < 2 ^ 32 = omega (arith, all.0) in
     let q_fits : length q < 2 ^ 32 = omega (arith, all'.0) in
-    let long : length p ≡ length q = sym (from_be_bytes-to_be_bytes_4 (length p) p_fits) ∙ ap (from_be_bytes w32) sizes ∙ from_be_bytes-to_be_bytes_4 (length q) q_fits in
+    let long : length p ≡ length q = sym (read_back 4 (length p) p_fits) ∙ ap (big_number 4) sizes ∙ read_back 4 (length q) q_fits in
     let after : (p ++ records ps) ++ x ≡ (q ++ records qs) ++ y = ap (λ (l : List ℕ). drop 5 l) same in
     let both : p ++ (records ps ++ x) ≡ q ++ (records qs ++ y) = sym (append_assoc p (records ps) x) ∙ after ∙ append_assoc q (records qs) y in
     let heads : p ≡ q = sym (take_at p (records ps ++ x) (length p) refl) ∙ ap (λ (l : List ℕ). take (length p) l) both ∙ take_at q (records qs ++ y) (length p) (sym long) in
@@ -83,7 +83,7 @@ module _ (header : Header) (file : List ℕ) where
   not-both m gate is (inl closed) = closed is.opened
   not-both m gate is (inr (opened, none)) =
       let fits : length m < 2 ^ 32 = omega (arith, is.short) in
-      let value = ap (from_be_bytes w32) is.spelled ∙ from_be_bytes-to_be_bytes_4 (length m) fits in
+      let value = ap (big_number 4) is.spelled ∙ read_back 4 (length m) fits in
       ⊎_elim (λ short. omega (arith, short, is.whole)) (λ more. ⊎_elim (λ long. omega (arith, long, value, is.short)) (λ past. ⊎_elim (λ beyond. omega (arith, beyond, value, is.whole)) (λ beyond. omega (arith, beyond, value, is.limit)) past) more) none
 
   -- with however many records a file begins, they begin the whole list

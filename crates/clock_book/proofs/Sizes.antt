@@ -1,6 +1,6 @@
 -- How many bytes and quantities reports take, and that there is room for one more.
 use Rattle.std.proofs.Common.{◌≡◌, ◌≤◌, ℕ, ◌+◌, ◌*◌, min, List, [], ◌∷◌, ◌++◌, length, map, None, refl, sym, ap, subst, arith, length-append}
-use Rattle.std.specs.Int.{w32, to_be_bytes}
+use Rattle.byte_numbers.specs.Spelling.{big_bytes}
 use Rattle.std.specs.List.{concat}
 use Rattle.std.proofs.Math.Nat.{mul-le-mul_right}
 use Rattle.std.proofs.lemmas.List.{map-append}
@@ -12,7 +12,7 @@ use Rattle.lot_base.proofs.Order.{box_size-some}
 use Rattle.demand_set.specs.declared.reports.Report.{Report}
 use Rattle.demand_set.proofs.Faults.{AfterFirst, are-good}
 use Rattle.demand_set.proofs.Joined.{faultless}
-use Rattle.report_wire.proofs.Spelling.{length_flat}
+use Rattle.report_wire.proofs.Spelling.{length-pairs}
 use Rattle.report_journal.specs.Format.{Contents, header_bytes, records, front}
 use Rattle.report_journal.specs.Puts.{with_one_more}
 use Rattle.report_journal.proofs.Records.{front-push}
@@ -26,7 +26,7 @@ use Rattle.clock_book.specs.Offers.{record_end}
 
 pub payload-length : (goods : ℕ) (r : Report) → length (payload_of goods r) ≡ 8 + 2 * length (concat r.demand)
 unfolding payload_of
-payload-length goods r = let n = length_flat (concat r.demand) in omega (arith, n)
+payload-length goods r = let n = length-pairs (concat r.demand) in omega (arith, n)
 
 pub payload-short : (terms : Terms) (r : Report) → IsDemand terms.goods r.demand → length (payload_of (length terms.goods) r) ≤ GREATEST_PAYLOAD
 payload-short terms r fits = let n = payload-length (length terms.goods) r in let few = demand-few terms.goods r.demand terms.supply fits in omega (arith, n, few)
@@ -40,7 +40,7 @@ end-push owner reports r =
     let payload = payload_of (length owner.terms.goods) r in
     let e = ap (λ (x : Contents). length (front x)) (contents-push owner reports r) in
     let f = ap length (front-push (contents_of owner reports) payload) in
-    omega (arith, e, f, length-append (front (contents_of owner reports)) (0xa5 ∷ to_be_bytes w32 (length payload) ++ payload), length-append (to_be_bytes w32 (length payload)) payload)
+    omega (arith, e, f, length-append (front (contents_of owner reports)) (0xa5 ∷ big_bytes 4 (length payload) ++ payload), length-append (big_bytes 4 (length payload)) payload)
 
 pub quantities-push : (reports : List Report) (r : Report) → quantities_in (reports ++ r ∷ []) ≡ quantities_in reports + length (concat r.demand)
 quantities-push [] r = omega arith
@@ -53,8 +53,8 @@ quantities-records goods (r ∷ reports) =
     let payload = payload_of goods r in
     let e = quantities-records goods reports in
     let n = payload-length goods r in
-    let a = length-append (to_be_bytes w32 (length payload) ++ payload) (records (map (payload_of goods) reports)) in
-    let b = length-append (to_be_bytes w32 (length payload)) payload in
+    let a = length-append (big_bytes 4 (length payload) ++ payload) (records (map (payload_of goods) reports)) in
+    let b = length-append (big_bytes 4 (length payload)) payload in
     omega (arith, e, n, a, b)
 
 pub quantities-front : (owner : Owner) (reports : List Report) → 2 * quantities_in reports ≤ length (front (contents_of owner reports))
