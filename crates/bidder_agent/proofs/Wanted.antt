@@ -10,7 +10,7 @@ use Rattle.report_wire.specs.Frames.{IsMessage}
 use Rattle.report_wire.specs.Messages.{to_house}
 use Rattle.report_wire.specs.Entries.{IsWhole}
 use Rattle.report_wire.specs.Payloads.{report_payload}
-use Rattle.report_wire.proofs.Spelling.{length_flat, whole_is_formed}
+use Rattle.report_wire.proofs.Spelling.{length-pairs, whole_is_formed}
 
 long : (x supply : List ℕ) → AtMost x supply → length x ≡ length supply
 long [] [] within = omega arith
@@ -29,7 +29,7 @@ reported supply goods bundles quantities goods-are range same is some first roun
     let size : length quantities ≡ length bundles * goods = ap length same ∙ length-concat (length supply) bundles (all-long supply bundles is.in_box) ∙ ap (λ n. length bundles * n) (sym goods-are) in
     let few : length bundles * goods ≤ 2048 * 6 = mul-le-mul some.few range.at_most in
     let whole : IsWhole goods quantities = record { some_good = range.at_least; few_goods = range.at_most; count = length bundles; whole = size } in
-    let n = length_flat quantities in
+    let n = length-pairs quantities in
     record {
       formed = whole_is_formed first round goods quantities whole (omega (arith, size, few));
       short = omega (arith, n, size, few);
