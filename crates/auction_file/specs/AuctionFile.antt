@@ -18,6 +18,7 @@ use Rattle.std.specs.List.{list_any, enumerate_from}
 use Rattle.std.specs.Option.{ok_or, option_map_or}
 use Rattle.std.specs.Result.{result_ok}
 use Rattle.std.specs.Str.{bytes_eq}
+use Rattle.lot_base.specs.declared.limits.TheConstants.{LEAST_CEILING, GREATEST_CEILING}
 use Rattle.lot_base.specs.Limits.{supply_of}
 use Rattle.lot_base.specs.declared.supply.GoodsFault.{GoodsFault}
 use Rattle.toml.specs.Data.{Data, Members, get, get_member, as_integer, as_str}
@@ -53,7 +54,7 @@ unfoldable pub version_of : Members → Result ℕ AuctionFault
 version_of file = integer_at key.Version (codes "version") file >>= ranged 1 2 fault.Version
 
 unfoldable pub ceiling_of : Members → Result ℕ AuctionFault
-ceiling_of file = integer_at key.Ceiling (codes "ceiling") file >>= ranged 2 10000 fault.Ceiling
+ceiling_of file = integer_at key.Ceiling (codes "ceiling") file >>= ranged LEAST_CEILING GREATEST_CEILING fault.Ceiling
 
 -- the element is a table with this name
 abbrev pub has_name : List ℕ → Data → Bool

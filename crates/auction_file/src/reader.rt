@@ -3,6 +3,7 @@ ghost use Rattle.std.specs.Prelude.{◌≡◌, ◌≢◌, ◌≤◌, length, map
 ghost use Rattle.sha2.specs.Sha256.{sha256};
 ghost use Rattle.toml.specs.View.{table_view};
 ghost use Rattle.std.specs.List.{AllByRecursion};
+ghost use Rattle.lot_base.specs.declared.limits.TheConstants.{LEAST_CEILING, GREATEST_CEILING, GREATEST_AUCTION};
 ghost use Rattle.lot_base.specs.Goods.{IsRange};
 ghost use Rattle.lot_base.specs.Limits.{supply_of};
 ghost use Rattle.auction_file.specs.AuctionFile.{document_of, version_of, ceiling_of, sold, auction_of};
@@ -14,6 +15,7 @@ use crate::document::{integer_at, known_keys, within};
 use crate::faults::{AuctionFault, Key};
 use crate::goods_list::{Good, good_names, goods_of, opening_prices};
 use crate::listing::Auction;
+use lot_base::limits::{GREATEST_AUCTION, GREATEST_CEILING, LEAST_CEILING};
 use lot_base::{Goods, Prices, Sequence, Terms};
 use sha2::{Digest, Sha256};
 use std::alloc::{AllocError, Global};
@@ -21,7 +23,7 @@ use toml::Table;
 use toml_tree::tree_of;
 
 /// The most bytes of an auction file.
-pub const MOST_BYTES: usize = 65_536;
+pub const MOST_BYTES: usize = GREATEST_AUCTION as usize;
 
 /// The tree of the document.
 #[tactic(auto, unfolding(crate::specs::AuctionFile::document_of))]
@@ -49,11 +51,11 @@ fn version_of(file: &Table) -> Result<u16, AuctionFault>
 #[tactic(auto, unfolding(crate::specs::AuctionFile::ceiling_of))]
 fn ceiling_of(file: &Table) -> Result<u16, AuctionFault>
     ensures ceiling { result ≡ ceiling_of (table_view file.now) }
-    ensures low { IfOk result (λ ceiling. 2 ≤ ceiling) }
-    ensures high { IfOk result (λ ceiling. ceiling ≤ 10000) }
+    ensures low { IfOk result (λ ceiling. LEAST_CEILING ≤ ceiling) }
+    ensures high { IfOk result (λ ceiling. ceiling ≤ GREATEST_CEILING) }
 {
     let value = integer_at(file, "ceiling", Key::Ceiling)?;
-    within(value, 2, 10_000).ok_or(AuctionFault::Ceiling(value))
+    within(value, LEAST_CEILING as u16, GREATEST_CEILING as u16).ok_or(AuctionFault::Ceiling(value))
 }
 
 /// The goods as they can be sold.
@@ -91,7 +93,7 @@ fn terms_of(
     bidders: u8,
 ) -> Result<Terms, AllocError>
     requires version { IsRange 1 2 version }
-    requires ceiling { IsRange 2 10000 ceiling }
+    requires ceiling { IsRange LEAST_CEILING GREATEST_CEILING ceiling }
     requires opened { AllByRecursion (IsOpened version ceiling) goods.now }
     requires goods { length supply ≡ length goods.now }
     requires bidders { IsRange 1 12 bidders }
@@ -142,7 +144,7 @@ fn file_digest(bytes: &[u8]) -> [u8; 32]
 /// The auction that the bytes of an auction file say, or the first fault in the order of the format.
 #[tactic(auto, unfolding(crate::specs::AuctionFile::auction_of))]
 pub fn read(alloc: Global, bytes: &[u8]) -> Result<Auction, AuctionFault>
-    requires { length bytes.now ≤ MOST_BYTES }
+    requires { length bytes.now ≤ GREATEST_AUCTION }
     ensures read { IfOk result (λ auction. auction_of bytes.now ≡ Ok (listing_of auction)) }
     ensures refused { IfErr result (λ fault. fault ≢ AuctionFault.NoMemory → auction_of bytes.now ≡ Err fault) }
 {

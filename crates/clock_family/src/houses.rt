@@ -186,7 +186,8 @@ impl<D: Disk> House<D> {
         requires clock { clock ≤ self.now.terms.bidders }
         requires of_house { AreOf self.now.terms self.now.digest self.now.desks pass.old.passes }
         requires report { IsRange 1 self.now.terms.bidders bidder × IsDemand self.now.terms.goods demand }
-        ensures offers { OffersAt clock (record { bidder = bidder; round = round; demand = demand }) result pass.old.passes pass.new.passes }
+        ensures offers { OffersAt clock (record { bidder = bidder; round = round; demand = demand }) result pass.old.passes
+            pass.new.passes }
         ensures of_house { AreOf self.now.terms self.now.digest self.now.desks pass.new.passes }
         ensures still { all_still pass.new ≡ all_still pass.old }
         ensures refusal { IsOffered (bidder ≡ clock) result }

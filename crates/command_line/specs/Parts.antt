@@ -1,5 +1,6 @@
 -- The parts of commands that have more than names of files: where an auction is served, and whose part an agent takes.
 use Rattle.std.specs.Prelude.{◌≤◌, ℕ, List, length}
+use Rattle.lot_base.specs.declared.limits.TheConstants.{MOST_DOORS, MOST_SESSIONS}
 use Rattle.lot_base.specs.Goods.{IsRange}
 
 -- where an auction is served: at so many doors on an address, for so many sessions at each
@@ -19,9 +20,9 @@ pub record Bidding : Type 0 where
 -- so many doors and sessions can be served
 pub record IsServable (s : Serving) : Type 0 where
   pub some_door : 1 ≤ s.doors
-  pub few_doors : s.doors ≤ 64
+  pub few_doors : s.doors ≤ MOST_DOORS
   pub some_session : 1 ≤ s.sessions
-  pub few_sessions : s.sessions ≤ 10000
+  pub few_sessions : s.sessions ≤ MOST_SESSIONS
 
 -- a part that an agent can take
 pub record IsPlayable (b : Bidding) : Type 0 where

@@ -1,5 +1,6 @@
 -- The words of each command.
 use Rattle.std.specs.Prelude.{◌≡◌, ◌≢◌, ◌<◌, ◌^◌, ℕ, Bool, List, [], ◌∷◌, codes, decimal, length}
+use Rattle.lot_base.specs.declared.limits.TheConstants.{MOST_DOORS, MOST_SESSIONS}
 use Rattle.lot_base.specs.Goods.{IsRange}
 use Rattle.lot_base.specs.declared.auction_terms.Terms.{Terms}
 use Rattle.command_line.specs.Arguments.{AreArguments, HasFlag, IsNumberOption}
@@ -62,8 +63,8 @@ pub record IsServeWords (auction journals : List ℕ) (s : Serving) (words : Lis
   pub options : List (List ℕ)
   pub words_are : words ≡ codes "serve" ∷ behind
   pub arguments : AreArguments (codes "serve") behind (auction ∷ journals ∷ s.address ∷ []) options
-  pub doors_are : IsNumberOption (codes "--doors=") 1 64 4 s.doors options
-  pub sessions_are : IsNumberOption (codes "--sessions=") 1 10000 1 s.sessions options
+  pub doors_are : IsNumberOption (codes "--doors=") 1 MOST_DOORS 4 s.doors options
+  pub sessions_are : IsNumberOption (codes "--sessions=") 1 MOST_SESSIONS 1 s.sessions options
 
 -- `bid AUCTION VALUES BIDDER TOKEN ADDRESS [--looks N]`
 pub record IsBidWords (auction values : List ℕ) (b : Bidding) (words : List (List ℕ)) : Type 0 where

@@ -3,6 +3,7 @@ ghost use Rattle.std.specs.Prelude.{◌≡◌, ◌<◌, ◌≤◌, ◌∷◌, �
 ghost use Rattle.std.specs.List.{list_all, slice_split, AllByRecursion};
 ghost use Rattle.command_line.specs.Words.{IsPlainWord, comma_list, words_of};
 ghost use Rattle.clap.specs.Words.{first_value, found_of};
+ghost use Rattle.lot_base.specs.declared.limits.TheConstants.{MOST_UNITS};
 ghost use Rattle.lot_base.specs.Goods.{IsRange, IsSupply};
 ghost use Rattle.command_line.specs.Givens.{IsBidOf, IsMigrateOf, bid_ids, migrate_ids};
 ghost use Rattle.command_line.specs.Commands.{IsNoCommand, IsParted, Spells};
@@ -16,7 +17,10 @@ use crate::digits::read_number;
 use crate::options::{flag_of, number_of};
 use crate::positionals::{named_words, word_of};
 use clap::ArgMatches;
-use lot_base::limits::{GREATEST_CEILING, LEAST_CEILING, MOST_BIDDERS, MOST_GOODS};
+use lot_base::limits::{
+    GREATEST_CEILING, LEAST_CEILING, MOST_BIDDERS, MOST_DOORS, MOST_GOODS, MOST_SESSIONS,
+    MOST_UNITS,
+};
 use lot_base::{Goods, NoMemory, Terms};
 use std::alloc::Global;
 
@@ -287,11 +291,11 @@ fn read_serve<'a>(
     ensures none { IfOk result (λ o. IfNone o
         ((line : List (List ℕ)) → IsParted line (codes "serve") (texts words.entry.now) (texts options.now) → IsNoCommand line)) }
 {
-    let doors = match number_of(options, "--doors=", 1, 64, 4) {
+    let doors = match number_of(options, "--doors=", 1, MOST_DOORS, 4) {
         Some(doors) => doors,
         None => return Ok(None),
     };
-    let sessions = match number_of(options, "--sessions=", 1, 10_000, 1) {
+    let sessions = match number_of(options, "--sessions=", 1, MOST_SESSIONS, 1) {
         Some(sessions) => sessions,
         None => return Ok(None),
     };
@@ -442,7 +446,7 @@ fn read_goods(alloc: Global, word: &str) -> Result<Option<Goods>, NoMemory>
 /// The supplies that a word lists, joined by commas: at most six numbers from 1 to 2,047.
 fn read_supplies(alloc: Global, word: &str) -> Result<Option<Vec<u16>>, NoMemory>
     ensures some { IfOk result (λ o. IfSome o (λ v. map decimal v.items ≡ slice_split (λ b. b == 44) word.now)) }
-    ensures small { IfOk result (λ o. IfSome o (λ v. AllByRecursion (λ n. n ≤ 2047) v.items)) }
+    ensures small { IfOk result (λ o. IfSome o (λ v. AllByRecursion (λ n. n ≤ MOST_UNITS) v.items)) }
     ensures none { IfOk result (λ o. IfNone o ((supply : List ℕ) → IsSupply supply → word.now ≡ comma_list supply → ⊥)) }
 {
     let mut supplies = Vec::new(alloc);
@@ -461,17 +465,17 @@ fn read_supplies(alloc: Global, word: &str) -> Result<Option<Vec<u16>>, NoMemory
 
 /// Adds the supply that a piece of the list is, and says whether it is one and there was room for it.
 fn read_supply(supplies: &mut Vec<u16>, piece: &str) -> Result<bool, NoMemory>
-    requires { AllByRecursion (λ n. n ≤ 2047) supplies.old.items }
+    requires { AllByRecursion (λ n. n ≤ MOST_UNITS) supplies.old.items }
     ensures read { IfOk result (λ b. IsTrue b → (units : ℕ) × (piece.now ≡ decimal units)
         × (supplies.new.items ≡ supplies.old.items ++ units ∷ [])) }
-    ensures small { IfOk result (λ _. AllByRecursion (λ n. n ≤ 2047) supplies.new.items) }
+    ensures small { IfOk result (λ _. AllByRecursion (λ n. n ≤ MOST_UNITS) supplies.new.items) }
     ensures refused { IfOk result (λ b. b ≡ false → (6 ≤ length supplies.old.items)
-        ⊎ ((units : ℕ) → 1 ≤ units → units ≤ 2047 → piece.now ≡ decimal units → ⊥)) }
+        ⊎ ((units : ℕ) → 1 ≤ units → units ≤ MOST_UNITS → piece.now ≡ decimal units → ⊥)) }
 {
     if supplies.len() >= MOST_GOODS {
         return Ok(false);
     }
-    match read_number(piece, 1, 2047) {
+    match read_number(piece, 1, MOST_UNITS as u32) {
         Some(units) => {
             supplies.push(units as u16)?;
             Ok(true)

@@ -6,12 +6,12 @@ use Rattle.lot_base.specs.Economy.{NoWorse}
 use Rattle.lot_base.specs.Box.{bundle_at, index_of}
 use Rattle.exchange_check.specs.Local.{IsLocallyStrong, IsLocalPair, IsLocalAt}
 use Rattle.valuation.specs.Values.{valuation_of}
-use Rattle.valuation.specs.Strides.{stride}
+use Rattle.lot_base.specs.Strides.{stride}
 use Rattle.lot_base.proofs.Vec.{length-below, at-below, length-one_more, AtMost-one_more}
 use Rattle.exchange_check.proofs.Points.{one, one-same, one-other, at-up}
 use Rattle.exchange_check.proofs.Local.{up-up, AtMost-of_more}
 use Rattle.lot_base.proofs.Index.{box_size-above_0, index_of-bundle_at, index_of-small}
-use Rattle.valuation.proofs.Tables.{quotient, index-up}
+use Rattle.lot_base.proofs.Strides.{quotient, index-up}
 
 pub AtMost-bundle_at : (s : List ℕ) (n : ℕ) → n < box_size s → AtMost (bundle_at s n) s
 AtMost-bundle_at [] n h = tt

@@ -5,12 +5,12 @@ use Rattle.lot_base.specs.Goods.{at, one_more, one_less, box_size}
 use Rattle.lot_base.specs.Economy.{NoWorse}
 use Rattle.lot_base.specs.Box.{bundle_at, index_of}
 use Rattle.valuation.specs.Values.{valuation_of}
-use Rattle.valuation.specs.Strides.{stride}
+use Rattle.lot_base.specs.Strides.{stride}
 use Rattle.lot_base.proofs.Vec.{length-below, length-one_more, at-up_other}
 use Rattle.exchange_check.proofs.Points.{length-down}
 use Rattle.lot_base.proofs.Exchange.{moved_one, moved_two}
 use Rattle.lot_base.proofs.Index.{index_of-bundle_at, index_of-small}
-use Rattle.valuation.proofs.Tables.{index-up, index-down}
+use Rattle.lot_base.proofs.Strides.{index-up, index-down}
 use Rattle.exchange_check.proofs.AtPlace.{AtMost-bundle_at}
 
 -- where the bundles stand after a unit of k went from x to y

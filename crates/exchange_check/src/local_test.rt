@@ -4,10 +4,10 @@ ghost use Rattle.lot_base.specs.Goods.{at, one_more, AtMost, box_size, IsSupply}
 ghost use Rattle.lot_base.specs.Box.{bundle_at};
 ghost use Rattle.lot_base.specs.Economy.{IsStrongSubstitutes};
 ghost use Rattle.valuation.specs.Values.{valuation_of};
-ghost use Rattle.valuation.specs.Strides.{AreStrides};
+ghost use Rattle.lot_base.specs.Strides.{AreStrides};
 ghost use Rattle.exchange_check.specs.Local.{IsLocalThird, IsLocalPair, IsLocalAt, AreFree};
 
-use valuation::{strides, value_at};
+use valuation::value_at;
 
 /// How many units of each good the bundle at a place leaves.
 pub(crate) fn free_units(supply: &[u16], strides: &[usize; 6], index: usize) -> [u16; 6]
@@ -40,9 +40,10 @@ fn third_holds(values: &[u16], index: usize, a: usize, b: usize, c: usize) -> bo
     requires ac { index + a + c < 2048 }
     requires bc { index + b + c < 2048 }
     ensures { IsTrue result ↔
-        ((slice_index values.now (index + a + b) + slice_index values.now (index + c) ≤ slice_index values.now (index + a + c) + slice_index values.now (index + b))
-        ⊎ (slice_index values.now (index + a + b) + slice_index values.now (index + c) ≤ slice_index values.now
-        (index + b + c) + slice_index values.now (index + a))) }
+        ((slice_index values.now (index + a + b) + slice_index values.now (index + c)
+        ≤ slice_index values.now (index + a + c) + slice_index values.now (index + b))
+        ⊎ (slice_index values.now (index + a + b) + slice_index values.now (index + c)
+        ≤ slice_index values.now (index + b + c) + slice_index values.now (index + a))) }
 {
     is_no_worse(values, index + a + b, index + c, index + a + c, index + b)
         || is_no_worse(values, index + a + b, index + c, index + b + c, index + a)
@@ -159,15 +160,15 @@ fn holds_at(supply: &[u16], strides: &[usize; 6], values: &[u16], index: usize) 
 }
 
 /// Whether the goods are strong substitutes at the values of a table.
-pub(crate) fn is_strong(supply: &[u16], size: usize, values: &[u16]) -> bool
+pub(crate) fn is_strong(supply: &[u16], strides: &[usize; 6], size: usize, values: &[u16]) -> bool
     requires goods { length supply.now ≤ 6 }
+    requires strides { AreStrides supply.now strides.now }
     requires size { box_size supply.now ≡ size }
     requires few { size ≤ 2048 }
     ensures { IsTrue result ↔ IsStrongSubstitutes supply.now (valuation_of supply.now values.now) }
 {
-    let strides = strides(supply);
     for index in 0..size {
-        if !holds_at(supply, &strides, values, index) {
+        if !holds_at(supply, strides, values, index) {
             return false;
         }
     }

@@ -4,12 +4,11 @@ ghost use Rattle.lot_base.specs.Goods.{at, box_size};
 ghost use Rattle.lot_base.specs.Box.{bundle_at};
 ghost use Rattle.lot_base.specs.Economy.{IsStrongSubstitutes};
 ghost use Rattle.valuation.specs.Values.{valuation_of};
-ghost use Rattle.valuation.specs.Strides.{AreStrides};
+ghost use Rattle.lot_base.specs.Strides.{AreStrides};
 ghost use Rattle.exchange_check.specs.Exchange.{IsExchangedFor, IsExchanged};
 ghost use Rattle.exchange_check.specs.Local.{AreFree, IsFirstPlace};
 
 use crate::local_test::{free_units, is_no_worse};
-use valuation::strides;
 
 /// The places of two bundles, and a good of which no unit goes from the first to the second.
 #[derive(Clone, Copy, Debug)]
@@ -93,21 +92,26 @@ fn is_exchanged(
 }
 
 /// The first triple that is not exchanged.
-pub(crate) fn first_broken(supply: &[u16], size: u32, values: &[u16]) -> Option<Triple>
+pub(crate) fn first_broken(
+    supply: &[u16],
+    strides: &[usize; 6],
+    size: u32,
+    values: &[u16],
+) -> Option<Triple>
     requires goods { length supply.now ≤ 6 }
+    requires strides { AreStrides supply.now strides.now }
     requires size { box_size supply.now ≡ size }
     requires few { size ≤ 2048 }
     ensures some { IfSome result (λ b. IsFirstPlace supply.now (valuation_of supply.now values.now) b.x b.y b.good) }
     ensures none { IfNone result (IsStrongSubstitutes supply.now (valuation_of supply.now values.now)) }
 {
-    let strides = strides(supply);
     for x in 0..size {
-        let free_x = free_units(supply, &strides, x as usize);
+        let free_x = free_units(supply, strides, x as usize);
         for y in 0..size {
-            let free_y = free_units(supply, &strides, y as usize);
+            let free_y = free_units(supply, strides, y as usize);
             for good in 0..supply.len() {
                 if !is_exchanged(
-                    supply, &strides, values, x as usize, y as usize, &free_x, &free_y, good,
+                    supply, strides, values, x as usize, y as usize, &free_x, &free_y, good,
                 ) {
                     return Some(Triple {
                         x,

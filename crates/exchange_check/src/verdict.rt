@@ -23,11 +23,12 @@ pub fn check(goods: &Goods, valuation: &Valuation) -> Verdict
 {
     let _count = goods.count();
     let supply = goods.as_slice();
+    let strides = goods.strides();
     let values = valuation.as_slice();
-    if is_strong(supply, goods.box_size() as usize, values) {
+    if is_strong(supply, &strides, goods.box_size() as usize, values) {
         return Verdict::Holds;
     }
-    match first_broken(supply, goods.box_size(), values) {
+    match first_broken(supply, &strides, goods.box_size(), values) {
         Some(triple) => Verdict::Breaks {
             x: goods.bundle(triple.x),
             y: goods.bundle(triple.y),

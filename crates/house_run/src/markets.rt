@@ -39,7 +39,8 @@ pub(crate) fn read_market<H: Shelf>(
     auction: &str,
     values: &str,
 ) -> Result<Market, Ended>
-    ensures read { IfOk result (λ m. IsMarketAt (shelf_seen H.Shelf shelf.old shelf.new) auction.now values.now m.terms m.valuations.items) }
+    ensures read { IfOk result (λ m. IsMarketAt (shelf_seen H.Shelf shelf.old shelf.new) auction.now values.now m.terms
+        m.valuations.items) }
     ensures valuations { IfOk result (λ m. AreValuationsOf m.terms m.valuations.items) }
     ensures frame { IfOk result (λ _. (end : End) → Frame (trial_needs auction.now values.now) end (outside H.Shelf shelf.old shelf.new)) }
     ensures ends { IfErr result (LeavesSo (trial_needs auction.now values.now) (outside H.Shelf shelf.old shelf.new)) }

@@ -9,7 +9,7 @@
 --
 -- P.. are the prices of the goods and X.. the quantities of a bundle. Numbers have decimal digits without a leading zero, and
 -- one below 0 has a minus sign in front.
-use Rattle.std.specs.Prelude.{ℕ, suc, List, [], ◌∷◌, ◌++◌, length, codes, decimal, Option, Some, None}
+use Rattle.std.specs.Prelude.{ℕ, ℤ, suc, List, [], ◌∷◌, ◌++◌, length, codes, decimal, Option, Some, None}
 use Rattle.std.specs.Fmt.{signed_decimal}
 use Rattle.clock.specs.Reports.{members}
 use Rattle.settlement.specs.declared.outcome.AwardRow.{AwardRow}
@@ -28,11 +28,14 @@ abbrev pub opening_lines : Option (List ℕ) → List (List (List ℕ))
 opening_lines None = []
 opening_lines (Some opening) = (codes "opening" ∷ numerals opening) ∷ []
 
--- the line of a bidder
+-- the line of a bidder, by what it is awarded, its debit, its credit and what it pays
+abbrev pub award_words : ℕ → List ℕ → ℤ → ℤ → ℤ → List (List ℕ)
+award_words bidder award debit credit pays =
+    codes "bidder" ∷ decimal bidder ∷ codes "award" ∷ numerals award ++
+    (codes "debit" ∷ signed_decimal debit ∷ codes "credit" ∷ signed_decimal credit ∷ codes "pays" ∷ signed_decimal pays ∷ [])
+
 abbrev pub bidder_words : ℕ → AwardRow → List (List ℕ)
-bidder_words bidder row =
-    codes "bidder" ∷ decimal bidder ∷ codes "award" ∷ numerals row.award ++
-    (codes "debit" ∷ signed_decimal row.debit ∷ codes "credit" ∷ signed_decimal row.credit ∷ codes "pays" ∷ signed_decimal row.pays ∷ [])
+bidder_words bidder row = award_words bidder row.award row.debit row.credit row.pays
 
 -- the lines of bidders that are numbered from here on
 abbrev pub bidder_lines : ℕ → List AwardRow → List (List (List ℕ))

@@ -77,7 +77,8 @@ impl Numbers<'_> {
         ensures shown { IfSome result (λ (h : HeadValue). is_some h.opening ≡ shows_opening) }
         ensures back { (h : HeadValue) (prices : List ℕ) (behind : List ℤ) → IsHead h → is_some h.opening ≡ shows_opening
             → ArePricesOf h.goods prices →
-            self.old.rest.now ≡ pos h.goods ∷ pos h.bidders ∷ naturals prices ++ (opening_numbers h.opening ++ behind) → (result ≡ Some h) × (self.new.rest.now ≡ behind) }
+            self.old.rest.now ≡ pos h.goods ∷ pos h.bidders ∷ naturals prices ++ (opening_numbers h.opening ++ behind)
+            → (result ≡ Some h) × (self.new.rest.now ≡ behind) }
     {
         let goods = self.next_up_to(6)?;
         let bidders = self.next_up_to(12)?;
@@ -178,7 +179,8 @@ impl Numbers<'_> {
         ensures fit { IfOk result (λ r. IfSome r (AreChoicesOf goods count)) }
         ensures back { (clock : ℕ) (js : List ℕ) (choices : List (List ℕ)) (behind : List ℤ) → length js ≡ count
             → AreChoicesOf goods count choices →
-            self.old.rest.now ≡ choices_numbers clock js choices ++ behind → IfOk result (λ r. (r ≡ Some choices) × (self.new.rest.now ≡ behind)) }
+            self.old.rest.now ≡ choices_numbers clock js choices ++ behind
+            → IfOk result (λ r. (r ≡ Some choices) × (self.new.rest.now ≡ behind)) }
     {
         let mut bundles = Vec::new(alloc);
         for _place in 0..count {
@@ -207,7 +209,8 @@ impl Numbers<'_> {
         requires { IsRange 1 6 goods }
         ensures fit { IfSome result (λ head. ArePricesOf goods head.1) }
         ensures back { (clock steps : ℕ) (prices : List ℕ) (behind : List ℤ) → steps < 2 ^ 32 → ArePricesOf goods prices →
-            self.old.rest.now ≡ pos clock ∷ pos steps ∷ naturals prices ++ behind → (result ≡ Some (steps, prices)) × (self.new.rest.now ≡ behind) }
+            self.old.rest.now ≡ pos clock ∷ pos steps ∷ naturals prices ++ behind
+            → (result ≡ Some (steps, prices)) × (self.new.rest.now ≡ behind) }
     {
         self.next()?;
         let steps = self.next_price()?;

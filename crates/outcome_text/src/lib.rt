@@ -4,13 +4,14 @@
 mod building;
 pub mod json;
 pub mod laws;
-mod numerals;
+pub mod numerals;
 pub mod plain;
 pub mod reading;
 mod scanning;
 pub mod standing;
 
 pub use json::write_json;
-pub use plain::write_plain;
+pub use numerals::{write_amount, write_bundle, write_prices};
+pub use plain::{write_choices, write_plain, write_row};
 pub use reading::read_plain;
 pub use standing::write_standing;

@@ -1,4 +1,4 @@
-//! Numbers as words inside a line.
+//! Numbers as words inside a line, for whoever writes lines with prices, bundles and amounts in them.
 ghost use Rattle.std.specs.Prelude.{◌≡◌, ◌++◌, ◌∷◌, [], OnOk, string_bytes};
 ghost use Rattle.std.specs.Fmt.{signed_decimal};
 ghost use Rattle.outcome_text.specs.Lines.{numerals};
@@ -9,7 +9,7 @@ use std::alloc::AllocError;
 use std::fmt::Write;
 
 /// Writes each price behind a blank.
-pub(crate) fn write_prices(text: &mut String, prices: &Prices) -> Result<(), AllocError>
+pub fn write_prices(text: &mut String, prices: &Prices) -> Result<(), AllocError>
     ensures { OnOk result (string_bytes text.new ≡ string_bytes text.old ++ spaced (numerals prices.now)) }
 {
     for good in 0..prices.count() {
@@ -20,7 +20,7 @@ pub(crate) fn write_prices(text: &mut String, prices: &Prices) -> Result<(), All
 }
 
 /// Writes each quantity of a bundle behind a blank.
-pub(crate) fn write_bundle(text: &mut String, bundle: &Bundle) -> Result<(), AllocError>
+pub fn write_bundle(text: &mut String, bundle: &Bundle) -> Result<(), AllocError>
     ensures { OnOk result (string_bytes text.new ≡ string_bytes text.old ++ spaced (numerals bundle.now)) }
 {
     for good in 0..bundle.count() {
@@ -31,7 +31,7 @@ pub(crate) fn write_bundle(text: &mut String, bundle: &Bundle) -> Result<(), All
 }
 
 /// Writes the name of an amount and the amount, each behind a blank.
-pub(crate) fn write_amount(text: &mut String, name: &str, amount: i64) -> Result<(), AllocError>
+pub fn write_amount(text: &mut String, name: &str, amount: i64) -> Result<(), AllocError>
     ensures { OnOk result (string_bytes text.new ≡ string_bytes text.old ++ spaced (name.now ∷ signed_decimal amount ∷ [])) }
 {
     write!(text, " {name} {amount}")

@@ -2,7 +2,7 @@
 ghost use Rattle.std.specs.Prelude.{◌≡◌, ◌++◌, ◌∷◌, codes, IfOk, OnOk, string_bytes};
 ghost use Rattle.clock.specs.Reports.{members};
 ghost use Rattle.outcome_text.specs.Lines.{line, text_of, numerals};
-ghost use Rattle.outcome_text.specs.Plain.{plain_text, opening_lines, bidder_words, bidder_lines, choice_words, choice_lines, clock_words, clock_lines};
+ghost use Rattle.outcome_text.specs.Plain.{plain_text, opening_lines, award_words, bidder_lines, choice_words, choice_lines, clock_words, clock_lines};
 
 use crate::numerals::{write_amount, write_bundle, write_prices};
 use award_assembly::Choice;
@@ -59,20 +59,27 @@ fn write_rows(text: &mut String, rows: &[AwardRow]) -> Result<(), AllocError>
     ensures { OnOk result (string_bytes text.new ≡ string_bytes text.old ++ text_of (bidder_lines 1 rows.now)) }
 {
     for (place, row) in rows.iter().enumerate() {
-        write_row(text, place + 1, row)?;
+        write_row(text, place + 1, &row.award, row.debit, row.credit, row.pays)?;
     }
     Ok(())
 }
 
-/// Writes the line of a bidder.
-fn write_row(text: &mut String, bidder: usize, row: &AwardRow) -> Result<(), AllocError>
-    ensures { OnOk result (string_bytes text.new ≡ string_bytes text.old ++ line (bidder_words bidder row.now)) }
+/// Writes the line of a bidder: what it is awarded, its debit, its credit and what it pays.
+pub fn write_row(
+    text: &mut String,
+    bidder: usize,
+    award: &Bundle,
+    debit: i64,
+    credit: i64,
+    pays: i64,
+) -> Result<(), AllocError>
+    ensures { OnOk result (string_bytes text.new ≡ string_bytes text.old ++ line (award_words bidder award.now debit credit pays)) }
 {
     write!(text, "bidder {bidder} award")?;
-    write_bundle(text, &row.award)?;
-    write_amount(text, "debit", row.debit)?;
-    write_amount(text, "credit", row.credit)?;
-    write_amount(text, "pays", row.pays)?;
+    write_bundle(text, award)?;
+    write_amount(text, "debit", debit)?;
+    write_amount(text, "credit", credit)?;
+    write_amount(text, "pays", pays)?;
     writeln!(text)
 }
 
@@ -97,8 +104,8 @@ fn write_clock(text: &mut String, clock: usize, row: &ClockRow) -> Result<(), Al
     writeln!(text)
 }
 
-/// Writes the lines of what the members of a clock choose.
-fn write_choices(
+/// Writes the lines of what the members of a clock choose, where there are so many bidders.
+pub fn write_choices(
     text: &mut String,
     bidders: usize,
     clock: usize,

@@ -1,6 +1,6 @@
 //! A journal of payloads, each on the disk before it is acknowledged.
 ghost use Rattle.std.specs.Prelude.{◌≡◌, ℕ, ◌+◌, ◌-◌, ◌≤◌, ◌<◌, ◌↔◌, ◌++◌, List, [], ◌∷◌, length, vec_len, vec_capacity, slice_get, max, IsTrue, IfOk, OnOk, OnErr, IfErr, IfSome, None, Some};
-ghost use Rattle.house_io.specs.Disks.{is_told, told_moments, IsLater, IfDiskTells, IfDiskTold};
+ghost use Rattle.house_io.specs.Disks.{IsLater, IfDiskTells, IfDiskTold};
 ghost use Rattle.house_io.specs.Moments.{IsSettled};
 ghost use Rattle.lot_base.specs.declared.limits.TheConstants.{GREATEST_PAYLOAD, GREATEST_FILE};
 ghost use Rattle.report_journal.specs.Calls.{OnlyReads, CountsFaults, CountsReading, Appends, Writes, IsReady, Mends, MendEnds, MendLeaves, KeepsAll, Forms, FailsToForm, Attaches};
@@ -49,7 +49,7 @@ pub struct Journal<D: Disk> {
 
 impl<D: Disk> Model for Journal<D> {
     ghost use Rattle.std.specs.Prelude.{vec_capacity, IsTrue};
-    ghost use Rattle.house_io.specs.Disks.{is_told, told_moments};
+    ghost use Rattle.house_io.specs.Disks.{IfDiskTells, told_moments};
     ghost use Rattle.report_journal.specs.Journals.{JournalOf, said, in_doubt, IsWithin, IsKept, LiesAhead};
 
     ghost Value = { JournalOf D };
@@ -66,9 +66,8 @@ impl<D: Disk> Model for Journal<D> {
 
     ghost invariant = { λ j. IsWithin j.header j.places.items j.end j.spare j.buffer.items (vec_capacity j.places) (vec_capacity j.buffer)
         j.pending
-        × (IsTrue (is_told (D.shown j.disk)) → IsKept (said j.header j.places.items (told_moments (D.shown j.disk)).now.read)
-        j.places.items j.end (in_doubt j.buffer.items j.pending) (told_moments (D.shown j.disk))
-        × LiesAhead j.ahead j.buffer.items j.end (told_moments (D.shown j.disk)).now.read)
+        × IfDiskTells (D.shown j.disk) (λ moments. IsKept (said j.header j.places.items moments.now.read) j.places.items j.end
+        (in_doubt j.buffer.items j.pending) moments × LiesAhead j.ahead j.buffer.items j.end moments.now.read)
         × IsTrue (D.shown j.disk).claimed };
 }
 

@@ -63,7 +63,8 @@ impl LogReader {
         ensures are_bytes { AreBytes bytes.now }
         ensures read { (read rest piece : List ℕ) → bytes.now ≡ rest ++ piece → so_far ≡ length (read ++ piece) →
             HasRead terms.now self.old.clock.history self.old.fault read rest →
-            IfOk result (λ left. HasRead terms.now self.new.clock.history self.new.fault (read ++ piece) (drop (length bytes.now - left) bytes.now)) }
+            IfOk result (λ left. HasRead terms.now self.new.clock.history self.new.fault (read ++ piece)
+            (drop (length bytes.now - left) bytes.now)) }
     {
         match self.fault {
             Some(_) => Ok(0),

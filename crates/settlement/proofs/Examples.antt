@@ -21,7 +21,7 @@ use Rattle.settlement.proofs.Unique.{one-pays}
 use Rattle.settlement.proofs.Computed.{Stands, stands, worked, below}
 
 -- what terms of two units, so many bidders and a ceiling of 100 keep
-record Keeps (n version : ℕ) (opening : List ℕ) : Type 0 where
+pub record Keeps (n version : ℕ) (opening : List ℕ) : Type 0 where
   pub supply : IsSupply (2 ∷ [])
   pub bidders : IsRange 1 12 n
   pub ceiling : IsRange 2 10000 100
@@ -30,7 +30,7 @@ record Keeps (n version : ℕ) (opening : List ℕ) : Type 0 where
   pub first : version ≡ 1 → opening ≡ zeros (2 ∷ [])
 
 -- such terms, whatever their proofs are
-abbrev terms_of : (n version : ℕ) (opening : List ℕ) → Keeps n version opening → Terms
+abbrev pub terms_of : (n version : ℕ) (opening : List ℕ) → Keeps n version opening → Terms
 terms_of n version opening k = record {
   goods = 2 ∷ [];
   bidders = n;
@@ -177,7 +177,7 @@ third k =
     }
 
 -- what holds of all terms with these numbers holds of the terms
-at-numbers : (P : Terms → Type 0) (n version : ℕ) (opening : List ℕ) → ((k : Keeps n version opening) → P (terms_of n version opening k)) → (terms : Terms) → terms.goods ≡ 2 ∷ [] → terms.bidders ≡ n → terms.ceiling ≡ 100 → terms.version ≡ version
+pub at-numbers : (P : Terms → Type 0) (n version : ℕ) (opening : List ℕ) → ((k : Keeps n version opening) → P (terms_of n version opening k)) → (terms : Terms) → terms.goods ≡ 2 ∷ [] → terms.bidders ≡ n → terms.ceiling ≡ 100 → terms.version ≡ version
     → terms.opening ≡ opening → P terms
 at-numbers P n version opening all terms goods bidders ceiling versions opens =
     let F : List ℕ → ℕ → ℕ → ℕ → List ℕ → Type 0 = λ g k m v o. (s : IsSupply g) → (b : IsRange 1 12 k) → (c : IsRange 2 10000 m) → (r : IsRange 1 2 v) → (p : IsOpening g m o) → (f : v ≡ 1 → o ≡ zeros g)

@@ -34,7 +34,8 @@ pub fn settle(alloc: Global, terms: &Terms, clocks: &[Clock]) -> Result<Settleme
     // Where one valuation for each bidder explains all reports, an outcome is an equilibrium at the least such prices, each
     // bidder pays what Vickrey, Clarke and Groves ask, and the choices show the greatest worth without each bidder. No clock
     // is then without a choice, and none halts whose ceiling is above all values.
-    ensures efficient { IfOk result (λ s. (u : ℕ → List ℕ → ℤ) → ExplainsAll u (histories clocks.now) → IsEfficientSettlement u terms.now s) }
+    ensures efficient { IfOk result (λ s. (u : ℕ → List ℕ → ℤ) → ExplainsAll u (histories clocks.now)
+        → IsEfficientSettlement u terms.now s) }
 {
     settle_exactly(alloc, terms, clocks)
 }

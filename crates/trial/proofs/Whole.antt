@@ -51,7 +51,7 @@ explains-one u terms h bidders same trial =
       reports = history-true u h trial;
     }
 
-explains-each : (u : ℕ → List ℕ → ℤ) (terms : Terms) (clocks : List ClockHistory) → AreBidders terms u → AllByRecursion (λ (c : ClockHistory). c.terms ≡ terms) clocks → AllByRecursion (IsTrialHistory u) clocks → ExplainsAll u clocks
+pub explains-each : (u : ℕ → List ℕ → ℤ) (terms : Terms) (clocks : List ClockHistory) → AreBidders terms u → AllByRecursion (λ (c : ClockHistory). c.terms ≡ terms) clocks → AllByRecursion (IsTrialHistory u) clocks → ExplainsAll u clocks
 explains-each u terms [] bidders same trials = tt
 explains-each u terms (h ∷ clocks) bidders same trials = (explains-one u terms h bidders same.0 trials.0, explains-each u terms clocks bidders same.1 trials.1)
 

@@ -7,12 +7,10 @@ ghost use Rattle.trial.specs.Bidding.{bidders_of};
 ghost use Rattle.trial.specs.Rounds.{AreCarried, AreColumns, AreStepped, HasGone, IsLed, IsSteady, surplus_at};
 
 use clock::Clock;
+use lot_base::limits::MOST_STEPS;
 use lot_base::{GoodSet, Goods, NoMemory, Prices, Terms};
 use std::alloc::Global;
 use valuation::{Column, Surplus, Valuation, column_of};
-
-/// At most as many rounds are repeated at once.
-const MOST_REPEATED: u32 = 60_000;
 
 /// The surpluses of all bidders at these prices, in the order of their numbers.
 pub(crate) fn surpluses_at(
@@ -112,7 +110,7 @@ fn least_steady(surpluses: &[Surplus], without: u8, set: GoodSet, column: &Colum
     ensures { (place n : ℕ) → place < length surpluses.now → place + 1 ≢ without → n ≤ result
         → IsSteady set.0 n (surplus_at surpluses.now place) }
 {
-    let mut least = MOST_REPEATED;
+    let mut least = MOST_STEPS;
     for place in 0..surpluses.len() {
         if place + 1 != without as usize {
             least = least.min(surpluses[place].steady(set, column));

@@ -49,7 +49,8 @@ pub fn trial<T: Threads + Sync>(
 ) -> Result<Tried, TrialFault>
     requires valuations { AreValuationsOf terms.now valuations.now }
     requires workers { IsRange 1 64 workers }
-    ensures tried { IfOk result (λ t. IsTried terms.now (bidders_of terms.now.goods valuations.now) (histories t.clocks.items) t.settlement) }
+    ensures tried { IfOk result (λ t. IsTried terms.now (bidders_of terms.now.goods valuations.now) (histories t.clocks.items)
+        t.settlement) }
     ensures refused { IfErr result (IsRefusal terms.now (bidders_of terms.now.goods valuations.now)) }
 {
     match run_workers(rt, alloc, terms, valuations, workers) {
@@ -66,10 +67,12 @@ fn settle_all(
     run: Run,
 ) -> Result<Tried, TrialFault>
     requires valuations { AreValuationsOf terms.now valuations.now }
-    requires substitutes { AllStrongSubstitutes terms.now.goods (bidders_of terms.now.goods valuations.now) (all_bidders terms.now.bidders) }
+    requires substitutes { AllStrongSubstitutes terms.now.goods (bidders_of terms.now.goods valuations.now)
+        (all_bidders terms.now.bidders) }
     requires trial { IsTrial terms.now (bidders_of terms.now.goods valuations.now) (histories run.clocks.items) }
     requires rows { AllZip IsFoundOf (histories run.clocks.items) run.rows.items }
-    ensures tried { IfOk result (λ t. IsTried terms.now (bidders_of terms.now.goods valuations.now) (histories t.clocks.items) t.settlement) }
+    ensures tried { IfOk result (λ t. IsTried terms.now (bidders_of terms.now.goods valuations.now) (histories t.clocks.items)
+        t.settlement) }
     ensures refused { IfErr result (λ fault. fault ≡ TrialFault.NoMemory) }
 {
     let Run { clocks, rows } = run;

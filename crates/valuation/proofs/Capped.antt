@@ -12,9 +12,9 @@ use Rattle.lot_base.proofs.Vec.{AtMost-one_less, within_from_at}
 use Rattle.valuation.specs.Capping.{IsBestLess, AreBefore}
 use Rattle.valuation.specs.Carried.{AreCosts}
 use Rattle.valuation.specs.Forms.{total, capped_value}
-use Rattle.valuation.specs.Strides.{stride, AreStrides}
+use Rattle.lot_base.specs.Strides.{stride, AreStrides}
 use Rattle.valuation.proofs.Mapped.{map-at}
-use Rattle.valuation.proofs.Tables.{index-down, stride_positive}
+use Rattle.lot_base.proofs.Strides.{index-down, stride_positive}
 
 same : (x : List ℕ) → AtMost x x
 same [] = tt

@@ -7,6 +7,5 @@ pub mod Mapped
 pub mod Marginal
 pub mod Spread
 pub mod Steady
-pub mod Tables
 pub mod Trees
 pub mod Turns

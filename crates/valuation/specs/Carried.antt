@@ -1,6 +1,7 @@
 -- Surpluses that are carried along while prices rise: the surplus of each bundle of a box, in order of index. Each is kept 2^60
 -- above, so that none is below 0.
 use Rattle.std.specs.Prelude.{◌≡◌, ◌<◌, ◌≤◌, ◌+◌, ◌*◌, ◌/◌, ◌%◌, ◌^◌, ℕ, zero, suc, List, length, slice_index, ℤ, pos, ◌+ℤ◌}
+use Rattle.lot_base.specs.declared.limits.TheConstants.{MOST_UNITS}
 use Rattle.lot_base.specs.Goods.{box_size, quantity_in, raised, cost, AtMost}
 use Rattle.lot_base.specs.Box.{bundle_at, index_of}
 use Rattle.lot_base.specs.Economy.{surplus}
@@ -38,7 +39,7 @@ pub record IsSpread (units price : ℕ) (old new : List ℕ) : Type 0 where
 pub record IsColumn (supply : List ℕ) (set : ℕ) (units : List ℕ) : Type 0 where
   pub whole : length units ≡ box_size supply
   pub each : (i : ℕ) → i < box_size supply → slice_index units i ≡ quantity_in (bundle_at supply i) set
-  pub small : (i : ℕ) → slice_index units i ≤ 2047
+  pub small : (i : ℕ) → slice_index units i ≤ MOST_UNITS
 
 -- each value less its cost, kept 2^60 above
 pub record IsLifted (values costs worth : List ℕ) : Type 0 where

@@ -2,7 +2,6 @@ pub mod Capping
 pub mod Carried
 pub mod Forms
 pub mod Seen
-pub mod Strides
 pub mod Tree
 pub mod Values
 pub mod ValuesFile

@@ -1,5 +1,6 @@
 -- A bidder's valuation as a list: a value for each bundle of the box, in order of index.
 use Rattle.std.specs.Prelude.{◌≡◌, ◌≤◌, ◌<◌, ℕ, List, length, slice_index, ℤ, pos}
+use Rattle.lot_base.specs.declared.limits.TheConstants.{GREATEST_CEILING}
 use Rattle.lot_base.specs.Goods.{box_size}
 use Rattle.lot_base.specs.Box.{index_of}
 
@@ -12,7 +13,7 @@ pub record AreValues (values : List ℕ) : Type 0 where
   pub some : 1 ≤ length values
   pub few : length values ≤ 2048
   pub empty : slice_index values 0 ≡ 0
-  pub below : (place : ℕ) → slice_index values place < 10000
+  pub below : (place : ℕ) → slice_index values place < GREATEST_CEILING
 
 -- values of all bundles of the box, each below the ceiling
 pub record IsTable (supply : List ℕ) (ceiling : ℕ) (values : List ℕ) : Type 0 where

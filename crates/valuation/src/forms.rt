@@ -8,7 +8,6 @@ ghost use Rattle.valuation.specs.Capping.{IsBestLess, AreBefore};
 
 use crate::costs::costs_at;
 use crate::faults::ValuesFault;
-use crate::layout::strides;
 use lot_base::Goods;
 use std::alloc::{AllocError, Global};
 
@@ -118,8 +117,7 @@ pub(crate) fn capped_values(
     ensures { GivesIfRoom (λ v. v.items) result (Ok (map (capped_value values.now cap) (box goods.now))) }
 {
     let costs = costs_at(alloc, goods, values)?;
-    let _count = goods.count();
-    let steps = strides(goods.as_slice());
+    let steps = goods.strides();
     let mut worth = Vec::with_capacity(alloc, costs.len())?;
     for index in 0..goods.box_size() {
         let x = goods.bundle(index);

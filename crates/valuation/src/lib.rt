@@ -6,7 +6,6 @@ mod costs;
 mod document;
 pub mod faults;
 mod forms;
-pub mod layout;
 mod making;
 mod numbers;
 pub mod reader;
@@ -15,7 +14,6 @@ pub mod values;
 
 pub use columns::{Column, column_of};
 pub use faults::{ValueKey, ValuesFault};
-pub use layout::strides;
 pub use reader::{MOST_BYTES, read};
 pub use surpluses::Surplus;
 pub use toml_tree::KeyText;

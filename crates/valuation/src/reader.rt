@@ -2,6 +2,7 @@
 ghost use Rattle.std.specs.Prelude.{◌≡◌, ◌≢◌, ◌<◌, ◌≤◌, ℕ, length, map, position, nat_le, slice_index, Ok, Err, IfOk, IfErr, IfSome};
 ghost use Rattle.std.specs.List.{AllByRecursion};
 ghost use Rattle.toml.specs.View.{view, table_view};
+ghost use Rattle.lot_base.specs.declared.limits.TheConstants.{GREATEST_CEILING};
 ghost use Rattle.lot_base.specs.Goods.{box_size, IsSupply};
 ghost use Rattle.valuation.specs.Tree.{each_from};
 ghost use Rattle.valuation.specs.ValuesFile.{document_of, table_form, marginal_form, unit_form, capped_form, in_form, below, valuation_at, values_of};
@@ -13,13 +14,14 @@ use crate::faults::{ValueKey, ValuesFault};
 use crate::forms::{capped_values, marginal_values, unit_values};
 use crate::numbers::{cap_at, lists_at, values_at};
 use crate::values::Valuation;
+use lot_base::limits::GREATEST_VALUES;
 use lot_base::{Goods, Terms};
 use std::alloc::{AllocError, Global};
 use toml::{Table, Value};
 use toml_tree::tree_of;
 
 /// The most bytes of a valuation file.
-pub const MOST_BYTES: usize = 1_048_576;
+pub const MOST_BYTES: usize = GREATEST_VALUES as usize;
 
 /// The tree of the document.
 #[tactic(auto, unfolding(crate::specs::ValuesFile::document_of))]
@@ -151,7 +153,7 @@ fn first_above(values: &[u64], ceiling: u32) -> Option<usize>
 
 /// The same numbers in fewer bits.
 pub(crate) fn narrowed(alloc: Global, values: &[u64]) -> Result<Vec<u16>, AllocError>
-    requires { (place : ℕ) → slice_index values.now place < 10000 }
+    requires { (place : ℕ) → slice_index values.now place < GREATEST_CEILING }
     ensures { IfOk result (λ v. v.items ≡ values.now) }
 {
     let mut narrow = Vec::with_capacity(alloc, values.len())?;
@@ -172,7 +174,7 @@ fn limited(
     requires few { length values.now ≤ 2048 }
     requires empty { slice_index values.now 0 ≡ 0 }
     requires ceiling { 1 ≤ ceiling }
-    requires low { ceiling ≤ 10000 }
+    requires low { ceiling ≤ GREATEST_CEILING }
     ensures { GivesIfRoom (λ v. v) result (below bidder (position (λ value. nat_le ceiling value) values.now) values.now) }
 {
     match first_above(values, ceiling) {
@@ -197,7 +199,7 @@ fn valuation_at(
     element: &Value,
 ) -> Result<Valuation, ValuesFault>
     requires ceiling { 1 ≤ ceiling }
-    requires low { ceiling ≤ 10000 }
+    requires low { ceiling ≤ GREATEST_CEILING }
     ensures { GivesIfRoom (λ v. v) result (valuation_at ceiling bidder goods.now (view element.now)) }
 {
     let _count = goods.count();
@@ -217,7 +219,7 @@ fn each_bidder(
 ) -> Result<Vec<Valuation>, ValuesFault>
     requires few { length elements.now ≤ 12 }
     requires ceiling { 1 ≤ ceiling }
-    requires low { ceiling ≤ 10000 }
+    requires low { ceiling ≤ GREATEST_CEILING }
     ensures { GivesIfRoom (λ v. v.items) result (each_from (λ bidder v. valuation_at ceiling bidder goods.now (view v)) 1 elements.now) }
 {
     let mut valuations = Vec::new(alloc);
@@ -239,7 +241,7 @@ fn values_in(
 ) -> Result<Vec<Valuation>, ValuesFault>
     requires few { bidders ≤ 12 }
     requires ceiling { 1 ≤ ceiling }
-    requires low { ceiling ≤ 10000 }
+    requires low { ceiling ≤ GREATEST_CEILING }
     ensures { GivesIfRoom (λ v. v.items) result (values_of goods.now bidders ceiling bytes.now) }
 {
     let file = document_of(alloc, bytes)?;

@@ -1,26 +1,24 @@
 //! Surpluses at the present prices.
-ghost use Rattle.std.specs.Prelude.{◌≡◌, ◌<◌, ◌≤◌, ◌+◌, ◌*◌, ◌==◌, ◌^◌, ℕ, ℤ, List, length, slice_index, filter, IfOk, OnOk, ◌++◌, [], ◌∷◌, if◌then◌else◌};
+ghost use Rattle.std.specs.Prelude.{◌≡◌, ◌<◌, ◌≤◌, ◌+◌, ◌*◌, ◌==◌, ◌^◌, ℕ, ℤ, List, length, slice_index, filter, position, option_map, unwrap_or, IfOk, IfSome, OnOk, ◌++◌, [], ◌∷◌, if◌then◌else◌};
 ghost use Rattle.std.specs.List.{concat};
+ghost use Rattle.lot_base.specs.declared.limits.TheConstants.{MOST_STEPS, MOST_UNITS};
 ghost use Rattle.lot_base.specs.Goods.{box_size};
 ghost use Rattle.lot_base.specs.Box.{box, index_of, bundle_at};
 ghost use Rattle.lot_base.specs.Economy.{demand};
 ghost use Rattle.valuation.specs.Values.{valuation_of};
 ghost use Rattle.valuation.specs.Carried.{Carries, CarriesAt, AllAbove, IsColumn, IsLifted, IsPaid, IsGreatest, IsSteadyAt, StaysApart, raised_by};
-ghost use Rattle.valuation.specs.declared.surpluses.TheConstants.{MOST_STEADY};
 
 use crate::columns::Column;
 use crate::costs::costs_at;
 use crate::values::{Valuation, value_at};
 use demand_set::Demand;
+use lot_base::limits::MOST_STEPS;
 use lot_base::{GoodSet, Goods, NoMemory, Prices};
 use std::alloc::Global;
 use std::marker::Model;
 
 /// How far above itself each surplus is kept, so that none is ever below 0.
 const LIFT: u64 = 1 << 60;
-
-/// For how many steps at most a demand is said to stay the same.
-const MOST_STEADY: u32 = 60_000;
 
 /// What each bundle of a box is worth to a bidder beyond its cost at the present prices.
 #[derive(Debug, Drop)]
@@ -35,6 +33,7 @@ pub struct Surplus {
 
 impl Model for Surplus {
     ghost use Rattle.std.specs.Prelude.{◌≡◌, ◌+◌, ◌*◌, ◌^◌, length};
+    ghost use Rattle.lot_base.specs.declared.limits.TheConstants.{MOST_UNITS};
     ghost use Rattle.lot_base.specs.Goods.{box_size, IsSupply};
     ghost use Rattle.valuation.specs.Carried.{Carried, AllAbove};
 
@@ -43,7 +42,7 @@ impl Model for Surplus {
     ghost view = { λ s. record { supply = s.goods; steps = s.steps; worth = s.worth.items } };
 
     ghost invariant = { λ s. IsSupply s.goods × (length s.worth.items ≡ box_size s.goods)
-        × AllAbove (2 ^ 50 + s.steps * 2047) s.worth.items };
+        × AllAbove (2 ^ 50 + s.steps * MOST_UNITS) s.worth.items };
 }
 
 impl Surplus {
@@ -197,10 +196,10 @@ fn keep(found: &mut Vec<u16>, goods: &Goods, place: u32, is_best: bool) -> Resul
 fn pay(worth: &mut [u64], units: &[u16], times: u32, steps: u32)
     requires long { length units.now ≡ length worth.old }
     requires few { steps + times < 2 ^ 32 }
-    requires small { (i : ℕ) → slice_index units.now i ≤ 2047 }
-    requires above { AllAbove (2 ^ 50 + steps * 2047) worth.old }
+    requires small { (i : ℕ) → slice_index units.now i ≤ MOST_UNITS }
+    requires above { AllAbove (2 ^ 50 + steps * MOST_UNITS) worth.old }
     ensures paid { IsPaid times units.now worth.old worth.new }
-    ensures above { AllAbove (2 ^ 50 + (steps + times) * 2047) worth.new }
+    ensures above { AllAbove (2 ^ 50 + (steps + times) * MOST_UNITS) worth.new }
 {
     for place in 0..worth.len() {
         worth[place] -= u64::from(times) * u64::from(units[place]);
@@ -219,29 +218,36 @@ fn steady_for(goods: &Goods, set: GoodSet, worth: &[u64], units: &[u16]) -> u32
     lasts(worth, units, best, least)
 }
 
-/// The units of the first bundle whose surplus is the greatest.
+/// The units of the first bundle of this surplus, 0 where there is none.
 fn units_of_best(worth: &[u64], units: &[u16], best: u64) -> u64
     requires long { length units.now ≡ length worth.now }
-    requires small { (i : ℕ) → slice_index units.now i ≤ 2047 }
-    ensures { result ≤ 2047 }
+    requires small { (i : ℕ) → slice_index units.now i ≤ MOST_UNITS }
+    ensures first { result ≡ unwrap_or (option_map (λ place. slice_index units.now place) (position (λ value. value == best) worth.now)) 0 }
+    ensures few { result ≤ MOST_UNITS }
 {
-    for place in 0..worth.len() {
-        if worth[place] == best {
-            return u64::from(units[place]);
-        }
+    match first_of(worth, best) {
+        Some(place) => u64::from(units[place]),
+        None => 0,
     }
-    0
+}
+
+/// The first place of a surplus.
+fn first_of(worth: &[u64], best: u64) -> Option<usize>
+    ensures value { result ≡ position (λ value. value == best) worth.now }
+    ensures within { IfSome result (λ place. place < length worth.now) }
+{
+    worth.iter().position(|value| *value == best)
 }
 
 /// For how many steps no bundle joins the best, of so many units each, and none of them leaves.
 fn lasts(worth: &[u64], units: &[u16], best: u64, least: u64) -> u32
     requires long { length units.now ≡ length worth.now }
-    requires small { (i : ℕ) → slice_index units.now i ≤ 2047 }
-    requires few { least ≤ 2047 }
+    requires small { (i : ℕ) → slice_index units.now i ≤ MOST_UNITS }
+    requires few { least ≤ MOST_UNITS }
     requires bound { (i : ℕ) → i < length worth.now → slice_index worth.now i ≤ best }
     ensures { (i n : ℕ) → i < length worth.now → n ≤ result → IsSteadyAt best least n (slice_index worth.now i) (slice_index units.now i) }
 {
-    let mut limit = MOST_STEADY;
+    let mut limit = MOST_STEPS;
     for place in 0..worth.len() {
         limit = lasts_at(limit, best - worth[place], u64::from(units[place]), least);
     }
@@ -250,9 +256,9 @@ fn lasts(worth: &[u64], units: &[u16], best: u64, least: u64) -> u32
 
 /// For how many of so many steps a bundle stays as far from the best.
 fn lasts_at(limit: u32, gap: u64, units: u64, least: u64) -> u32
-    requires limit { limit ≤ MOST_STEADY }
-    requires units { units ≤ 2047 }
-    requires least { least ≤ 2047 }
+    requires limit { limit ≤ MOST_STEPS }
+    requires units { units ≤ MOST_UNITS }
+    requires least { least ≤ MOST_UNITS }
     ensures fewer { result ≤ limit }
     ensures steady { (n : ℕ) → n ≤ result → StaysApart gap units least n }
 {

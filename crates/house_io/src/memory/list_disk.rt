@@ -159,7 +159,8 @@ impl Disk for ListDisk {
         ensures claimed { self.new.claimed ≡ self.old.claimed }
         ensures whole { OnOk result (Takes (room_for at (length from.now) (length self.old.file.bytes.items)) self.old.file self.new.file) }
         ensures part { OnErr result (Takes 0 self.old.file self.new.file) }
-        ensures written { OnOk result (IsTrue self.new.file.told → moments_of self.new.file ≡ wrote at from.now (moments_of self.old.file)) }
+        ensures written { OnOk result (IsTrue self.new.file.told
+            → moments_of self.new.file ≡ wrote at from.now (moments_of self.old.file)) }
         ensures torn { OnErr result (IsTrue self.new.file.told
             → moments_of self.new.file ≡ tore at (length from.now) (moments_of self.old.file)) }
     {

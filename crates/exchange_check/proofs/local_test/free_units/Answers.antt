@@ -4,8 +4,8 @@ use Rattle.std.proofs.lemmas.Bool.{cases_eq}
 use Rattle.exchange_check.proofs.local_test.free_units.Goals as goal
 use Rattle.lot_base.specs.Goods.{at}
 use Rattle.lot_base.specs.Box.{bundle_at}
-use Rattle.valuation.specs.Strides.{stride}
-use Rattle.valuation.proofs.Tables.{stride_positive, place_first, place_most, place_next, place_rest}
+use Rattle.lot_base.specs.Strides.{stride}
+use Rattle.lot_base.proofs.Strides.{stride_positive, place_first, place_most, place_next, place_rest}
 
 pub nonzero_div-free : goal.nonzero_div-free
 nonzero_div-free c =

@@ -3,7 +3,6 @@ use Rattle.std.specs.Prelude.{Ok}
 use Rattle.lot_base.specs.Goods.{box_size}
 use Rattle.valuation.specs.Carried.{AreCosts}
 use Rattle.valuation.specs.Forms.{capped_value}
-use Rattle.valuation.specs.Strides.{AreStrides}
 use Rattle.valuation.proofs.Capped.{before-steps, capped-next}
 use Rattle.valuation.proofs.Mapped.{map-next, map-all, map-length}
 use Rattle.valuation.proofs.forms.capped_values.Goals as goal
@@ -11,9 +10,8 @@ use Rattle.valuation.proofs.forms.capped_values.Goals as goal
 pub capped_at-value-requires-clause-before : goal.capped_at-value-requires-clause-before
 capped_at-value-requires-clause-before c =
     let s = c.args.goods.now in
-    let P : List ℕ → Type 0 = λ z. AreStrides z c.strides-steps.result in
-    let strides = subst P c.as_slice.ensures c.strides-steps.ensures in
-    before-steps s c.strides-steps.result c.as_slice-in-loop-index.result.now c.loop-index.index (c.as_slice-in-loop-index.ensures.value ∙ c.bundle-x.ensures.digits)
+    let strides = c.strides-steps.ensures in
+    before-steps s c.strides-steps.result c.as_slice.result.now c.loop-index.index (c.as_slice.ensures.value ∙ c.bundle-x.ensures.digits)
     (let b = c.box_size-index-end.ensures in let t = c.loop-index-test.true in omega (arith, b, t)) strides
 
 pub capped_at-value-requires-clause-worth : goal.capped_at-value-requires-clause-worth
@@ -27,12 +25,11 @@ loop-index-preserved c =
     let v = c.args.values.now in
     let i = c.loop-index.index in
     let inside : i < box_size s = (let b = c.box_size-index-end.ensures in let t = c.loop-index-test.true in omega (arith, b, t)) in
-    let P : List ℕ → Type 0 = λ z. AreStrides z c.strides-steps.result in
-    let strides = subst P c.as_slice.ensures c.strides-steps.ensures in
+    let strides = c.strides-steps.ensures in
     let Q : List ℕ → Type 0 = λ z. AreCosts s v z in
     let priced = subst Q (sym c.deref.ensures.value) c.in_ok-costs.ensures in
-    let is = capped-next s c.strides-steps.result v c.deref.result.now c.deref-in-loop-index.result.now c.as_slice-in-loop-index.result.now i c.args.cap c.capped_at-value.result
-    (c.as_slice-in-loop-index.ensures.value ∙ c.bundle-x.ensures.digits) inside strides priced (c.deref-in-loop-index.ensures.value ∙ c.loop-index.invariant) c.capped_at-value.ensures.all c.capped_at-value.ensures.less in
+    let is = capped-next s c.strides-steps.result v c.deref.result.now c.deref-in-loop-index.result.now c.as_slice.result.now i c.args.cap c.capped_at-value.result
+    (c.as_slice.ensures.value ∙ c.bundle-x.ensures.digits) inside strides priced (c.deref-in-loop-index.ensures.value ∙ c.loop-index.invariant) c.capped_at-value.ensures.all c.capped_at-value.ensures.less in
     map-next (capped_value v c.args.cap) s i c.capped_at-value.result c.loop-index.worth.items c.push.new.self.items c.bundle-x.result c.bundle-x.ensures.place
     (is ∙ ap (capped_value v c.args.cap) (sym c.bundle-x.ensures.digits)) c.loop-index.invariant c.in_ok-push.ensures.items
 
