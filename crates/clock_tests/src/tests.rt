@@ -112,6 +112,8 @@ enum Step<'a> {
     Counts(u32),
     /// The report of this number is of this bidder in this round, and demands these quantities.
     Told(u32, u8, u32, &'a [u16]),
+    /// The report of this number demands what its bidder's report before it did, or does not.
+    Again(u32, bool),
     /// The demand of this bidder in the round.
     Last(u8, Option<&'a [u16]>),
     /// The prices of this round.
@@ -163,6 +165,21 @@ fn told(alloc: Global, clock: &Clock, number: u32) -> Option<Report> {
     clock.report(alloc, number).ok()
 }
 
+/// Whose report has this number, without unpacking it.
+fn whose(clock: &Clock, number: u32) -> Option<u8> {
+    if number < 1 || number > clock.count() {
+        return None;
+    }
+    Some(clock.bidder(number))
+}
+
+fn is_again(clock: &Clock, number: u32) -> Option<bool> {
+    if number < 1 || number > clock.count() {
+        return None;
+    }
+    Some(clock.is_repeat(number))
+}
+
 fn is_demand(demand: &Demand, quantities: &[u16]) -> bool {
     demand.quantities() == quantities
 }
@@ -191,6 +208,15 @@ fn are_prices_at(clock: &Clock, round: u32, prices: &[u32]) -> bool {
     are_prices(&clock.prices_at(round), prices)
 }
 
+/// Whether these are the prices of a round by those of the round before, where there is one.
+fn follow(clock: &Clock, round: u32, prices: &[u32]) -> bool {
+    if round < 2 || round > clock.look().round {
+        return true;
+    }
+    let before = clock.prices_at(round - 1);
+    are_prices(&clock.next_prices(round - 1, &before), prices)
+}
+
 /// Whether a step goes as it says.
 fn goes(auction: &mut Auction, step: &Step) -> bool {
     match *step {
@@ -212,10 +238,14 @@ fn shows(alloc: Global, clock: &Clock, step: &Step) -> bool {
         Step::Numbered(number) => number_of(clock) == number,
         Step::Counts(count) => count_of(clock) == count,
         Step::Told(number, bidder, round, quantities) => {
-            is_report(told(alloc, clock, number), bidder, round, quantities)
+            whose(clock, number) == Some(bidder)
+                && is_report(told(alloc, clock, number), bidder, round, quantities)
         }
+        Step::Again(number, again) => is_again(clock, number) == Some(again),
         Step::Last(bidder, quantities) => is_last(clock, bidder, quantities),
-        Step::Priced(round, prices) => are_prices_at(clock, round, prices),
+        Step::Priced(round, prices) => {
+            are_prices_at(clock, round, prices) && follow(clock, round, prices)
+        }
         _ => false,
     }
 }
@@ -362,6 +392,41 @@ const TIED: &[Step] = &[
 fn of_sets_that_tie_the_smallest_number_rises(rt: HostRuntime) {
     let auction = auction_of(rt.alloc(), &[1, 1, 1], 4, 10, 0);
     assert_eq!(rt; first_other(auction, TIED), None);
+}
+
+// Each is told by the latest report of its bidder, and not by the first, nor by the number of bundles.
+const TOLD_AGAIN: &[Step] = &[
+    Step::Reported(1, 1, &[2], Judgement::Take),
+    Step::Reported(2, 1, &[2], Judgement::Take),
+    Step::Reported(1, 2, &[1], Judgement::Take),
+    Step::Reported(2, 2, &[2], Judgement::Take),
+    Step::Reported(1, 3, &[2], Judgement::Take),
+    Step::Reported(2, 3, &[2], Judgement::Take),
+    Step::Reported(1, 4, &[1, 2], Judgement::Take),
+    Step::Reported(2, 4, &[2], Judgement::Take),
+    Step::Reported(2, 5, &[1, 2], Judgement::Take),
+    Step::Reported(1, 5, &[1, 2], Judgement::Take),
+    Step::Stands(5, Phase::Ended, 0, &[4]),
+    Step::Again(1, false),
+    Step::Again(2, false),
+    Step::Again(3, false),
+    Step::Again(4, true),
+    Step::Again(5, false),
+    Step::Again(6, true),
+    Step::Again(7, false),
+    Step::Again(8, true),
+    Step::Again(9, false),
+    Step::Again(10, true),
+    Step::Told(9, 2, 5, &[1, 2]),
+    Step::Told(10, 1, 5, &[1, 2]),
+    Step::Priced(2, &[1]),
+    Step::Priced(5, &[4]),
+];
+
+#[test]
+fn a_report_tells_its_bidder_and_whether_it_repeats(rt: HostRuntime) {
+    let auction = auction_of(rt.alloc(), &[2], 2, 10, 0);
+    assert_eq!(rt; first_other(auction, TOLD_AGAIN), None);
 }
 
 const TO_THE_CEILING: &[Step] = &[
