@@ -7,7 +7,8 @@ PROGRAM is the built house_main. For each row, and for each number up to the cou
 own with the call of that number failing. Where an allocation fails, the answer is status 1 and nothing, or the row's own; where another
 call does, it is the line of the status by the call that failed, or the row's own. Then the row is run once more in the same folder with
 nothing failing, and gives its own answer. In `serve` each report that was acknowledged has to be in its journal just once. A line
-is printed for each row and kind; the script ends with status 1 where an answer was another one.
+is printed for each row and kind; the script ends with status 1 where an answer was another one, or where no call was seen, as of a program whose
+allocator does not ask the C library.
 """
 import collections
 import shutil
@@ -134,6 +135,9 @@ def judge(program, shim, row, kind):
         own = run(program, shim, words, folder, kind)
     if own.status != 0:
         return None
+    if own.calls == 0:
+        print(f"{row}, {kind}: no call was seen", flush=True)
+        return 1
     seen = collections.Counter()
     wrong = []
     for number in range(1, own.calls + 1):

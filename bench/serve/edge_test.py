@@ -25,6 +25,8 @@ PORT = 27_341
 UNITS = 2_000
 NOBODY = 65_534
 DISK_FAULT, NET_FAULT = 6, 7
+# How many seconds a house may take to open, or to end by itself.
+PATIENCE = 60.0
 SHIM = Path(__file__).resolve().parent / "dropped_pages.c"
 
 # How many bundles a report of some bytes has, and one of 3 KB.
@@ -69,16 +71,16 @@ def end(house):
 def two_houses(program, folder):
     """The second of two houses ends at once, and the first goes on; once it was killed the next one starts."""
     first = serve(program, folder)
-    session = Session(PORT, 1, wait=5.0)
+    session = Session(PORT, 1, wait=PATIENCE)
     kinds = [report(session, 0, 1, SHORT)[0]]
     before = journal(folder / "journals", 0).read_bytes()
     second = serve(program, folder, PORT + 1)
-    text, said = second.communicate(timeout=10)
+    text, said = second.communicate(timeout=PATIENCE)
     same = journal(folder / "journals", 0).read_bytes() == before
     kinds.append(report(session, 2, 1, SHORT)[0])
     end(first)
     next_one = serve(program, folder)
-    session = Session(PORT, 1, wait=5.0)
+    session = Session(PORT, 1, wait=PATIENCE)
     kinds.append(report(session, 0, 1, SHORT)[0])
     end(next_one)
     print(f"two houses: the second {second.returncode} {text.strip()!r} {said.strip()!r}, answers of the first and the next {kinds}, journal the same {same}")
@@ -96,10 +98,10 @@ def is_reached(host):
 def addresses(program, folder, other):
     """A house is reached where it was told to listen and nowhere else, and says that it is open; a second one there ends, and says why."""
     first = serve(program, folder)
-    Session(PORT, 1, wait=5.0)
+    Session(PORT, 1, wait=PATIENCE)
     elsewhere = is_reached("127.0.0.2")
     second = serve(program, other)
-    text, why = second.communicate(timeout=10)
+    text, why = second.communicate(timeout=PATIENCE)
     first.kill()
     _, said = first.communicate()
     print(f"addresses: reached elsewhere {elsewhere}, the first said {said.strip()!r}, the second {second.returncode} {text.strip()!r} {why.strip()!r}")
@@ -109,7 +111,7 @@ def addresses(program, folder, other):
 
 def bid(bidder, stop):
     clocks = [clock for clock in range(BIDDERS + 1) if clock != bidder]
-    session = Session(PORT, bidder, wait=5.0)
+    session = Session(PORT, bidder, wait=PATIENCE)
     while not stop.is_set():
         for clock in clocks:
             report(session, clock, session.round_of(clock), LONG)
@@ -160,7 +162,7 @@ def failed_sync(program, folder, shim, bundles, before):
     """A sync of a journal fails once, the house goes on, and the file system is mounted anew: each acknowledged report is on the disk."""
     when = folder / "when"
     house = serve(program, folder, LD_PRELOAD=str(shim), DROP_WHEN=str(when))
-    sessions = {bidder: Session(PORT, bidder, wait=5.0) for bidder in range(1, BIDDERS + 1)}
+    sessions = {bidder: Session(PORT, bidder, wait=PATIENCE) for bidder in range(1, BIDDERS + 1)}
     acknowledged, faults, number = [], 0, 1
 
     def send(bidder):
@@ -192,7 +194,7 @@ def names(folder):
 def without_rights(program, folder):
     """Who may not write reads journals and an empty folder, and leaves no file."""
     house = serve(program, folder)
-    session = Session(PORT, 1, wait=5.0)
+    session = Session(PORT, 1, wait=PATIENCE)
     report(session, 0, 1, SHORT)
     end(house)
     (folder / "none").mkdir()

@@ -5,7 +5,7 @@ Again has to be in its clock's journal just once, and no report may be there tha
     kill_test.py PROGRAM [--kills N] [--clocks N] [--faults]
 
 PROGRAM is the built house_main. The bidders report to the first so many of the thirteen clocks. With --faults one call on a file fails in each life of
-the house, behind the opening; gcc has to be there. It ends with status 1 where a report was lost or doubled.
+the house, behind the opening; gcc has to be there. It ends with status 1 where a report was lost or doubled, or none came.
 """
 import argparse
 import multiprocessing
@@ -41,6 +41,15 @@ def start(program, folder, faults=False):
     words = [program, "serve", "auction.toml", "journals", f"127.0.0.1:{PORT}", "--doors", str(BIDDERS), "--sessions", "10000"]
     more = with_fault(folder) if faults else {}
     return subprocess.Popen(words, cwd=folder, stdout=subprocess.DEVNULL, env={**os.environ, **more})
+
+
+def await_doors(house):
+    """Waits until the house listens or has ended: one that is killed before has taken no report."""
+    port = f":{PORT:04X} "
+    while house.poll() is None:
+        if any(port in line and line.split()[3] == "0A" for line in Path("/proc/net/tcp").read_text().splitlines()[1:]):
+            return
+        time.sleep(0.001)
 
 
 def bid(bidder, folder, most, stop):
@@ -82,7 +91,7 @@ def judge(folder):
             unsent += len(rounds - {number for c, number in noted(folder / f"sent-{bidder}") if c == clock})
     failed = sum(len(noted(folder / f"refused-{bidder}")) for bidder in range(1, BIDDERS + 1))
     print(f"reports {total} lost {lost} doubled {doubled} unsent {unsent}, answered by a fault of the disk {failed}")
-    return lost + doubled + unsent == 0
+    return total > 0 and lost + doubled + unsent == 0
 
 
 def main():
@@ -105,6 +114,7 @@ def main():
             process.start()
         for _ in range(given.kills):
             house = start(program, folder, given.faults)
+            await_doors(house)
             time.sleep(random.uniform(0.05, 0.4))
             assert house.poll() is None, "the house ended by itself"
             house.kill()
