@@ -158,8 +158,9 @@ def looks(program, fresh, count, of_copies):
     return refused == back == 0 and least > 1
 
 
-def failed_sync(program, folder, shim, bundles, before):
-    """A sync of a journal fails once, the house goes on, and the file system is mounted anew: each acknowledged report is on the disk."""
+def failed_sync(program, folder, shim, bundles, before, goes_on):
+    """A sync of a journal fails once, the house goes on, or is killed behind the report's acknowledgement, and the file system is mounted anew: each
+    acknowledged report is on the disk."""
     when = folder / "when"
     house = serve(program, folder, LD_PRELOAD=str(shim), DROP_WHEN=str(when))
     sessions = {bidder: Session(PORT, bidder, wait=PATIENCE) for bidder in range(1, BIDDERS + 1)}
@@ -173,17 +174,18 @@ def failed_sync(program, folder, shim, bundles, before):
         assert kind == REFUSED and answer[0] == DISK_FAILED, (kind, answer)
         return False
 
-    for number in (1, 2, 3, 4):
-        for bidder in range(1, BIDDERS + 1):
-            if (number, bidder) == (3, 6):
-                when.write_text(str(before))
-            while not send(bidder):
-                faults += 1
+    turns = [(number, bidder) for number in (1, 2, 3, 4) for bidder in range(1, BIDDERS + 1)]
+    failing = turns.index((3, 6))
+    for place, (number, bidder) in enumerate(turns if goes_on else turns[: failing + 1]):
+        if place == failing:
+            when.write_text(str(before))
+        while not send(bidder):
+            faults += 1
     house.kill()
     _, said = house.communicate()
     found = entries(journal(folder / "journals", 0).with_suffix(".ahj.disk"))
     lost = len(set(acknowledged) - set(found))
-    print(f"a failed sync behind {before}, {bundles} bundles: faults {faults}, said {said.strip()!r}, acknowledged {len(acknowledged)}, lost {lost}, doubled {len(found) - len(set(found))}")
+    print(f"a failed sync behind {before}, {bundles} bundles, goes on {goes_on}: faults {faults}, said {said.strip()!r}, acknowledged {len(acknowledged)}, lost {lost}, doubled {len(found) - len(set(found))}")
     return faults == 1 and lost == 0 and len(found) == len(set(found)) and said.count("sync") == 1
 
 
@@ -231,7 +233,8 @@ def main():
         good &= looks(program, fresh, given.looks // 10, True)
         for bundles in (SHORT, LONG):
             for before in (0, 1):
-                good &= failed_sync(program, fresh(f"sync-{bundles}-{before}"), shim, bundles, before)
+                for goes_on in (True, False):
+                    good &= failed_sync(program, fresh(f"sync-{bundles}-{before}-{goes_on}"), shim, bundles, before, goes_on)
         if os.geteuid() == 0:
             good &= without_rights(program, fresh("rights"))
     sys.exit(0 if good else 1)
