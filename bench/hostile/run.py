@@ -7,8 +7,8 @@ PROGRAM is the built house_main. For each row, and for each number up to the cou
 own with the call of that number failing. Where an allocation fails, the answer is status 1 and nothing, or the row's own; where another
 call does, it is the line of the status by the call that failed, or the row's own. Then the row is run once more in the same folder with
 nothing failing, and gives its own answer. In `serve` each report that was acknowledged has to be in its journal just once. A line
-is printed for each row and kind; the script ends with status 1 where an answer was another one, or where no call was seen, as of a program whose
-allocator does not ask the C library.
+is printed for each row and kind; the script ends with status 1 where an answer was another one, a row fails by itself, or no call was seen, as of a
+program whose allocator does not ask the C library.
 """
 import collections
 import shutil
@@ -26,6 +26,8 @@ EXAMPLES = HERE.parent.parent / "examples"
 PORT = 27_411
 KINDS = ("memory", "files", "net")
 LINES = {1: (b"",), 4: (b"read fault\n",), 6: tuple(b"disk fault clock %d\n" % clock for clock in range(4)), 7: (b"net fault\n",)}
+# The status of a program that does not have the row's words.
+USAGE = 2
 STATUSES = {"memory": (1,), "files": (4, 5, 6), "net": (7,)}
 
 ROWS = {
@@ -133,8 +135,11 @@ def judge(program, shim, row, kind):
         folder = Path(name)
         fill(folder)
         own = run(program, shim, words, folder, kind)
-    if own.status != 0:
+    if own.status == USAGE:
         return None
+    if own.status != 0:
+        print(f"{row}, {kind}: where nothing fails, status {own.status}", flush=True)
+        return 1
     if own.calls == 0:
         print(f"{row}, {kind}: no call was seen", flush=True)
         return 1
