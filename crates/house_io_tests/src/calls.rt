@@ -460,7 +460,7 @@ const FAULTS: [Row; 7] = [
     },
 ];
 
-const PIECES: [Row; 10] = [
+const PIECES: [Row; 11] = [
     // A piece at the start is written, and the length is left as it is.
     Row {
         stands: true,
@@ -632,6 +632,32 @@ const PIECES: [Row; 10] = [
         ],
         said: "journal: write: Input/output error (os error 5)\njournal: read: Input/output error (os error 5)\n",
     },
+    // A length from a mebibyte on is set as any other, and just below 64 of them.
+    Row {
+        stands: true,
+        asked: &[
+            Asked::Writes(1_048_576, 0),
+            Asked::Writes(16_777_216, 0),
+            Asked::Writes(67_108_863, 0),
+        ],
+        failing: &[],
+        outcome: Ok(0),
+        calls: &[
+            OPENED,
+            MADE,
+            Call::Lock,
+            Call::SyncAll(Place::Journal),
+            FOLDER,
+            Call::SyncAll(Place::Folder),
+            Call::SeekEnd,
+            Call::SetLength(1_048_576),
+            Call::SeekEnd,
+            Call::SetLength(16_777_216),
+            Call::SeekEnd,
+            Call::SetLength(67_108_863),
+        ],
+        said: "",
+    },
     // A length that cannot be set.
     Row {
         stands: true,
@@ -708,5 +734,5 @@ fn a_fault_is_said_once_for_each_cause_in_a_row(rt: HostRuntime) {
 #[test]
 fn pieces_go_where_they_are_to_by_these_calls(rt: HostRuntime) {
     let number = first_other(rt.alloc(), &PIECES);
-    assert_eq!(rt; number, 10, "{:?}", found_at(rt.alloc(), &PIECES, number));
+    assert_eq!(rt; number, 11, "{:?}", found_at(rt.alloc(), &PIECES, number));
 }

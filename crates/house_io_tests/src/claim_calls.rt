@@ -1,4 +1,5 @@
-//! What no clause says of a claim: which folders are synced for a name, and that a shelf tells whether it found a disk.
+//! What no clause says of names: which file is opened as a source, which folders are synced for a claim, and that a shelf tells whether it
+//! found a disk.
 use crate::calls::{
     Asked, BROKEN, FOLDER, MADE, OPENED, Outcome, Question, failures, folder_of, found,
 };
@@ -68,6 +69,37 @@ fn a_claim_syncs_the_folder_of_its_name(rt: HostRuntime) {
             Some(claimed),
             "{name} in {folder} in {parent}"
         );
+    }
+}
+
+/// The same of a source of a name: whether just the file of this name is opened, to be read, and read once.
+fn is_read_as(alloc: Global, name: &'static str) -> Option<(bool, bool)> {
+    let found = found(
+        alloc,
+        &Question {
+            parent: "no parent",
+            folder: ".",
+            journal: name,
+            name,
+            stands: true,
+            asked: &[Asked::Pulls(9)],
+            failing: &[],
+        },
+    )?;
+    let is_read = found.calls.as_slice() == [OPENED, Call::Read(9)].as_slice();
+    Some((found.outcome == Ok(0), is_read))
+}
+
+#[test]
+fn a_source_is_the_file_of_its_name(rt: HostRuntime) {
+    for name in [
+        "log",
+        " log ",
+        "kept / log",
+        "/a/b/log",
+        "the-auction-file-of-an-auction-of-forty-eight-letters",
+    ] {
+        assert_eq!(rt; is_read_as(rt.alloc(), name), Some((true, true)), "{name}");
     }
 }
 

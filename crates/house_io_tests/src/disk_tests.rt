@@ -466,6 +466,22 @@ fn a_real_file_grows_by_zeros_up_to_a_text(rt: HostRuntime) -> Result<(), Fail> 
     Ok(())
 }
 
+/// What a file of three bytes is once it was lengthened up to this offset: its length, and whether it has zeros up to there.
+fn lengthened_to(rt: &HostRuntime, at: u64) -> Result<(u64, bool), Fail> {
+    let mut buffer = vec![in rt.alloc(); 1u8; 17_000_000]?;
+    grown_file(rt, at, b"", &mut buffer)
+}
+
+/// A mebibyte, and sixteen.
+#[test]
+fn a_real_file_is_lengthened_by_zeros(rt: HostRuntime) -> Result<(), Fail> {
+    for at in [1_048_576, 16_777_216] {
+        let found = lengthened_to(&rt, at)?;
+        assert_eq!(rt; found, (at, true), "{at}");
+    }
+    Ok(())
+}
+
 /// A write of no bytes within a file leaves it as it is.
 #[test]
 fn a_real_file_is_never_cut(rt: HostRuntime) -> Result<(), Fail> {

@@ -165,8 +165,20 @@ struct Outcome {
     said: String,
 }
 
+/// The most bytes that are pulled or pushed at once.
+fn most_asked(asked: &[Asked]) -> usize {
+    let mut most: usize = 0;
+    for one in asked {
+        most = match *one {
+            Asked::Pulls(count) | Asked::Pushes(count) => most.max(count),
+            _ => most,
+        };
+    }
+    most
+}
+
 fn found(alloc: Global, row: &Row) -> Option<Outcome> {
-    let mut room = vec![in alloc; 7; 65_536].ok()?;
+    let mut room = vec![in alloc; 7; most_asked(row.asked)].ok()?;
     let calls = notes_of(alloc, row.failing, row.code)?;
     let net = NotedNet {
         calls: Arc::clone(&calls).ok()?,
@@ -410,7 +422,7 @@ const LINKS: [Row; 7] = [
     },
 ];
 
-const TALKS: [Row; 4] = [
+const TALKS: [Row; 5] = [
     // A pull reads once, and a push writes once, whatever is taken of it.
     Row {
         asked: &[
@@ -433,6 +445,31 @@ const TALKS: [Row; 4] = [
             Call::Write(1),
             Call::Write(10),
             Call::Write(65_536),
+        ],
+        said: "",
+    },
+    // Of any length.
+    Row {
+        asked: &[
+            Asked::Dials(ADDRESS),
+            Asked::Pulls(1_048_576),
+            Asked::Pulls(33_554_432),
+            Asked::Pushes(131_072),
+            Asked::Pushes(1_048_576),
+            Asked::Pushes(33_554_432),
+        ],
+        sent: 60000,
+        failing: &[],
+        code: BROKEN,
+        outcome: (0, 1),
+        calls: &[
+            CONNECT,
+            Call::NoDelay(true),
+            Call::Read(1_048_576),
+            Call::Read(33_554_432),
+            Call::Write(131_072),
+            Call::Write(1_048_576),
+            Call::Write(33_554_432),
         ],
         said: "",
     },
@@ -737,7 +774,7 @@ fn links_are_had_by_these_calls(rt: HostRuntime) {
 #[test]
 fn a_link_talks_by_these_calls(rt: HostRuntime) {
     let number = first_other(rt.alloc(), &TALKS);
-    assert_eq!(rt; number, 4, "{:?}", found_at(rt.alloc(), &TALKS, number));
+    assert_eq!(rt; number, 5, "{:?}", found_at(rt.alloc(), &TALKS, number));
 }
 
 #[test]

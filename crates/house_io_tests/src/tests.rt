@@ -90,6 +90,34 @@ fn a_source_is_read_up_to_a_limit_or_a_fault(rt: HostRuntime) {
     }
 }
 
+/// The powers of two up to 32 MiB.
+const LENGTHS: [usize; 26] = [
+    1, 2, 4, 8, 16, 32, 64, 128, 256, 512, 1_024, 2_048, 4_096, 8_192, 16_384, 32_768, 65_536,
+    131_072, 262_144, 524_288, 1_048_576, 2_097_152, 4_194_304, 8_388_608, 16_777_216, 33_554_432,
+];
+
+/// A text of so many bytes, all of them alike.
+fn even_text(alloc: Global, length: usize) -> Option<Vec<u8>> {
+    vec![in alloc; 7u8; length].ok()
+}
+
+fn even_source(alloc: Global, length: usize) -> Option<SureSource> {
+    SureSource::new(alloc, even_text(alloc, length)?).ok()
+}
+
+/// How many bytes are read of a source of so many.
+fn read_of(alloc: Global, length: usize) -> Option<Result<usize, ReadWhole>> {
+    let mut source = even_source(alloc, length)?;
+    Some(count_read(alloc, &mut source, u64::MAX))
+}
+
+#[test]
+fn a_source_is_read_whole_whatever_its_length(rt: HostRuntime) {
+    for length in LENGTHS {
+        assert_eq!(rt; read_of(rt.alloc(), length), Some(Ok(length)), "{length}");
+    }
+}
+
 fn sure_source(alloc: Global) -> Option<SureSource> {
     SureSource::new(alloc, text_of(alloc, 9)?).ok()
 }
@@ -400,21 +428,30 @@ fn a_write_that_takes_nothing_is_a_fault(rt: HostRuntime) {
 
 /// How much of a text of so many bytes one push takes.
 fn taken<S: Sink>(alloc: Global, sink: &mut S, length: usize) -> Option<Result<usize, Failed>> {
-    let text = text_of(alloc, length)?;
+    let text = even_text(alloc, length)?;
     Some(sink.push(&text))
+}
+
+/// How much of a text one push takes, and how much of it came to an output that takes all.
+fn pushed(alloc: Global, length: usize) -> Option<(Result<usize, Failed>, usize)> {
+    let output = SmallOutput {
+        a_call: usize::MAX,
+        room: Cell::new(usize::MAX),
+    };
+    let mut sink = StdoutSink::new(&output);
+    let taken = taken(alloc, &mut sink, length)?;
+    Some((taken, usize::MAX.saturating_sub(output.room.get())))
 }
 
 #[test]
 fn an_output_that_takes_all_is_given_a_long_piece_whole(rt: HostRuntime) {
-    let output = SmallOutput {
-        a_call: usize::MAX,
-        room: Cell::new(80_000),
-    };
-    let mut sink = StdoutSink::new(&output);
-    for length in [5_000, 70_000] {
-        assert_eq!(rt; taken(rt.alloc(), &mut sink, length), Some(Ok(length)));
+    for length in LENGTHS {
+        assert_eq!(rt;
+            pushed(rt.alloc(), length),
+            Some((Ok(length), length)),
+            "{length}"
+        );
     }
-    assert_eq!(rt; output.room.get(), 5_000);
 }
 
 #[test]
