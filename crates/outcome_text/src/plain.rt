@@ -2,7 +2,7 @@
 ghost use Rattle.std.specs.Prelude.{◌≡◌, ◌++◌, ◌∷◌, codes, IfOk, OnOk, string_bytes};
 ghost use Rattle.clock.specs.Reports.{members};
 ghost use Rattle.outcome_text.specs.Lines.{line, text_of, numerals};
-ghost use Rattle.outcome_text.specs.Plain.{plain_text, opening_lines, award_words, bidder_lines, choice_words, choice_lines, clock_words, clock_lines};
+ghost use Rattle.outcome_text.specs.Plain.{plain_text, opening_lines, award_words, bidder_words, bidder_lines, choice_words, choice_lines, clock_words, clock_lines};
 
 use crate::numerals::{write_amount, write_bundle, write_prices};
 use award_assembly::Choice;
@@ -59,9 +59,16 @@ fn write_rows(text: &mut String, rows: &[AwardRow]) -> Result<(), AllocError>
     ensures { OnOk result (string_bytes text.new ≡ string_bytes text.old ++ text_of (bidder_lines 1 rows.now)) }
 {
     for (place, row) in rows.iter().enumerate() {
-        write_row(text, place + 1, &row.award, row.debit, row.credit, row.pays)?;
+        write_bidder(text, place + 1, row)?;
     }
     Ok(())
+}
+
+/// Writes the line of a bidder by its row.
+fn write_bidder(text: &mut String, bidder: usize, row: &AwardRow) -> Result<(), AllocError>
+    ensures { OnOk result (string_bytes text.new ≡ string_bytes text.old ++ line (bidder_words bidder row.now)) }
+{
+    write_row(text, bidder, &row.award, row.debit, row.credit, row.pays)
 }
 
 /// Writes the line of a bidder: what it is awarded, its debit, its credit and what it pays.
