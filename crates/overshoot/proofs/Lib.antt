@@ -1,0 +1,7 @@
+pub mod Awards
+pub mod Bridge
+pub mod Members
+pub mod Most
+pub mod Moves
+pub mod One
+pub mod Truth

@@ -1,0 +1,310 @@
+//! What no clause says: that calls succeed where there is memory, and clocks and demands that were worked by hand.
+ghost use Rattle.std.specs.Prelude.{◌≡◌, ◌≤◌, IfOk};
+ghost use Rattle.lot_base.specs.Demands.{IsDemand};
+
+use clock::{Clock, Judgement};
+use demand_set::{Demand, Report};
+use lot_base::{Goods, Prices, RawDemand, Sequence, Terms};
+use overshoot::{Explained, SetVerdict, exchange, explain, greatest};
+use std::alloc::{AllocError, Global};
+use std::process::Abort;
+use std::test::Fail;
+
+/// A bidder, a round, and the quantities of the bundles of its demand, one bundle after another.
+type Told<'a> = (u8, u32, &'a [u16]);
+
+/// A clock, and what is said of it.
+struct Case<'a> {
+    story: &'a str,
+    supply: &'a [u16],
+    opening: &'a [u32],
+    bidders: u8,
+    ceiling: u32,
+    clock: u8,
+    reports: &'a [Told<'a>],
+    /// What the clock has come to, and its set of greatest shortfall with the shortfall.
+    line: &'a str,
+    most_short: (u8, u32),
+}
+
+/// The first bidder wants both goods or nothing, the second one of them: at prices 2 and 2 no choice sells both.
+const COMPLEMENTS: &[Told] = &[
+    (1, 1, &[1, 1]),
+    (2, 1, &[0, 1, 1, 0, 1, 1]),
+    (1, 2, &[1, 1]),
+    (2, 2, &[0, 1, 1, 0]),
+    (1, 3, &[0, 0]),
+    (2, 3, &[0, 0, 0, 1, 1, 0]),
+];
+
+const CASES: &[Case] = &[
+    Case {
+        story: "complements: no choice sells both goods",
+        supply: &[1, 1],
+        opening: &[0, 0],
+        bidders: 2,
+        ceiling: 10,
+        clock: 0,
+        reports: COMPLEMENTS,
+        line: "overshoot 3 short 1",
+        most_short: (3, 1),
+    },
+    Case {
+        story: "complements: the second bidder alone",
+        supply: &[1, 1],
+        opening: &[0, 0],
+        bidders: 2,
+        ceiling: 10,
+        clock: 1,
+        reports: &[(2, 1, &[0, 1, 1, 0, 1, 1])],
+        line: "award",
+        most_short: (0, 0),
+    },
+    Case {
+        story: "complements: the first bidder alone",
+        supply: &[1, 1],
+        opening: &[0, 0],
+        bidders: 2,
+        ceiling: 10,
+        clock: 2,
+        reports: &[(1, 1, &[1, 1])],
+        line: "award",
+        most_short: (0, 0),
+    },
+    Case {
+        story: "complements: the second bidder has not reported",
+        supply: &[1, 1],
+        opening: &[0, 0],
+        bidders: 2,
+        ceiling: 10,
+        clock: 0,
+        reports: &[(1, 1, &[1, 1])],
+        line: "running",
+        most_short: (0, 0),
+    },
+    Case {
+        story: "gaps: both want all three units, and then none or two of them, so that no choice sells three",
+        supply: &[3],
+        opening: &[0],
+        bidders: 2,
+        ceiling: 10,
+        clock: 0,
+        reports: &[(1, 1, &[3]), (2, 1, &[3]), (1, 2, &[0, 2]), (2, 2, &[0, 2])],
+        line: "broken 1 x [2] y [0] good 0",
+        most_short: (0, 0),
+    },
+    Case {
+        story: "gaps on the clock without bidder 1, whose smallest member is 2",
+        supply: &[3],
+        opening: &[0],
+        bidders: 3,
+        ceiling: 10,
+        clock: 1,
+        reports: &[(2, 1, &[3]), (3, 1, &[3]), (2, 2, &[0, 2]), (3, 2, &[0, 2])],
+        line: "broken 2 x [2] y [0] good 0",
+        most_short: (0, 0),
+    },
+    Case {
+        story: "a gap of the second bidder: the demand of the first has one bundle, and lacks nothing",
+        supply: &[4],
+        opening: &[0],
+        bidders: 2,
+        ceiling: 10,
+        clock: 0,
+        reports: &[(1, 1, &[4]), (2, 1, &[4]), (1, 2, &[1]), (2, 2, &[0, 4])],
+        line: "broken 2 x [4] y [0] good 0",
+        most_short: (0, 0),
+    },
+    Case {
+        story: "openings: good 0 is at its opening, and may stay unsold; good 1 has risen",
+        supply: &[4, 3],
+        opening: &[7, 2],
+        bidders: 2,
+        ceiling: 10,
+        clock: 0,
+        reports: &[
+            (1, 1, &[0, 3]),
+            (2, 1, &[0, 3]),
+            (1, 2, &[0, 0, 0, 1]),
+            (2, 2, &[0, 0, 0, 1]),
+        ],
+        line: "overshoot 2 short 1",
+        most_short: (2, 1),
+    },
+    Case {
+        story: "openings: nobody wants what is at its opening, and all of it stays unsold",
+        supply: &[2],
+        opening: &[5],
+        bidders: 2,
+        ceiling: 10,
+        clock: 0,
+        reports: &[(1, 1, &[0]), (2, 1, &[0])],
+        line: "award",
+        most_short: (0, 0),
+    },
+    Case {
+        story: "the price of a unit that both want is at the ceiling",
+        supply: &[1],
+        opening: &[0],
+        bidders: 2,
+        ceiling: 2,
+        clock: 0,
+        reports: &[
+            (1, 1, &[1]),
+            (2, 1, &[1]),
+            (1, 2, &[1]),
+            (2, 2, &[1]),
+            (1, 3, &[1]),
+            (2, 3, &[1]),
+        ],
+        line: "halted",
+        most_short: (0, 0),
+    },
+];
+
+fn terms_of(rt: &impl Abort, case: &Case) -> Result<Terms, Fail> {
+    let goods = Goods::new(case.supply)?;
+    let opening = Prices::read(case.opening).ok_or("opening")?;
+    assert_eq!(rt; opening.count(), goods.count());
+    Ok(Terms::with_opening(goods, case.bidders, case.ceiling, opening)?)
+}
+
+fn read(rt: &impl Abort, alloc: Global, goods: &Goods, quantities: &[u16]) -> Result<Demand, Fail>
+    ensures { IfOk result (λ d. IsDemand goods.now d) }
+{
+    let count = goods.count();
+    let quantities = quantities.to_vec(alloc)?;
+    assert!(rt; count >= 1 && count <= 6);
+    assert_eq!(rt; quantities.len() % count as usize, 0);
+    let raw = RawDemand {
+        goods: count,
+        quantities: Sequence::from_vec(quantities),
+    };
+    Ok(Demand::read(alloc, goods, &raw)?)
+}
+
+/// The clock takes a report.
+fn offer(
+    rt: &impl Abort,
+    alloc: Global,
+    clock: &mut Clock,
+    bidder: u8,
+    round: u32,
+    demand: Demand,
+) -> Result<(), Fail>
+    requires { IsDemand clock.old.history.terms.goods demand }
+    ensures { clock.new.history.terms ≡ clock.old.history.terms }
+{
+    match clock.judge(bidder, round, &demand) {
+        Judgement::Take => clock.apply(
+            alloc,
+            Report {
+                bidder,
+                round,
+                demand,
+            },
+        )?,
+        judgement => panic!(rt; "bidder {bidder} round {round}: {judgement:?}"),
+    }
+    Ok(())
+}
+
+/// The clock of these reports.
+fn clock_of(
+    rt: &impl Abort,
+    alloc: Global,
+    terms: &Terms,
+    number: u8,
+    reports: &[Told],
+) -> Result<Clock, Fail>
+    requires { number ≤ terms.now.bidders }
+    ensures { IfOk result (λ c. c.history.terms ≡ terms.now) }
+{
+    let mut clock = Clock::new(alloc, terms, number)?;
+    for (bidder, round, quantities) in reports {
+        let demand = read(rt, alloc, &terms.goods, quantities)?;
+        offer(rt, alloc, &mut clock, *bidder, *round, demand)?;
+    }
+    Ok(clock)
+}
+
+/// What a clock has come to, in words.
+fn line_of(alloc: Global, explained: &Explained) -> Result<String, AllocError> {
+    match explained {
+        Explained::Running => String::from_str(alloc, "running"),
+        Explained::Halted => String::from_str(alloc, "halted"),
+        Explained::Award => String::from_str(alloc, "award"),
+        Explained::Overshoot { set, short } => {
+            let set = set.0;
+            format!(in alloc; "overshoot {set} short {short}")
+        }
+        Explained::Broken { bidder, x, y, good } => {
+            let (x, y) = (x.as_slice(), y.as_slice());
+            format!(in alloc; "broken {bidder} x {x:?} y {y:?} good {good}")
+        }
+    }
+}
+
+#[test]
+fn clocks_are_explained(rt: HostRuntime) -> Result<(), Fail> {
+    for case in CASES {
+        let terms = terms_of(&rt, case)?;
+        assert!(rt; case.clock <= terms.bidders);
+        let clock = clock_of(&rt, rt.alloc(), &terms, case.clock, case.reports)?;
+        let line = line_of(rt.alloc(), &explain(rt.alloc(), &terms, &clock)?)?;
+        assert_eq!(rt; line.as_str(), case.line, "{}", case.story);
+        let (set, short) = greatest(&terms, &clock);
+        assert_eq!(rt; (set.0, short), case.most_short, "{}", case.story);
+    }
+    Ok(())
+}
+
+/// Whether a demand has the exchange property, in words.
+fn words_of(alloc: Global, verdict: &SetVerdict) -> Result<String, AllocError> {
+    match verdict {
+        SetVerdict::Holds => String::from_str(alloc, "holds"),
+        SetVerdict::Breaks { x, y, good } => {
+            let (x, y) = (x.as_slice(), y.as_slice());
+            format!(in alloc; "x {x:?} y {y:?} good {good}")
+        }
+    }
+}
+
+/// A supply, the quantities of the bundles of a demand, and the verdict.
+type Listed<'a> = (&'a [u16], &'a [u16], &'a str);
+
+const DEMANDS: &[Listed] = &[
+    (&[2], &[0, 1, 2], "holds"),
+    (&[2], &[1], "holds"),
+    (&[2], &[0, 2], "x [2] y [0] good 0"),
+    // Neighbours exchange; bundles two apart do not.
+    (&[4], &[0, 1, 3, 4], "x [3] y [0] good 0"),
+    // Either good, or any of three: a unit goes against one of another good.
+    (&[1, 1], &[0, 1, 1, 0], "holds"),
+    (&[1, 1, 1], &[0, 0, 1, 0, 1, 0, 1, 0, 0], "holds"),
+    // Both goods or nothing.
+    (&[1, 1], &[0, 0, 1, 1], "x [1, 1] y [0, 0] good 0"),
+    // One good, or two others.
+    (
+        &[1, 1, 1],
+        &[0, 0, 1, 1, 1, 0],
+        "x [0, 0, 1] y [1, 1, 0] good 2",
+    ),
+    // The first good has a gap beside the whole of the second one.
+    (
+        &[1, 2],
+        &[0, 0, 0, 2, 1, 0, 1, 1, 1, 2],
+        "x [0, 2] y [0, 0] good 1",
+    ),
+];
+
+#[test]
+fn demands_have_their_verdicts(rt: HostRuntime) -> Result<(), Fail> {
+    for (supply, quantities, words) in DEMANDS {
+        let goods = Goods::new(supply)?;
+        let demand = read(&rt, rt.alloc(), &goods, quantities)?;
+        let told = words_of(rt.alloc(), &exchange(rt.alloc(), &goods, &demand)?)?;
+        assert_eq!(rt; told.as_str(), *words, "{quantities:?}");
+    }
+    Ok(())
+}
