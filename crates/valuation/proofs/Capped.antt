@@ -37,7 +37,7 @@ cost-below (p ∷ v) (a ∷ y) (b ∷ x) h =
     let m : p * a ≤ p * b = mul-le-mul (let r : p ≤ p = omega arith in r) h.0 in
     omega (arith, i, m)
 
-less-in : (y x : List ℕ) (k : ℕ) → AtMost y x → at y k < at x k → AtMost y (one_less x k)
+pub less-in : (y x : List ℕ) (k : ℕ) → AtMost y x → at y k < at x k → AtMost y (one_less x k)
 less-in [] [] k h lt = h
 less-in [] (b ∷ x) k h lt = absurd h
 less-in (a ∷ y) [] k h lt = absurd h
@@ -63,18 +63,18 @@ passes n cap h = grind (arith, nat_tests)
 passed : (n cap : ℕ) → nat_le n cap ≡ true → n ≤ cap
 passed n cap h = grind (arith, nat_tests)
 
-bounded : (v : List ℕ) (cap : ℕ) (x y : List ℕ) → AtMost y x → total y ≤ cap → cost v y ≤ capped_value v cap x
+pub bounded : (v : List ℕ) (cap : ℕ) (x y : List ℕ) → AtMost y x → total y ≤ cap → cost v y ≤ capped_value v cap x
 unfolding capped_value
 bounded v cap x y h few =
     greatest_bounds_units (cost v) y (filter (λ z. nat_le (total z) cap) (box x)) (IsIn-filter (λ z. nat_le (total z) cap) y (box x) (IsIn-box y x h) (passes (total y) cap few))
 
-record Reaches (v : List ℕ) (cap : ℕ) (x : List ℕ) : Type 0 where
+pub record Reaches (v : List ℕ) (cap : ℕ) (x : List ℕ) : Type 0 where
   pub bundle : List ℕ
   pub below : AtMost bundle x
   pub few : total bundle ≤ cap
   pub is : cost v bundle ≡ capped_value v cap x
 
-reached : (v : List ℕ) (cap : ℕ) (x : List ℕ) → Reaches v cap x
+pub reached : (v : List ℕ) (cap : ℕ) (x : List ℕ) → Reaches v cap x
 unfolding capped_value
 reached v cap x =
     let t : List ℕ → Bool = λ z. nat_le (total z) cap in

@@ -9,3 +9,7 @@ pub mod Spread
 pub mod Steady
 pub mod Trees
 pub mod Turns
+pub mod Exchanges
+pub mod MarginalStrong
+pub mod UnitStrong
+pub mod CappedStrong

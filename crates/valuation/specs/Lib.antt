@@ -1,5 +1,6 @@
 pub mod Capping
 pub mod Carried
+pub mod Descending
 pub mod Forms
 pub mod Seen
 pub mod Tree

@@ -6,6 +6,7 @@ mod costs;
 mod document;
 pub mod faults;
 mod forms;
+pub mod laws;
 mod making;
 mod numbers;
 pub mod reader;
