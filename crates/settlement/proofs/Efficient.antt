@@ -19,7 +19,7 @@ use Rattle.clock.specs.Explained.{Explains}
 use Rattle.clock.proofs.Truthful.{account-rise, least-minimiser}
 use Rattle.settlement.specs.Clocks.{AreClocksOf, choice_of}
 use Rattle.settlement.specs.Settling.{AreSettled, IsClockRow, IsAwardRow, IsOutcomeOf}
-use Rattle.settlement.specs.Efficient.{ExplainsAll, award_of, PaysVcg, IsBestChoice, IsEfficient, IsEfficientSettlement}
+use Rattle.settlement.specs.Efficient.{ExplainsAll, award_of, PaysVcg, IsBestChoice, HasLeastPrices, IsEfficient, IsEfficientSettlement}
 use Rattle.settlement.specs.declared.outcome.AwardRow.{AwardRow}
 use Rattle.settlement.specs.declared.outcome.ClockRow.{ClockRow}
 use Rattle.settlement.specs.declared.outcome.Outcome.{Outcome}
@@ -32,18 +32,18 @@ use Rattle.settlement.proofs.Lower.{lower}
 use Rattle.settlement.proofs.Never.{never-lacks, never-halts}
 
 -- bidders from 1 on: leaving out nobody changes nothing
-none-out : (js : List ℕ) → AllByRecursion (λ j. 1 ≤ j) js → without 0 js ≡ js
+pub none-out : (js : List ℕ) → AllByRecursion (λ j. 1 ≤ j) js → without 0 js ≡ js
 none-out [] some = refl
 none-out (j ∷ js) some =
     let s = some.0 in
     let t : nat_eq j 0 ≡ false = grind (arith, nat_tests) in
     ap (λ b. cond (not b) (j ∷ without 0 js) (without 0 js)) t ∙ ap (λ ks. j ∷ ks) (none-out js some.1)
 
-from-one : (a n : ℕ) → 1 ≤ a → AllByRecursion (λ j. 1 ≤ j) (range_with_len a n)
+pub from-one : (a n : ℕ) → 1 ≤ a → AllByRecursion (λ j. 1 ≤ j) (range_with_len a n)
 from-one a zero some = tt
 from-one a (suc n) some = (some, from-one (a + 1) n (omega arith))
 
-all-are-members : (n : ℕ) → members n 0 ≡ all_bidders n
+pub all-are-members : (n : ℕ) → members n 0 ≡ all_bidders n
 all-are-members n = none-out (range_with_len 1 n) (from-one 1 n (omega arith))
 
 all-one : (m a n : ℕ) → 1 ≤ a → a + n ≡ 1 + m → AllByRecursion (λ i. IsOneOf i (all_bidders m)) (range_with_len a n)
@@ -73,6 +73,17 @@ all-choices u terms (c ∷ clocks) (row ∷ rows) same explains ended zip =
       walrasian-welfare terms.goods terms.opening u (members terms.bidders c.number) (prices_of c) (bundle_of (members terms.bidders c.number) row.choices) w,
       all-choices u terms clocks rows same.1 explains.1 ended.1 zip.1,
     )
+
+-- the prices of each clock
+all-least : (u : ℕ → List ℕ → ℤ) (terms : Terms) (clocks : List ClockHistory) (rows : List ClockRow) → AllByRecursion (λ (c : ClockHistory). c.terms ≡ terms) clocks → ExplainsAll u clocks
+    → AllByRecursion (λ (c : ClockHistory). phase_of c ≡ Ended) clocks → AllZip IsClockRow clocks rows → AllZip (HasLeastPrices u terms) (map (λ (c : ClockHistory). c.number) clocks) rows
+all-least u terms [] [] same explains ended zip = tt
+all-least u terms [] (row ∷ rows) same explains ended zip = absurd zip
+all-least u terms (c ∷ clocks) [] same explains ended zip = absurd zip
+all-least u terms (c ∷ clocks) (row ∷ rows) same explains ended zip =
+    let K : Terms → Type 0 = λ t. IsLeastMinimiser t.opening (lyapunov t.goods u (members t.bidders c.number)) (prices_of c) in
+    let P : List ℕ → Type 0 = λ p. IsLeastMinimiser terms.opening (lyapunov terms.goods u (members terms.bidders c.number)) p in
+    (subst P (sym zip.0.prices_are) (subst K same.0 (least-minimiser u c explains.0 ended.0)), all-least u terms clocks rows same.1 explains.1 ended.1 zip.1)
 
 -- what is known of the clock of all
 record IsWholeClock (u : ℕ → List ℕ → ℤ) (terms : Terms) (all : ClockHistory) (x : ℕ → List ℕ) : Type 0 where
@@ -115,7 +126,7 @@ all-payments u terms all x whole (own ∷ others) (row ∷ rows) (r ∷ clocks) 
   all-payments u terms all x whole others rows clocks same.1 explains.1 ended.1 zip.1 one.1 awards.1 are.1,
 )
 
-numbers-of : (terms : Terms) (all : ClockHistory) (others : List ClockHistory) → AreClocksOf terms (all ∷ others) → (all.number ≡ 0) × (map (λ (c : ClockHistory). c.number) others ≡ all_bidders terms.bidders)
+pub numbers-of : (terms : Terms) (all : ClockHistory) (others : List ClockHistory) → AreClocksOf terms (all ∷ others) → (all.number ≡ 0) × (map (λ (c : ClockHistory). c.number) others ≡ all_bidders terms.bidders)
 numbers-of terms all others h =
     let n : terms.bidders + 1 ≡ suc terms.bidders = add-one terms.bidders in
     let e : all.number ∷ map (λ (c : ClockHistory). c.number) others ≡ 0 ∷ range_with_len 1 terms.bidders = h.numbers ∙ ap (range_with_len 0) n in
@@ -147,12 +158,15 @@ efficient u terms all others o h explains ended s = by o.clocks s.clocks_are
         let pays = all-payments u terms all x whole others o.rows clocks h.terms_are.1 explains.1 ended.1 zip.1 ones (subst A (sym numbers.1) awards) s.rows_are in
         let V : List ℕ → Type 0 = λ ks. AllZip (PaysVcg u terms x) ks o.rows in
         let B : List ℕ → Type 0 = λ ks. AllZip (IsBestChoice u terms) ks o.clocks in
+        let M : List ℕ → Type 0 = λ ks. AllZip (HasLeastPrices u terms) ks o.clocks in
         record {
           equilibrium = equilibrium;
+          welfare = walrasian-welfare terms.goods terms.opening u js (prices_of all) x w;
           least = subst L (sym s.prices_are) ((x, w), λ q v. below q v);
           payments = subst V numbers.1 pays;
           no_higher = lower u terms o all s.prices_are h.terms_are.0 members-are explains.0 ended.0 others o.clocks h.terms_are.1 explains.1 ones s.clocks_are;
           choices = subst B h.numbers (all-choices u terms (all ∷ others) o.clocks h.terms_are explains ended s.clocks_are);
+          least_prices = subst M h.numbers (all-least u terms (all ∷ others) o.clocks h.terms_are explains ended s.clocks_are);
         }
       where
         below : (q : List ℕ) → IsWalrasianPrices terms.goods terms.opening u (all_bidders terms.bidders) q → AtMost (prices_of all) q

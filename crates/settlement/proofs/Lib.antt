@@ -16,3 +16,12 @@ pub mod Unique
 pub mod Computed
 pub mod Examples
 pub mod Histories
+pub mod ButOne
+pub mod OwnClock
+pub mod Nearly
+pub mod Charges
+pub mod Gains
+pub mod TruthPays
+pub mod PriceBounds
+pub mod Misreports
+pub mod Lies

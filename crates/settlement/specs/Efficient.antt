@@ -3,7 +3,7 @@
 use Rattle.std.specs.Prelude.{ℕ, ◌≤◌, ◌+◌, List, map, ℤ}
 use Rattle.std.specs.List.{AllByRecursion, AllZip, range_with_len}
 use Rattle.lot_base.specs.Goods.{AtMost}
-use Rattle.lot_base.specs.Economy.{AllBelowCeiling}
+use Rattle.lot_base.specs.Economy.{AllBelowCeiling, IsLeastMinimiser, lyapunov}
 use Rattle.lot_base.specs.Equilibrium.{IsWalrasian, IsLeastWalrasian, IsWelfare, IsVcgPayment, worth}
 use Rattle.lot_base.specs.declared.auction_terms.Terms.{Terms}
 use Rattle.lyapunov.specs.Bidders.{bundle_of}
@@ -34,17 +34,29 @@ IsBestChoice u terms number row =
     let js = members terms.bidders number in
     IsWelfare terms.goods terms.opening u js (worth terms.goods terms.opening u js (bundle_of js row.choices))
 
+-- the prices of a clock are the least from the opening on that minimise the Lyapunov function of its members
+abbrev pub HasLeastPrices : (ℕ → List ℕ → ℤ) → Terms → ℕ → ClockRow → Type 0
+HasLeastPrices u terms number row = IsLeastMinimiser terms.opening (lyapunov terms.goods u (members terms.bidders number)) row.prices
+
 -- The prices of a clock are at most those of the outcome on every good, and it has made no more steps than the most that one of these
 -- is above its opening, which is as many as the clock of all has made: without a bidder prices are no higher.
 abbrev pub IsNoHigher : Terms → Outcome → ClockRow → Type 0
 IsNoHigher terms outcome row = AtMost row.prices outcome.prices × (row.steps ≤ highest_rise terms.opening outcome.prices)
 
+-- no allocation among all bidders is worth more than the awards
+abbrev pub HasBestAwards : (ℕ → List ℕ → ℤ) → Terms → Outcome → Type 0
+HasBestAwards u terms outcome =
+    let js = all_bidders terms.bidders in
+    IsWelfare terms.goods terms.opening u js (worth terms.goods terms.opening u js (award_of terms outcome))
+
 pub record IsEfficient (u : ℕ → List ℕ → ℤ) (terms : Terms) (outcome : Outcome) : Type 0 where
   pub equilibrium : IsWalrasian terms.goods terms.opening u (all_bidders terms.bidders) outcome.prices (award_of terms outcome)
+  pub welfare : HasBestAwards u terms outcome
   pub least : IsLeastWalrasian terms.goods terms.opening u (all_bidders terms.bidders) outcome.prices
   pub payments : AllZip (PaysVcg u terms (award_of terms outcome)) (all_bidders terms.bidders) outcome.rows
   pub no_higher : AllByRecursion (IsNoHigher terms outcome) outcome.clocks
   pub choices : AllZip (IsBestChoice u terms) (range_with_len 0 (terms.bidders + 1)) outcome.clocks
+  pub least_prices : AllZip (HasLeastPrices u terms) (range_with_len 0 (terms.bidders + 1)) outcome.clocks
 
 -- Where there is an outcome it is efficient. Some choice of each clock clears, and no clock halts whose ceiling is above all values.
 abbrev pub IsEfficientSettlement : (ℕ → List ℕ → ℤ) → Terms → Settlement → Type 0

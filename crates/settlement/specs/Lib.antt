@@ -4,4 +4,6 @@ pub mod Shapes
 pub mod Found
 pub mod Alike
 pub mod Efficient
+pub mod Incentives
 pub mod Examples
+pub mod Lies

@@ -8,10 +8,12 @@ ghost use Rattle.settlement.specs.Clocks.{AreClocksOf, opening_of};
 ghost use Rattle.settlement.specs.Found.{IsFoundOf, AreChoicesOf};
 ghost use Rattle.settlement.specs.Settling.{IsClockRow, IsSettled, HaveEnded, IsOutcomeOf};
 ghost use Rattle.settlement.specs.Efficient.{ExplainsAll, IsEfficientSettlement};
+ghost use Rattle.settlement.specs.Incentives.{IsAmongTruthful, IsChargedBy};
 ghost use Rattle.settlement.specs.Shapes.{IsWholeSettlement};
 
 mod awarding;
 mod choosing;
+pub mod incentives;
 pub mod laws;
 pub mod outcome;
 mod standing;
@@ -36,6 +38,11 @@ pub fn settle(alloc: Global, terms: &Terms, clocks: &[Clock]) -> Result<Settleme
     // is then without a choice, and none halts whose ceiling is above all values.
     ensures efficient { IfOk result (λ s. (u : ℕ → List ℕ → ℤ) → ExplainsAll u (histories clocks.now)
         → IsEfficientSettlement u terms.now s) }
+
+    // Whatever a bidder reports: where the others' reports are true, on the clock of all and on the clock without it, it pays what
+    // Vickrey, Clarke and Groves ask, at least the reserve of its award and at most its price, and nothing for nothing.
+    ensures charged { IfOk result (λ s. (i : ℕ) (u : ℕ → List ℕ → ℤ) → IsAmongTruthful i u terms.now (histories clocks.now)
+        → IsChargedBy i u terms.now s) }
 {
     settle_exactly(alloc, terms, clocks)
 }
