@@ -14,7 +14,7 @@ use Rattle.trial.specs.Bidding.{bidders_of}
 use Rattle.trial.specs.Trials.{AreValuationsOf}
 use Rattle.trial.proofs.Whole.{AreBidders}
 
-all-at : {X : Type 0} (P : X → Type 0) (xs : List X) (i : ℕ) (d : X) → AllByRecursion P xs → i < length xs → P (get_or xs i d)
+pub all-at : {X : Type 0} (P : X → Type 0) (xs : List X) (i : ℕ) (d : X) → AllByRecursion P xs → i < length xs → P (get_or xs i d)
 all-at P [] i d all below = absurd (omega arith)
 all-at P (x ∷ xs) zero d all below = all.0
 all-at P (x ∷ xs) (suc i) d all below = all-at P xs i d all.1 (omega arith)

@@ -10,3 +10,5 @@ pub mod Made
 pub mod Risen
 pub mod Leading
 pub mod Leaping
+pub mod Truths
+pub mod MadeStrong

@@ -5,3 +5,4 @@ pub mod Refusals
 pub mod Workers
 pub mod Making
 pub mod Ranks
+pub mod Misreports
