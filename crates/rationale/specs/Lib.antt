@@ -1,0 +1,15 @@
+pub mod Edges
+pub mod Walks
+pub mod Climbs
+pub mod Observations
+pub mod Links
+pub mod Steps
+pub mod Shown
+pub mod Placed
+pub mod Places
+pub mod Endings
+pub mod Turned
+pub mod Decisions
+pub mod Lines
+pub mod Kept
+pub mod Grown
