@@ -1,0 +1,15 @@
+pub mod Sinking
+pub mod FallSets
+pub mod Falls
+pub mod Rounds
+pub mod Growing
+pub mod Truthful
+pub mod Settled
+pub mod Truths
+pub mod Adding
+pub mod Keeping
+pub mod Paying
+pub mod Copying
+pub mod Telling
+pub mod Bidders
+pub mod Inside

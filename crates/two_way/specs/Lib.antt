@@ -1,0 +1,11 @@
+pub mod Falling
+pub mod Histories
+pub mod Standing
+pub mod Quantities
+pub mod Turns
+pub mod Kept
+pub mod Growth
+pub mod Floated
+pub mod Explained
+pub mod FloatHistories
+pub mod Rows

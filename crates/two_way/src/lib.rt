@@ -1,0 +1,16 @@
+//! Two-way clocks: from any start prices up, and then down, to prices at which a choice clears.
+#![tactic(auto)]
+
+mod awarding;
+mod choosing;
+pub mod clocks;
+pub mod floating;
+pub mod laws;
+mod quantities;
+mod standing;
+mod starting;
+
+pub use clocks::TwoWay;
+pub use floating::{FloatFault, Floated, float};
+pub use settlement::AwardRow;
+pub use starting::first_outside;
