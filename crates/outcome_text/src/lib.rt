@@ -12,6 +12,6 @@ pub mod standing;
 
 pub use json::write_json;
 pub use numerals::{write_amount, write_bundle, write_prices};
-pub use plain::{write_choices, write_plain, write_row};
+pub use plain::{write_choices, write_plain, write_row, write_rows};
 pub use reading::read_plain;
 pub use standing::write_standing;

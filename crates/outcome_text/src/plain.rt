@@ -55,7 +55,7 @@ fn write_opening_line(text: &mut String, opening: &Prices) -> Result<(), AllocEr
 }
 
 /// Writes the lines of all bidders.
-fn write_rows(text: &mut String, rows: &[AwardRow]) -> Result<(), AllocError>
+pub fn write_rows(text: &mut String, rows: &[AwardRow]) -> Result<(), AllocError>
     ensures { OnOk result (string_bytes text.new ≡ string_bytes text.old ++ text_of (bidder_lines 1 rows.now)) }
 {
     for (place, row) in rows.iter().enumerate() {
