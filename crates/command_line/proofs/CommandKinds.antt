@@ -2,15 +2,18 @@
 use Rattle.std.proofs.Common.{◌≡◌, ◌∙◌, ℕ, Bool, List, [], ◌∷◌, Option, Some, None, cond, refl, sym, ap, subst}
 use Rattle.std.specs.Prelude.{codes, bytes_eq}
 use Rattle.lot_base.specs.declared.auction_terms.Terms.{Terms}
-use Rattle.command_line.specs.Commands.{Bid, Check, Command, Fold, Make, Migrate, Serve, Settle, Spells, Standing, Trial}
+use Rattle.command_line.specs.Commands.{Bid, Check, Command, Explain, Float, Fold, Judge, Make, Migrate, Serve, Settle, Spells, Standing, Trial}
 use Rattle.command_line.specs.Parts.{Bidding, Serving}
 
 pub data Kind : Type 0 where
   fold : Kind
   check : Kind
   standing : Kind
+  explain : Kind
+  judge : Kind
   settle : Kind
   trial : Kind
+  float : Kind
   make : Kind
   serve : Kind
   bid : Kind
@@ -20,8 +23,11 @@ abbrev pub kind_of : Command → Kind
 kind_of (Fold terms log) = fold
 kind_of (Check auction) = check
 kind_of (Standing auction journals) = standing
+kind_of (Explain auction journals) = explain
+kind_of (Judge auction journals bidder) = judge
 kind_of (Settle auction journals json) = settle
 kind_of (Trial auction values workers) = trial
+kind_of (Float auction values start) = float
 kind_of (Make number workers) = make
 kind_of (Serve auction journals s) = serve
 kind_of (Bid auction values b) = bid
@@ -33,19 +39,25 @@ kind_in (name ∷ behind) =
     cond (bytes_eq name (codes "fold")) (Some fold)
     (cond (bytes_eq name (codes "check")) (Some check)
     (cond (bytes_eq name (codes "standing")) (Some standing)
+    (cond (bytes_eq name (codes "explain")) (Some explain)
+    (cond (bytes_eq name (codes "judge")) (Some judge)
     (cond (bytes_eq name (codes "settle")) (Some settle)
     (cond (bytes_eq name (codes "trial")) (Some trial)
+    (cond (bytes_eq name (codes "float")) (Some float)
     (cond (bytes_eq name (codes "make")) (Some make)
     (cond (bytes_eq name (codes "serve")) (Some serve)
     (cond (bytes_eq name (codes "bid")) (Some bid)
-    (cond (bytes_eq name (codes "migrate")) (Some migrate) None))))))))
+    (cond (bytes_eq name (codes "migrate")) (Some migrate) None)))))))))))
 
 kind-spelled : (command : Command) (words : List (List ℕ)) → Spells command words → kind_in words ≡ Some (kind_of command)
 kind-spelled (Fold terms log) words is = ap kind_in is.words_are
 kind-spelled (Check auction) words is = ap kind_in is.words_are
 kind-spelled (Standing auction journals) words is = ap kind_in is.words_are
+kind-spelled (Explain auction journals) words is = ap kind_in is.words_are
+kind-spelled (Judge auction journals bidder) words is = ap kind_in is.words_are
 kind-spelled (Settle auction journals json) words is = ap kind_in is.words_are
 kind-spelled (Trial auction values workers) words is = ap kind_in is.words_are
+kind-spelled (Float auction values start) words is = ap kind_in is.words_are
 kind-spelled (Make number workers) words is = ap kind_in is.words_are
 kind-spelled (Serve auction journals s) words is = ap kind_in is.words_are
 kind-spelled (Bid auction values b) words is = ap kind_in is.words_are
@@ -55,8 +67,11 @@ abbrev pub IsOf : Kind → Command → Type 0
 IsOf fold command = (terms : Terms) × (log : List ℕ) × (command ≡ Fold terms log)
 IsOf check command = (auction : List ℕ) × (command ≡ Check auction)
 IsOf standing command = (auction : List ℕ) × (journals : List ℕ) × (command ≡ Standing auction journals)
+IsOf explain command = (auction : List ℕ) × (journals : List ℕ) × (command ≡ Explain auction journals)
+IsOf judge command = (auction : List ℕ) × (journals : List ℕ) × (bidder : ℕ) × (command ≡ Judge auction journals bidder)
 IsOf settle command = (auction : List ℕ) × (journals : List ℕ) × (json : Bool) × (command ≡ Settle auction journals json)
 IsOf trial command = (auction : List ℕ) × (values : List ℕ) × (workers : ℕ) × (command ≡ Trial auction values workers)
+IsOf float command = (auction : List ℕ) × (values : List ℕ) × (start : List ℕ) × (command ≡ Float auction values start)
 IsOf make command = (number : ℕ) × (workers : ℕ) × (command ≡ Make number workers)
 IsOf serve command = (auction : List ℕ) × (journals : List ℕ) × (s : Serving) × (command ≡ Serve auction journals s)
 IsOf bid command = (auction : List ℕ) × (values : List ℕ) × (b : Bidding) × (command ≡ Bid auction values b)
@@ -66,8 +81,11 @@ is-of : (command : Command) → IsOf (kind_of command) command
 is-of (Fold terms log) = (terms, log, refl)
 is-of (Check auction) = (auction, refl)
 is-of (Standing auction journals) = (auction, journals, refl)
+is-of (Explain auction journals) = (auction, journals, refl)
+is-of (Judge auction journals bidder) = (auction, journals, bidder, refl)
 is-of (Settle auction journals json) = (auction, journals, json, refl)
 is-of (Trial auction values workers) = (auction, values, workers, refl)
+is-of (Float auction values start) = (auction, values, start, refl)
 is-of (Make number workers) = (number, workers, refl)
 is-of (Serve auction journals s) = (auction, journals, s, refl)
 is-of (Bid auction values b) = (auction, values, b, refl)

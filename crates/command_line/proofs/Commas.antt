@@ -1,5 +1,5 @@
 -- A list of numbers joined by commas, and its parts.
-use Rattle.std.proofs.Common.{◌≡◌, ◌<◌, ◌≤◌, ◌⊎◌, inl, inr, ℕ, zero, suc, ◌+◌, ◌*◌, ◌^◌, Bool, true, false, not, nat_eq, cond, Ok, Err, append-nil, List, [], ◌∷◌, ◌++◌, length, get_or, map, Option, Some, None, refl, sym, ap, ◌∙◌, arith, decimal}
+use Rattle.std.proofs.Common.{◌≡◌, ◌<◌, ◌≤◌, ◌⊎◌, inl, inr, ℕ, zero, suc, ◌+◌, ◌*◌, ◌^◌, Bool, true, false, not, nat_eq, cond, Ok, Err, append-nil, length-append, List, [], ◌∷◌, ◌++◌, length, get_or, map, Option, Some, None, refl, sym, ap, ◌∙◌, arith, decimal}
 use Rattle.std.specs.Prelude.{All, position, nat_lt}
 use Rattle.std.specs.List.{list_all, slice_split, join_with_byte, AllByRecursion, position_or_len, before_first, after_first}
 use Rattle.std.specs.Char.{is_ascii_digit}
@@ -8,10 +8,10 @@ use Rattle.std.proofs.Math.Nat.{mul-le-mul_left}
 use Rattle.std.proofs.lemmas.List.Elements.{All-nil, All-cons}
 use Rattle.std.proofs.lemmas.List.Splits.{slice_split_none, slice_split_at, slice_split_first, join_with_byte-slice_split}
 use Rattle.std.proofs.lemmas.Fmt.{decimal_injective}
-use Rattle.lot_base.specs.Goods.{IsSupply, box_size}
+use Rattle.lot_base.specs.Goods.{IsRange, IsSupply, box_size}
 use Rattle.lot_base.specs.Limits.{supply_of, supply_with}
 use Rattle.lot_base.specs.declared.supply.GoodsFault.TheVariants.{NoGoods, TooManyGoods, BoxTooLarge}
-use Rattle.command_line.specs.Words.{comma_list}
+use Rattle.command_line.specs.Words.{AreNumbers, comma_list}
 use Rattle.command_line.proofs.Decimals.{both, digit-range, decimal-digits}
 
 -- the parts of a text between its commas
@@ -53,13 +53,20 @@ pub parts-supply : (word supply : List ℕ) → IsSupply supply → word ≡ com
 parts-supply word [] is e = absurd (let s = is.some_good in omega arith)
 parts-supply word (s ∷ supply) is e = ap parts e ∙ parts-comma_list s supply (small-enough (s ∷ supply) (supplies-few (s ∷ supply) is.small))
 
-at-most : (supply : List ℕ) (k : ℕ) → AllByRecursion (λ n. n ≤ 2047) supply → get_or supply k 0 ≤ 2047
-at-most [] k few = omega arith
-at-most (s ∷ supply) zero few = few.0
-at-most (s ∷ supply) (suc k) few = at-most supply k few.1
+-- numbers of which each is in a range
 
-pub supply-few : (supply : List ℕ) (k : ℕ) → IsSupply supply → get_or supply k 0 ≤ 2047
-supply-few supply k is = at-most supply k (supplies-few supply is.small)
+pub small-numbers : (low high : ℕ) (ns : List ℕ) → high < 2 ^ 64 → AllByRecursion (IsRange low high) ns → AllByRecursion (λ k. k < 2 ^ 64) ns
+small-numbers low high [] small all = tt
+small-numbers low high (n ∷ ns) small all = (let r = all.0 in let m = r.at_most in omega arith, small-numbers low high ns small all.1)
+
+pub parts-numbers : (low high : ℕ) (word ns : List ℕ) → high < 2 ^ 64 → AreNumbers low high ns → word ≡ comma_list ns → parts word ≡ map decimal ns
+parts-numbers low high word [] small are e = absurd (let s = are.at_least_one in omega arith)
+parts-numbers low high word (n ∷ ns) small are e = ap parts e ∙ parts-comma_list n ns (small-numbers low high (n ∷ ns) small are.within)
+
+range-at : (low high : ℕ) (ns : List ℕ) (k : ℕ) → AllByRecursion (IsRange low high) ns → k < length ns → IsRange low high (get_or ns k 0)
+range-at low high [] k all inside = absurd (omega arith)
+range-at low high (n ∷ ns) zero all inside = all.0
+range-at low high (n ∷ ns) (suc k) all inside = range-at low high ns k all.1 (omega arith)
 
 -- the part behind those that were read is the next supply's
 pub record NextPart (xs : List ℕ) (piece : List ℕ) (supply : List ℕ) : Type 0 where
@@ -114,24 +121,28 @@ none-passes p xs e = by (nat_lt (position_or_len p xs) (length xs)) refl e
     by true t f = absurd (let g : Some (position_or_len p xs) ≡ None = f in cc)
     by false t f = lacks p xs (grind (arith, nat_tests))
 
-at-least : (xs : List ℕ) (k : ℕ) → AllByRecursion (λ x. nat_eq x 0 ≡ false) xs → k < length xs → 1 ≤ get_or xs k 0
-at-least [] k h inside = absurd (omega arith)
-at-least (x ∷ xs) zero h inside = let f = h.0 in grind (arith, nat_tests)
-at-least (x ∷ xs) (suc k) h inside = at-least xs k h.1 (omega arith)
+units-range : (supply : List ℕ) → AllByRecursion (λ x. nat_eq x 0 ≡ false) supply → AllByRecursion (λ k. k ≤ 2047) supply → AllByRecursion (IsRange 1 2047) supply
+units-range [] units few = tt
+units-range (s ∷ supply) units few = (record { at_least = (let f = units.0 in grind (arith, nat_tests)); at_most = few.0 }, units-range supply units.1 few.1)
 
-pub supply-some : (supply : List ℕ) (k : ℕ) → IsSupply supply → k < length supply → 1 ≤ get_or supply k 0
-supply-some supply k is inside = at-least supply k (none-passes (λ s. nat_eq s 0) supply is.units) inside
+-- the supplies of what can be sold are such numbers
+pub supply-numbers : (supply : List ℕ) → IsSupply supply → AreNumbers 1 2047 supply
+supply-numbers supply is = record {
+  at_least_one = is.some_good;
+  at_most_six = is.few_goods;
+  within = units-range supply (none-passes (λ s. nat_eq s 0) supply is.units) (supplies-few supply is.small);
+}
 
--- a piece that is refused is no part of a supply's list
-pub refused : (xs piece word supply : List ℕ) (others : List (List ℕ)) → (6 ≤ length xs) ⊎ ((units : ℕ) → 1 ≤ units → units ≤ 2047 → piece ≡ decimal units → ⊥) → map decimal xs ++ piece ∷ others ≡ parts word
-    → IsSupply supply → word ≡ comma_list supply → ⊥
-refused xs piece word supply others why read is e =
-    let n = next-part xs piece others supply (read ∙ parts-supply word supply is e) in
+-- a piece that is refused is no part of a list of numbers
+pub refused : (low high : ℕ) (xs piece word ns : List ℕ) (others : List (List ℕ)) → high < 2 ^ 64 → (6 ≤ length xs) ⊎ ((n : ℕ) → IsRange low high n → piece ≡ decimal n → ⊥) → map decimal xs ++ piece ∷ others ≡ parts word
+    → AreNumbers low high ns → word ≡ comma_list ns → ⊥
+refused low high xs piece word ns others small why read are e =
+    let n = next-part xs piece others ns (read ∙ parts-numbers low high word ns small are e) in
     by n why
   where
-    by : NextPart xs piece supply → (6 ≤ length xs) ⊎ ((units : ℕ) → 1 ≤ units → units ≤ 2047 → piece ≡ decimal units → ⊥) → ⊥
-    by n (inl full) = let m = n.more in let f = is.few_goods in omega arith
-    by n (inr none) = none (get_or supply (length xs) 0) (supply-some supply (length xs) is n.more) (supply-few supply (length xs) is) n.piece_is
+    by : NextPart xs piece ns → (6 ≤ length xs) ⊎ ((n : ℕ) → IsRange low high n → piece ≡ decimal n → ⊥) → ⊥
+    by n (inl full) = let m = n.more in let f = are.at_most_six in omega arith
+    by n (inr none) = none (get_or ns (length xs) 0) (range-at low high ns (length xs) are.within n.more) n.piece_is
 
 -- a piece that is read is one number more
 pub grows : (xs new : List ℕ) (units : ℕ) (piece : List ℕ) (others all : List (List ℕ)) → new ≡ xs ++ units ∷ [] → piece ≡ decimal units → map decimal xs ++ piece ∷ others ≡ all → map decimal new ++ others ≡ all
@@ -156,8 +167,11 @@ supply-accepted supply is =
     ∙ ap (λ o. supply_with o supply) is.units
     ∙ ap (λ x. cond x (Err (BoxTooLarge (box_size supply))) (Ok supply)) c
 
-pub supplies-same : (word read supply : List ℕ) → map decimal read ≡ parts word → AllByRecursion (λ n. n ≤ 2047) read → IsSupply supply → word ≡ comma_list supply → read ≡ supply
-supplies-same word read supply e few is f = decimals-same read supply (small-enough read few) (small-enough supply (supplies-few supply is.small)) (e ∙ parts-supply word supply is f)
+-- lists of such numbers are the same where they are spelled alike
+pub numbers-same : (low high : ℕ) (xs ys : List ℕ) → high < 2 ^ 64 → AreNumbers low high xs → AreNumbers low high ys → comma_list xs ≡ comma_list ys → xs ≡ ys
+numbers-same low high xs ys small are others e =
+    decimals-same xs ys (small-numbers low high xs small are.within) (small-numbers low high ys small others.within)
+    (sym (parts-numbers low high (comma_list xs) xs small are refl) ∙ parts-numbers low high (comma_list xs) ys small others e)
 
 -- what the supplies give are the supplies
 pub goods-are : (supplies goods : List ℕ) → Ok goods ≡ supply_of supplies → goods ≡ supplies
@@ -178,3 +192,7 @@ goods-are supplies goods e = by-none (nat_eq (length supplies) 0) e
     by-none : (b : Bool) → Ok goods ≡ cond b (Err NoGoods) (cond (nat_lt 6 (length supplies)) (Err (TooManyGoods (length supplies))) (supply_with (position (λ s. nat_eq s 0) supplies) supplies)) → goods ≡ supplies
     by-none true f = absurd (cc)
     by-none false f = by-many (nat_lt 6 (length supplies)) f
+
+-- numbers of which one more was read
+pub made-numbers : (low high : ℕ) (xs new : List ℕ) (n : ℕ) → new ≡ xs ++ n ∷ [] → length new ≤ 6 → AllByRecursion (IsRange low high) new → AreNumbers low high new
+made-numbers low high xs new n e few all = record { at_least_one = (let l = ap length e ∙ length-append xs (n ∷ []) in omega (arith, l)); at_most_six = few; within = all }

@@ -6,15 +6,15 @@ use Rattle.clap.specs.Matches.{first_value}
 use Rattle.clap.specs.declared.parser.matches.Found.{Found}
 use Rattle.lot_base.specs.declared.auction_terms.Terms.{Terms}
 use Rattle.command_line.specs.Positionals.{AreNamed}
-use Rattle.command_line.specs.Spellings.{AreTermWords, IsBidWords, IsCheck, IsFold, IsMakeWords, IsMigrate, IsServeWords, IsSettle, IsStanding, IsTrialWords}
+use Rattle.command_line.specs.Spellings.{AreTermWords, IsBidWords, IsCheck, IsExplain, IsFloatWords, IsFold, IsJudgeWords, IsMakeWords, IsMigrate, IsServeWords, IsSettle, IsStanding, IsTrialWords}
 use Rattle.lot_base.specs.Goods.{IsRange}
 use Rattle.command_line.specs.Arguments.{AreArguments, HasFlag, IsNumberOption}
 use Rattle.command_line.specs.Givens.{IsBidOf, IsMigrateOf, bid_ids, migrate_ids}
 use Rattle.command_line.specs.Parts.{Bidding, Serving}
-use Rattle.command_line.proofs.CommandKinds.{bid, make, migrate, of-name, serve, settle, trial}
+use Rattle.command_line.proofs.CommandKinds.{bid, float, judge, make, migrate, of-name, serve, settle, trial}
 use Rattle.command_line.proofs.Parting.{same-arguments}
 use Rattle.command_line.specs.Commands.{Command, IsNoCommand, IsParted, Spells}
-use Rattle.command_line.specs.Words.{IsPlainWord}
+use Rattle.command_line.specs.Words.{AreNumbers, IsPlainWord, comma_list}
 
 pub record IsOneWord (f : Found) (a : List ℕ) (words : List (List ℕ)) : Type 0 where
   pub word : List ℕ
@@ -126,6 +126,32 @@ named-some f (id ∷ ids) (word ∷ words) is = (there (first_value f id) word i
 other-plain : (name : List ℕ) (behind plain words options : List (List ℕ)) → plain ≡ words → AreArguments name behind plain options → AreArguments name behind words options
 other-plain name behind plain words options e are = let P : List (List ℕ) → Type 0 = λ ws. AreArguments name behind ws options in subst P e are
 
+pub spells-explain : (f : Found) (auction journals : List ℕ) (words : List (List ℕ)) → AreNamed f (codes "AUCTION" ∷ codes "JOURNALS" ∷ []) words → first_value f (codes "AUCTION") ≡ Some auction → first_value f (codes "JOURNALS") ≡ Some journals
+    → AllByRecursion IsPlainWord words → IsExplain auction journals (codes "explain" ∷ words)
+spells-explain f auction journals words named auction_is journals_are plain =
+    let same = named-same f (codes "AUCTION" ∷ codes "JOURNALS" ∷ []) words (auction ∷ journals ∷ []) named (auction_is, (journals_are, tt)) in
+    let P : List (List ℕ) → Type 0 = λ ws. AllByRecursion IsPlainWord ws in
+    let all = subst P same plain in
+    record { words_are = ap (λ ws. codes "explain" ∷ ws) same; auction_is = all.0; journals_are = all.1.0 }
+
+pub spells-judge : (f : Found) (auction journals word : List ℕ) (bidder : ℕ) (words : List (List ℕ)) → AreNamed f (codes "AUCTION" ∷ codes "JOURNALS" ∷ codes "BIDDER" ∷ []) words
+    → first_value f (codes "AUCTION") ≡ Some auction → first_value f (codes "JOURNALS") ≡ Some journals → first_value f (codes "BIDDER") ≡ Some word → word ≡ decimal bidder → IsRange 1 12 bidder
+    → AllByRecursion IsPlainWord words → IsJudgeWords auction journals bidder (codes "judge" ∷ words)
+spells-judge f auction journals word bidder words named auction_is journals_are word_is digits range plain =
+    let same = named-same f (codes "AUCTION" ∷ codes "JOURNALS" ∷ codes "BIDDER" ∷ []) words (auction ∷ journals ∷ decimal bidder ∷ []) named (auction_is, (journals_are, (word_is ∙ ap Some digits, tt))) in
+    let P : List (List ℕ) → Type 0 = λ ws. AllByRecursion IsPlainWord ws in
+    let all = subst P same plain in
+    record { words_are = ap (λ ws. codes "judge" ∷ ws) same; auction_is = all.0; journals_are = all.1.0; bidder_is = range }
+
+pub spells-float : (f : Found) (auction values word start : List ℕ) (words : List (List ℕ)) → AreNamed f (codes "AUCTION" ∷ codes "VALUES" ∷ codes "START" ∷ []) words
+    → first_value f (codes "AUCTION") ≡ Some auction → first_value f (codes "VALUES") ≡ Some values → first_value f (codes "START") ≡ Some word → word ≡ comma_list start → AreNumbers 0 10000 start
+    → AllByRecursion IsPlainWord words → IsFloatWords auction values start (codes "float" ∷ words)
+spells-float f auction values word start words named auction_is values_are word_is list numbers plain =
+    let same = named-same f (codes "AUCTION" ∷ codes "VALUES" ∷ codes "START" ∷ []) words (auction ∷ values ∷ comma_list start ∷ []) named (auction_is, (values_are, (word_is ∙ ap Some list, tt))) in
+    let P : List (List ℕ) → Type 0 = λ ws. AllByRecursion IsPlainWord ws in
+    let all = subst P same plain in
+    record { words_are = ap (λ ws. codes "float" ∷ ws) same; auction_is = all.0; values_are = all.1.0; start_is = numbers }
+
 pub spells-settle : (f : Found) (auction journals : List ℕ) (json : Bool) (line words options : List (List ℕ)) → AreNamed f (codes "AUCTION" ∷ codes "JOURNALS" ∷ []) words → first_value f (codes "AUCTION") ≡ Some auction → first_value f (codes "JOURNALS") ≡ Some journals
     → IsParted line (codes "settle") words options → HasFlag (codes "--json") options json → IsSettle auction journals json line
 spells-settle f auction journals json line words options named auction_is journals_are parted flag =
@@ -210,6 +236,40 @@ spells-migrate f command words named is plain =
     })
 
 -- words of which the first is the name of a command, and the others are not what it takes
+
+-- the third of three words
+third-word : (f : Found) (a b c word first second third : List ℕ) (words : List (List ℕ)) → AreNamed f (a ∷ b ∷ c ∷ []) words → first_value f c ≡ Some word → words ≡ first ∷ second ∷ third ∷ [] → word ≡ third
+third-word f a b c word first second third words named is are =
+    let P : List (List ℕ) → Type 0 = λ ws. AreNamed f (a ∷ b ∷ c ∷ []) ws in
+    same-word (first_value f c) word third is (subst P are named).1.1.0
+
+pub no-judge : (words : List (List ℕ)) → ((auction journals : List ℕ) (bidder : ℕ) → IsRange 1 12 bidder → words ≡ auction ∷ journals ∷ decimal bidder ∷ [] → ⊥) → IsNoCommand (codes "judge" ∷ words)
+no-judge words none = λ command is.
+    let o = of-name command (codes "judge" ∷ words) (codes "judge") words judge is refl refl in
+    let P : Command → Type 0 = λ c. Spells c (codes "judge" ∷ words) in
+    let it : IsJudgeWords o.0 o.1 o.2 (codes "judge" ∷ words) = subst P o.3 is in
+    let e : codes "judge" ∷ words ≡ codes "judge" ∷ o.0 ∷ o.1 ∷ decimal o.2 ∷ [] = it.words_are in
+    none o.0 o.1 o.2 it.bidder_is cc
+
+-- the third word is none of a bidder
+pub no-number : (f : Found) (word : List ℕ) (words : List (List ℕ)) → AreNamed f (codes "AUCTION" ∷ codes "JOURNALS" ∷ codes "BIDDER" ∷ []) words → first_value f (codes "BIDDER") ≡ Some word
+    → ((n : ℕ) → 1 ≤ n → n ≤ 12 → word ≡ decimal n → ⊥) → IsNoCommand (codes "judge" ∷ words)
+no-number f word words named is none = no-judge words (λ auction journals bidder range are.
+    none bidder range.at_least range.at_most (third-word f (codes "AUCTION") (codes "JOURNALS") (codes "BIDDER") word auction journals (decimal bidder) words named is are))
+
+pub no-float : (words : List (List ℕ)) → ((auction values start : List ℕ) → AreNumbers 0 10000 start → words ≡ auction ∷ values ∷ comma_list start ∷ [] → ⊥) → IsNoCommand (codes "float" ∷ words)
+no-float words none = λ command is.
+    let o = of-name command (codes "float" ∷ words) (codes "float") words float is refl refl in
+    let P : Command → Type 0 = λ c. Spells c (codes "float" ∷ words) in
+    let it : IsFloatWords o.0 o.1 o.2 (codes "float" ∷ words) = subst P o.3 is in
+    let e : codes "float" ∷ words ≡ codes "float" ∷ o.0 ∷ o.1 ∷ comma_list o.2 ∷ [] = it.words_are in
+    none o.0 o.1 o.2 it.start_is cc
+
+-- the third word lists no prices
+pub no-list : (f : Found) (word : List ℕ) (words : List (List ℕ)) → AreNamed f (codes "AUCTION" ∷ codes "VALUES" ∷ codes "START" ∷ []) words → first_value f (codes "START") ≡ Some word
+    → ((prices : List ℕ) → AreNumbers 0 10000 prices → word ≡ comma_list prices → ⊥) → IsNoCommand (codes "float" ∷ words)
+no-list f word words named is none = no-float words (λ auction values start numbers are.
+    none start numbers (third-word f (codes "AUCTION") (codes "VALUES") (codes "START") word auction values (comma_list start) words named is are))
 
 pub no-settle : (line plain options : List (List ℕ)) → IsParted line (codes "settle") plain options → ((auction journals : List ℕ) (json : Bool) → plain ≡ auction ∷ journals ∷ [] → HasFlag (codes "--json") options json → ⊥) → IsNoCommand line
 no-settle line plain options parted none = λ command is.

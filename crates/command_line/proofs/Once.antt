@@ -1,19 +1,19 @@
 -- Words are one command at most. A row for each command, and none for two.
-use Rattle.std.proofs.Common.{◌≡◌, ◌∙◌, ℕ, Bool, List, [], ◌∷◌, refl, sym, ap, subst, arith, decimal}
+use Rattle.std.proofs.Common.{◌≡◌, ◌∙◌, ℕ, Bool, List, [], ◌∷◌, sym, ap, subst, arith, decimal}
 use Rattle.std.proofs.lemmas.Fmt.{decimal_injective}
 use Rattle.std.proofs.Props.{props}
 use Rattle.lot_base.specs.Goods.{IsOpening, IsRange, IsSupply, zeros}
 use Rattle.std.specs.Prelude.{codes}
 use Rattle.lot_base.specs.declared.auction_terms.Terms.{Terms}
-use Rattle.command_line.specs.Spellings.{IsBidWords, IsCheck, IsFold, IsMakeWords, IsMigrate, IsServeWords, IsSettle, IsStanding, IsTrialWords}
-use Rattle.command_line.specs.Commands.{Bid, Check, Command, Fold, Make, Migrate, Serve, Settle, Spells, Standing, Trial}
+use Rattle.command_line.specs.Spellings.{IsBidWords, IsCheck, IsExplain, IsFloatWords, IsFold, IsJudgeWords, IsMakeWords, IsMigrate, IsServeWords, IsSettle, IsStanding, IsTrialWords}
+use Rattle.command_line.specs.Commands.{Bid, Check, Command, Explain, Float, Fold, Judge, Make, Migrate, Serve, Settle, Spells, Standing, Trial}
 use Rattle.command_line.specs.Arguments.{HasFlag}
 use Rattle.command_line.specs.Parts.{Bidding, Serving}
 use Rattle.command_line.proofs.CommandKinds.{same-kind}
 use Rattle.command_line.proofs.Parting.{same-arguments}
 use Rattle.command_line.proofs.OptionWords.{flag-once, same-number}
 use Rattle.command_line.specs.Words.{comma_list}
-use Rattle.command_line.proofs.Commas.{decimals-same, parts-supply, small-enough, supplies-few}
+use Rattle.command_line.proofs.Commas.{numbers-same, supply-numbers}
 
 supply-one : (supply : List ℕ) (s r : IsSupply supply) → s ≡ r
 supply-one supply = hlevel props
@@ -65,10 +65,6 @@ terms-same t u g b c v o =
     (subst (λ prices. F t.goods t.bidders t.ceiling t.version prices) o start)))) in
     same u.supply u.bidders_in_range u.ceiling_in_range u.version_in_range u.opens u.first_opens_at_zero
 
-goods-same : (s t : List ℕ) → IsSupply s → IsSupply t → comma_list s ≡ comma_list t → s ≡ t
-goods-same s t is it e =
-    decimals-same s t (small-enough s (supplies-few s is.small)) (small-enough t (supplies-few t it.small)) (sym (parts-supply (comma_list s) s is refl) ∙ parts-supply (comma_list s) t it e)
-
 pub record SameWords (t u : Terms) (log name : List ℕ) : Type 0 where
   pub same_terms : t ≡ u
   pub same_log : log ≡ name
@@ -80,7 +76,7 @@ fold-once t u log name words is it =
     let b : decimal t.bidders ≡ decimal u.bidders = cc in
     let c : decimal t.ceiling ≡ decimal u.ceiling = cc in
     let l : log ≡ name = cc in
-    let goods = goods-same t.goods u.goods t.supply u.supply g in
+    let goods = numbers-same 1 2047 t.goods u.goods (omega arith) (supply-numbers t.goods t.supply) (supply-numbers u.goods u.supply) g in
     record {
       same_terms = terms-same t u goods
           (decimal_injective t.bidders u.bidders (let r = t.bidders_in_range.at_most in omega arith) (let r = u.bidders_in_range.at_most in omega arith) b)
@@ -100,6 +96,22 @@ standing-once one prefix other journals words is it =
     let j : prefix ≡ journals = cc in
     λ i. Standing (a i) (j i)
 
+explain-once : (one prefix other journals : List ℕ) (words : List (List ℕ)) → IsExplain one prefix words → IsExplain other journals words → Explain one prefix ≡ Explain other journals
+explain-once one prefix other journals words is it =
+    let e : codes "explain" ∷ one ∷ prefix ∷ [] ≡ codes "explain" ∷ other ∷ journals ∷ [] = sym is.words_are ∙ it.words_are in
+    let a : one ≡ other = cc in
+    let j : prefix ≡ journals = cc in
+    λ i. Explain (a i) (j i)
+
+judge-once : (one prefix other journals : List ℕ) (n m : ℕ) (words : List (List ℕ)) → IsJudgeWords one prefix n words → IsJudgeWords other journals m words → Judge one prefix n ≡ Judge other journals m
+judge-once one prefix other journals n m words is it =
+    let e : codes "judge" ∷ one ∷ prefix ∷ decimal n ∷ [] ≡ codes "judge" ∷ other ∷ journals ∷ decimal m ∷ [] = sym is.words_are ∙ it.words_are in
+    let a : one ≡ other = cc in
+    let j : prefix ≡ journals = cc in
+    let d : decimal n ≡ decimal m = cc in
+    let b : n ≡ m = decimal_injective n m (let f = is.bidder_is.at_most in omega arith) (let f = it.bidder_is.at_most in omega arith) d in
+    λ i. Judge (a i) (j i) (b i)
+
 settle-once : (one prefix other journals : List ℕ) (given json : Bool) (words : List (List ℕ)) → IsSettle one prefix given words → IsSettle other journals json words → Settle one prefix given ≡ Settle other journals json
 settle-once one prefix other journals given json words is it =
     let same = same-arguments (codes "settle") words is.behind it.behind (one ∷ prefix ∷ []) is.options (other ∷ journals ∷ []) it.options is.words_are it.words_are is.arguments it.arguments in
@@ -118,6 +130,15 @@ trial-once one values other valuations n m words is it =
     let v : values ≡ valuations = cc in
     let w : n ≡ m = same-number (codes "--workers=") 1 64 1 n m is.options it.options (omega arith) same.options_same is.workers_are it.workers_are in
     λ i. Trial (a i) (v i) (w i)
+
+float-once : (one values other valuations start prices : List ℕ) (words : List (List ℕ)) → IsFloatWords one values start words → IsFloatWords other valuations prices words → Float one values start ≡ Float other valuations prices
+float-once one values other valuations start prices words is it =
+    let e : codes "float" ∷ one ∷ values ∷ comma_list start ∷ [] ≡ codes "float" ∷ other ∷ valuations ∷ comma_list prices ∷ [] = sym is.words_are ∙ it.words_are in
+    let a : one ≡ other = cc in
+    let v : values ≡ valuations = cc in
+    let d : comma_list start ≡ comma_list prices = cc in
+    let p : start ≡ prices = numbers-same 0 10000 start prices (omega arith) is.start_is it.start_is d in
+    λ i. Float (a i) (v i) (p i)
 
 make-once : (one other n m : ℕ) (words : List (List ℕ)) → IsMakeWords one n words → IsMakeWords other m words → Make one n ≡ Make other m
 make-once one other n m words is it =
@@ -177,6 +198,14 @@ spelled-once (Standing auction journals) other words is it =
     let o = same-kind (Standing auction journals) other words is it in
     let P : Command → Type 0 = λ c. Spells c words in
     standing-once auction journals o.0 o.1 words is (subst P o.2 it) ∙ sym o.2
+spelled-once (Explain auction journals) other words is it =
+    let o = same-kind (Explain auction journals) other words is it in
+    let P : Command → Type 0 = λ c. Spells c words in
+    explain-once auction journals o.0 o.1 words is (subst P o.2 it) ∙ sym o.2
+spelled-once (Judge auction journals bidder) other words is it =
+    let o = same-kind (Judge auction journals bidder) other words is it in
+    let P : Command → Type 0 = λ c. Spells c words in
+    judge-once auction journals o.0 o.1 bidder o.2 words is (subst P o.3 it) ∙ sym o.3
 spelled-once (Settle auction journals json) other words is it =
     let o = same-kind (Settle auction journals json) other words is it in
     let P : Command → Type 0 = λ c. Spells c words in
@@ -185,6 +214,10 @@ spelled-once (Trial auction values workers) other words is it =
     let o = same-kind (Trial auction values workers) other words is it in
     let P : Command → Type 0 = λ c. Spells c words in
     trial-once auction values o.0 o.1 workers o.2 words is (subst P o.3 it) ∙ sym o.3
+spelled-once (Float auction values start) other words is it =
+    let o = same-kind (Float auction values start) other words is it in
+    let P : Command → Type 0 = λ c. Spells c words in
+    float-once auction values o.0 o.1 start o.2 words is (subst P o.3 it) ∙ sym o.3
 spelled-once (Make number workers) other words is it =
     let o = same-kind (Make number workers) other words is it in
     let P : Command → Type 0 = λ c. Spells c words in

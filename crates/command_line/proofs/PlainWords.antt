@@ -1,17 +1,16 @@
 -- Words none of which is empty or begins as an option does, and the words of commands.
-use Rattle.std.proofs.Common.{◌≡◌, ◌<◌, ◌^◌, ◌++◌, ◌∙◌, ℕ, suc, true, false, List, [], ◌∷◌, length, refl, sym, subst, arith, inl, inr, ap, Option, Some, None, Ok, Err}
+use Rattle.std.proofs.Common.{◌≡◌, ◌<◌, ◌^◌, ◌++◌, ◌∙◌, ℕ, suc, true, false, List, [], ◌∷◌, length, refl, sym, subst, arith, ap, Option, Some, None, Ok, Err}
 use Rattle.std.specs.Borrow.{Bor}
 use Rattle.std.specs.Prelude.{All, IfOk, IfSome, Result, codes, decimal}
 use Rattle.std.specs.Char.{is_ascii_digit}
 use Rattle.std.specs.List.{AllByRecursion, list_all}
 use Rattle.std.proofs.lemmas.Fmt.{decimal_nonempty}
 use Rattle.std.proofs.lemmas.List.Elements.{All-nil, All-cons}
-use Rattle.lot_base.specs.Goods.{IsSupply}
 use Rattle.command_line.specs.Arguments.{AreArguments, flags_of, is_argument, joined, others_in, plain_in, valued_of}
-use Rattle.command_line.specs.Commands.{Bid, Check, Command, Fold, Make, Migrate, Serve, Settle, Standing, Trial, IsJoined, IsName, IsNoCommand, IsParted, IsReady, MayBeCommand, Spells}
+use Rattle.command_line.specs.Commands.{Bid, Check, Command, Explain, Float, Fold, Judge, Make, Migrate, Serve, Settle, Standing, Trial, IsJoined, IsName, IsNoCommand, IsParted, IsReady, MayBeCommand, Spells}
 use Rattle.command_line.specs.Positionals.{texts}
-use Rattle.command_line.specs.Words.{IsPlainWord, comma_list}
-use Rattle.command_line.proofs.Commas.{supplies-few}
+use Rattle.command_line.specs.Words.{AreNumbers, IsPlainWord, comma_list}
+use Rattle.command_line.proofs.Commas.{small-numbers, supply-numbers}
 use Rattle.command_line.proofs.Decimals.{both, decimal-digits, digit-range}
 use Rattle.command_line.proofs.OptionWords.{number-range}
 use Rattle.command_line.proofs.Parting.{no-option, plain-known}
@@ -39,10 +38,10 @@ front-plain : (word more : List ℕ) → IsPlainWord word → IsPlainWord (word 
 front-plain [] more plain = absurd plain
 front-plain (byte ∷ bytes) more plain = plain
 
-comma-plain : (supply : List ℕ) → IsSupply supply → IsPlainWord (comma_list supply)
-comma-plain [] is = absurd (let s = is.some_good in omega arith)
-comma-plain (n ∷ []) is = decimal-plain n (let few = supplies-few (n ∷ []) is.small in let f = few.0 in omega arith)
-comma-plain (n ∷ m ∷ ns) is = front-plain (decimal n) (44 ∷ comma_list (m ∷ ns)) (decimal-plain n (let few = supplies-few (n ∷ m ∷ ns) is.small in let f = few.0 in omega arith))
+comma-plain : (low high : ℕ) (ns : List ℕ) → high < 2 ^ 64 → AreNumbers low high ns → IsPlainWord (comma_list ns)
+comma-plain low high [] small are = absurd (let s = are.at_least_one in omega arith)
+comma-plain low high (n ∷ []) small are = decimal-plain n (small-numbers low high (n ∷ []) small are.within).0
+comma-plain low high (n ∷ m ∷ ns) small are = front-plain (decimal n) (44 ∷ comma_list (m ∷ ns)) (decimal-plain n (small-numbers low high (n ∷ m ∷ ns) small are.within).0)
 
 -- words of which the first names a command, and the others are plain
 parted-plain : (name : List ℕ) (behind words : List (List ℕ)) → words ≡ name ∷ behind → IsName name → joined name behind ≡ behind → AllByRecursion IsPlainWord behind → MayBeCommand words
@@ -71,18 +70,24 @@ pub command-parted : (command : Command) (words : List (List ℕ)) → Spells co
 command-parted (Fold terms log) words is =
     let b = terms.bidders_in_range.at_most in
     let c = terms.ceiling_in_range.at_most in
-    parted-plain (codes "fold") (comma_list terms.goods ∷ decimal terms.bidders ∷ decimal terms.ceiling ∷ log ∷ []) words is.words_are (inl refl) refl
-    (comma-plain terms.goods terms.supply, (decimal-plain terms.bidders (omega arith), (decimal-plain terms.ceiling (omega arith), (is.log_is, tt))))
-command-parted (Check auction) words is = parted-plain (codes "check") (auction ∷ []) words is.words_are (inr (inl refl)) refl (is.auction_is, tt)
-command-parted (Standing auction journals) words is = parted-plain (codes "standing") (auction ∷ journals ∷ []) words is.words_are (inr (inr (inl refl))) refl (is.auction_is, (is.journals_are, tt))
-command-parted (Settle auction journals json) words is = with-arguments (codes "settle") is.behind (auction ∷ journals ∷ []) is.options words is.words_are (inr (inr (inr (inl refl)))) is.arguments
-command-parted (Trial auction values workers) words is = with-arguments (codes "trial") is.behind (auction ∷ values ∷ []) is.options words is.words_are (inr (inr (inr (inr (inl refl))))) is.arguments
-command-parted (Make number workers) words is = with-arguments (codes "make") is.behind (decimal number ∷ []) is.options words is.words_are (inr (inr (inr (inr (inr (inl refl)))))) is.arguments
-command-parted (Serve auction journals s) words is = with-arguments (codes "serve") is.behind (auction ∷ journals ∷ s.address ∷ []) is.options words is.words_are (inr (inr (inr (inr (inr (inr (inl refl))))))) is.arguments
+    parted-plain (codes "fold") (comma_list terms.goods ∷ decimal terms.bidders ∷ decimal terms.ceiling ∷ log ∷ []) words is.words_are refl refl
+    (comma-plain 1 2047 terms.goods (omega arith) (supply-numbers terms.goods terms.supply), (decimal-plain terms.bidders (omega arith), (decimal-plain terms.ceiling (omega arith), (is.log_is, tt))))
+command-parted (Check auction) words is = parted-plain (codes "check") (auction ∷ []) words is.words_are refl refl (is.auction_is, tt)
+command-parted (Standing auction journals) words is = parted-plain (codes "standing") (auction ∷ journals ∷ []) words is.words_are refl refl (is.auction_is, (is.journals_are, tt))
+command-parted (Explain auction journals) words is = parted-plain (codes "explain") (auction ∷ journals ∷ []) words is.words_are refl refl (is.auction_is, (is.journals_are, tt))
+command-parted (Judge auction journals bidder) words is =
+    let b = is.bidder_is.at_most in
+    parted-plain (codes "judge") (auction ∷ journals ∷ decimal bidder ∷ []) words is.words_are refl refl (is.auction_is, (is.journals_are, (decimal-plain bidder (omega arith), tt)))
+command-parted (Settle auction journals json) words is = with-arguments (codes "settle") is.behind (auction ∷ journals ∷ []) is.options words is.words_are refl is.arguments
+command-parted (Trial auction values workers) words is = with-arguments (codes "trial") is.behind (auction ∷ values ∷ []) is.options words is.words_are refl is.arguments
+command-parted (Float auction values start) words is =
+    parted-plain (codes "float") (auction ∷ values ∷ comma_list start ∷ []) words is.words_are refl refl (is.auction_is, (is.values_are, (comma-plain 0 10000 start (omega arith) is.start_is, tt)))
+command-parted (Make number workers) words is = with-arguments (codes "make") is.behind (decimal number ∷ []) is.options words is.words_are refl is.arguments
+command-parted (Serve auction journals s) words is = with-arguments (codes "serve") is.behind (auction ∷ journals ∷ s.address ∷ []) is.options words is.words_are refl is.arguments
 command-parted (Bid auction values b) words is =
-    with-arguments (codes "bid") is.behind (auction ∷ values ∷ decimal b.bidder ∷ b.token ∷ b.address ∷ []) is.options words is.words_are (inr (inr (inr (inr (inr (inr (inr (inl refl)))))))) is.arguments
+    with-arguments (codes "bid") is.behind (auction ∷ values ∷ decimal b.bidder ∷ b.token ∷ b.address ∷ []) is.options words is.words_are refl is.arguments
 command-parted (Migrate old journals new target) words is =
-    parted-plain (codes "migrate") (old ∷ journals ∷ new ∷ target ∷ []) words is.words_are (inr (inr (inr (inr (inr (inr (inr (inr refl)))))))) refl (is.old_is, (is.journals_are, (is.new_is, (is.target_is, tt))))
+    parted-plain (codes "migrate") (old ∷ journals ∷ new ∷ target ∷ []) words is.words_are refl refl (is.old_is, (is.journals_are, (is.new_is, (is.target_is, tt))))
 
 pub no-words : (command : Command) (words : List (List ℕ)) → words ≡ [] → Spells command words → ⊥
 no-words command words none is = let m = command-parted command words is in let bad : [] ≡ m.name ∷ m.parted.behind = sym none ∙ m.parted.words_are in cc
@@ -148,8 +153,11 @@ pub spelled-ready : (command : Command) (words : List (List ℕ)) → Spells com
 spelled-ready (Fold terms log) words is = tt
 spelled-ready (Check auction) words is = tt
 spelled-ready (Standing auction journals) words is = tt
+spelled-ready (Explain auction journals) words is = tt
+spelled-ready (Judge auction journals bidder) words is = tt
 spelled-ready (Settle auction journals json) words is = tt
 spelled-ready (Trial auction values workers) words is = number-range (codes "--workers=") 1 64 1 workers is.options (record { at_least = omega arith; at_most = omega arith }) is.workers_are
+spelled-ready (Float auction values start) words is = tt
 spelled-ready (Make number workers) words is = number-range (codes "--workers=") 1 64 1 workers is.options (record { at_least = omega arith; at_most = omega arith }) is.workers_are
 spelled-ready (Serve auction journals s) words is =
     let doors = number-range (codes "--doors=") 1 64 4 s.doors is.options (record { at_least = omega arith; at_most = omega arith }) is.doors_are in

@@ -1,5 +1,5 @@
 -- The command that the words which were read stand for.
-use Rattle.command_line.specs.Commands.{Command, Fold, Check, Standing, Settle, Trial, Make, Serve, Bid, Migrate}
+use Rattle.command_line.specs.Commands.{Command, Fold, Check, Standing, Explain, Judge, Settle, Trial, Float, Make, Serve, Bid, Migrate}
 use Rattle.command_line.specs.Parts as parts
 use Rattle.command_line.specs.declared.words.Serving.{Serving}
 use Rattle.command_line.specs.declared.words.Bidding.{Bidding}
@@ -16,8 +16,11 @@ abbrev pub command_as : CommandWords → Command
 command_as (read.Fold terms log) = Fold terms log.now
 command_as (read.Check auction) = Check auction.now
 command_as (read.Standing auction journals) = Standing auction.now journals.now
+command_as (read.Explain auction journals) = Explain auction.now journals.now
+command_as (read.Judge auction journals bidder) = Judge auction.now journals.now bidder
 command_as (read.Settle auction journals json) = Settle auction.now journals.now json
 command_as (read.Trial auction values workers) = Trial auction.now values.now workers
+command_as (read.Float auction values start) = Float auction.now values.now start
 command_as (read.Make number workers) = Make number workers
 command_as (read.Serve auction journals serving) = Serve auction.now journals.now (serving_as serving)
 command_as (read.Bid auction values bidding) = Bid auction.now values.now (bidding_as bidding)

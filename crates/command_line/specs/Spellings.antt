@@ -1,11 +1,11 @@
 -- The words of each command.
 use Rattle.std.specs.Prelude.{◌≡◌, ◌≢◌, ◌<◌, ◌^◌, ℕ, Bool, List, [], ◌∷◌, codes, decimal, length}
-use Rattle.lot_base.specs.declared.limits.TheConstants.{MOST_DOORS, MOST_SESSIONS}
+use Rattle.lot_base.specs.declared.limits.TheConstants.{GREATEST_CEILING, MOST_DOORS, MOST_SESSIONS}
 use Rattle.lot_base.specs.Goods.{IsRange}
 use Rattle.lot_base.specs.declared.auction_terms.Terms.{Terms}
 use Rattle.command_line.specs.Arguments.{AreArguments, HasFlag, IsNumberOption}
 use Rattle.command_line.specs.Parts.{Bidding, Serving}
-use Rattle.command_line.specs.Words.{IsPlainWord, comma_list}
+use Rattle.command_line.specs.Words.{AreNumbers, IsPlainWord, comma_list}
 
 -- the words of the terms, which are of the first version: the supply of each good joined by commas, the number of bidders, the
 -- ceiling
@@ -32,6 +32,19 @@ pub record IsStanding (auction journals : List ℕ) (words : List (List ℕ)) : 
   pub auction_is : IsPlainWord auction
   pub journals_are : IsPlainWord journals
 
+-- `explain AUCTION JOURNALS`
+pub record IsExplain (auction journals : List ℕ) (words : List (List ℕ)) : Type 0 where
+  pub words_are : words ≡ codes "explain" ∷ auction ∷ journals ∷ []
+  pub auction_is : IsPlainWord auction
+  pub journals_are : IsPlainWord journals
+
+-- `judge AUCTION JOURNALS BIDDER`
+pub record IsJudgeWords (auction journals : List ℕ) (bidder : ℕ) (words : List (List ℕ)) : Type 0 where
+  pub words_are : words ≡ codes "judge" ∷ auction ∷ journals ∷ decimal bidder ∷ []
+  pub auction_is : IsPlainWord auction
+  pub journals_are : IsPlainWord journals
+  pub bidder_is : IsRange 1 12 bidder
+
 -- `settle AUCTION JOURNALS [--json]`
 pub record IsSettle (auction journals : List ℕ) (json : Bool) (words : List (List ℕ)) : Type 0 where
   pub behind : List (List ℕ)
@@ -47,6 +60,13 @@ pub record IsTrialWords (auction values : List ℕ) (workers : ℕ) (words : Lis
   pub words_are : words ≡ codes "trial" ∷ behind
   pub arguments : AreArguments (codes "trial") behind (auction ∷ values ∷ []) options
   pub workers_are : IsNumberOption (codes "--workers=") 1 64 1 workers options
+
+-- `float AUCTION VALUES START`: the price of each good at the start, joined by commas
+pub record IsFloatWords (auction values start : List ℕ) (words : List (List ℕ)) : Type 0 where
+  pub words_are : words ≡ codes "float" ∷ auction ∷ values ∷ comma_list start ∷ []
+  pub auction_is : IsPlainWord auction
+  pub values_are : IsPlainWord values
+  pub start_is : AreNumbers 0 GREATEST_CEILING start
 
 -- `make NUMBER [--workers N]`
 pub record IsMakeWords (number workers : ℕ) (words : List (List ℕ)) : Type 0 where

@@ -1,8 +1,8 @@
 //! The words behind a command's name: plain words, and the command's options.
-ghost use Rattle.std.specs.Prelude.{◌≡◌, ◌<◌, ◌↔◌, ◌∷◌, All, IsTrue, length, string_bytes, true, IfOk, IfErr, IfSome, IfNone};
+ghost use Rattle.std.specs.Prelude.{◌≡◌, ◌<◌, ◌∷◌, All, length, string_bytes, true, IfOk, IfErr, IfSome, IfNone};
 ghost use Rattle.std.specs.List.{list_all};
 ghost use Rattle.command_line.specs.Arguments.{begins, flags_of, is_among, is_argument, is_option, joined, others_in, plain_in, takes, valued_of, with_value};
-ghost use Rattle.command_line.specs.Commands.{IsJoined, IsName, IsNoCommand, MayBeCommand};
+ghost use Rattle.command_line.specs.Commands.{IsJoined, IsNoCommand, MayBeCommand, command_names};
 ghost use Rattle.command_line.specs.Positionals.{texts};
 ghost use Rattle.command_line.specs.Words.{IsPlainWord, is_plain, words_of};
 
@@ -65,11 +65,22 @@ fn join_behind<'a>(
 
 /// Whether the word is the name of a command.
 fn is_name(word: &str) -> bool
-    ensures { IsTrue result ↔ IsName word.now }
+    ensures { result ≡ is_among word.now command_names }
 {
     matches!(
         word,
-        "fold" | "check" | "standing" | "settle" | "trial" | "make" | "serve" | "bid" | "migrate"
+        "fold"
+            | "check"
+            | "standing"
+            | "explain"
+            | "judge"
+            | "settle"
+            | "trial"
+            | "float"
+            | "make"
+            | "serve"
+            | "bid"
+            | "migrate"
     )
 }
 

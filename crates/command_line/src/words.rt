@@ -1,9 +1,9 @@
 //! Reading the words of the command line.
 ghost use Rattle.std.specs.Prelude.{◌≡◌, ◌<◌, ◌≤◌, ◌∷◌, ◌++◌, ◌⊎◌, ◌==◌, false, [], ℕ, List, codes, decimal, map, length, IfOk, IfSome, IfNone, IsSome, IsTrue, Some, ◌↔◌, All, string_bytes};
 ghost use Rattle.std.specs.List.{list_all, slice_split, AllByRecursion};
-ghost use Rattle.command_line.specs.Words.{IsPlainWord, comma_list, words_of};
+ghost use Rattle.command_line.specs.Words.{AreNumbers, IsPlainWord, comma_list, words_of};
 ghost use Rattle.clap.specs.Words.{first_value, found_of};
-ghost use Rattle.lot_base.specs.declared.limits.TheConstants.{MOST_UNITS};
+ghost use Rattle.lot_base.specs.declared.limits.TheConstants.{GREATEST_CEILING, MOST_GOODS};
 ghost use Rattle.lot_base.specs.Goods.{IsRange, IsSupply};
 ghost use Rattle.command_line.specs.Givens.{IsBidOf, IsMigrateOf, bid_ids, migrate_ids};
 ghost use Rattle.command_line.specs.Commands.{IsNoCommand, IsParted, Spells};
@@ -21,8 +21,8 @@ use lot_base::limits::{
     GREATEST_CEILING, LEAST_CEILING, MOST_BIDDERS, MOST_DOORS, MOST_GOODS, MOST_SESSIONS,
     MOST_UNITS,
 };
-use lot_base::{Goods, NoMemory, Terms};
-use std::alloc::Global;
+use lot_base::{Goods, NoMemory, Prices, Terms};
+use std::alloc::{AllocError, Global};
 
 /// A token has at most so many bytes.
 const LONGEST_TOKEN: usize = 64;
@@ -68,6 +68,17 @@ pub enum CommandWords<'a> {
         auction: &'a str,
         journals: &'a str,
     },
+    /// Why those clocks of an auction that have ended have an award, or none.
+    Explain {
+        auction: &'a str,
+        journals: &'a str,
+    },
+    /// Whether one valuation explains all that this bidder, 1 to 12, has reported.
+    Judge {
+        auction: &'a str,
+        journals: &'a str,
+        bidder: u8,
+    },
     /// What the clocks of an auction settle; `json` where the outcome is written as JSON.
     Settle {
         auction: &'a str,
@@ -80,7 +91,13 @@ pub enum CommandWords<'a> {
         values: &'a str,
         workers: u32,
     },
-    /// The same of a market that a number makes. `workers` is 1 to 64.
+    /// The same, where the prices of the clocks start here, and go up and down. Each is at most 10,000.
+    Float {
+        auction: &'a str,
+        values: &'a str,
+        start: Prices,
+    },
+    /// What `trial` tells, of a market that a number makes. `workers` is 1 to 64.
     Make {
         number: u32,
         workers: u32,
@@ -127,8 +144,11 @@ pub fn read_words<'a>(
         "fold" => read_fold(alloc, plain),
         "check" => read_check(alloc, plain),
         "standing" => read_standing(alloc, plain),
+        "explain" => read_explain(alloc, plain),
+        "judge" => read_judge(alloc, plain),
         "settle" => read_settle(alloc, plain, options),
         "trial" => read_trial(alloc, plain, options),
+        "float" => read_float(alloc, plain),
         "make" => read_make(alloc, plain, options),
         "serve" => read_serve(alloc, plain, options),
         "bid" => read_bid(alloc, plain, options),
@@ -195,6 +215,46 @@ fn read_standing<'a>(
     }
 }
 
+/// The command `explain` of the words behind its name.
+fn read_explain<'a>(
+    alloc: Global,
+    words: &'a [&'a str],
+) -> Result<Option<CommandWords<'a>>, NoMemory>
+    requires { All (λ word. IsPlainWord word.now) words.now }
+    ensures some { IfOk result (λ o. IfSome o (λ command. Spells (command_as command) (codes "explain" ∷ texts words.entry.now))) }
+    ensures none { IfOk result (λ o. IfNone o (IsNoCommand (codes "explain" ∷ texts words.entry.now))) }
+{
+    match named_words(alloc, "explain", &["AUCTION", "JOURNALS"], words) {
+        Ok(Some(matches)) => Ok(Some(CommandWords::Explain {
+            auction: word_of(&matches, "AUCTION"),
+            journals: word_of(&matches, "JOURNALS"),
+        })),
+        Ok(None) => Ok(None),
+        Err(NoMemory) => Err(NoMemory),
+    }
+}
+
+/// The command `judge` of the words behind its name, if the bidder is one of 1 to 12.
+fn read_judge<'a>(alloc: Global, words: &'a [&'a str]) -> Result<Option<CommandWords<'a>>, NoMemory>
+    requires { All (λ word. IsPlainWord word.now) words.now }
+    ensures some { IfOk result (λ o. IfSome o (λ command. Spells (command_as command) (codes "judge" ∷ texts words.entry.now))) }
+    ensures none { IfOk result (λ o. IfNone o (IsNoCommand (codes "judge" ∷ texts words.entry.now))) }
+{
+    let matches = match named_words(alloc, "judge", &["AUCTION", "JOURNALS", "BIDDER"], words) {
+        Ok(Some(matches)) => matches,
+        Ok(None) => return Ok(None),
+        Err(NoMemory) => return Err(NoMemory),
+    };
+    match read_number(word_of(&matches, "BIDDER"), 1, MOST_BIDDERS as u32) {
+        Some(bidder) => Ok(Some(CommandWords::Judge {
+            auction: word_of(&matches, "AUCTION"),
+            journals: word_of(&matches, "JOURNALS"),
+            bidder: bidder as u8,
+        })),
+        None => Ok(None),
+    }
+}
+
 /// The command `settle` of the plain words and the options behind its name.
 fn read_settle<'a>(
     alloc: Global,
@@ -245,6 +305,28 @@ fn read_trial<'a>(
             auction: word_of(&matches, "AUCTION"),
             values: word_of(&matches, "VALUES"),
             workers,
+        })),
+        Ok(None) => Ok(None),
+        Err(NoMemory) => Err(NoMemory),
+    }
+}
+
+/// The command `float` of the words behind its name, if the last one lists prices.
+fn read_float<'a>(alloc: Global, words: &'a [&'a str]) -> Result<Option<CommandWords<'a>>, NoMemory>
+    requires { All (λ word. IsPlainWord word.now) words.now }
+    ensures some { IfOk result (λ o. IfSome o (λ command. Spells (command_as command) (codes "float" ∷ texts words.entry.now))) }
+    ensures none { IfOk result (λ o. IfNone o (IsNoCommand (codes "float" ∷ texts words.entry.now))) }
+{
+    let matches = match named_words(alloc, "float", &["AUCTION", "VALUES", "START"], words) {
+        Ok(Some(matches)) => matches,
+        Ok(None) => return Ok(None),
+        Err(NoMemory) => return Err(NoMemory),
+    };
+    match read_prices(alloc, word_of(&matches, "START")) {
+        Ok(Some(start)) => Ok(Some(CommandWords::Float {
+            auction: word_of(&matches, "AUCTION"),
+            values: word_of(&matches, "VALUES"),
+            start,
         })),
         Ok(None) => Ok(None),
         Err(NoMemory) => Err(NoMemory),
@@ -429,12 +511,34 @@ fn read_terms(
     }
 }
 
+/// The prices that a word lists, joined by commas: those of 1 to 6 goods, each at most 10,000.
+fn read_prices(alloc: Global, word: &str) -> Result<Option<Prices>, NoMemory>
+    ensures some { IfOk result (λ o. IfSome o (λ prices. (word.now ≡ comma_list prices) × AreNumbers 0 GREATEST_CEILING prices)) }
+    ensures none { IfOk result (λ o. IfNone o ((prices : List ℕ) → AreNumbers 0 GREATEST_CEILING prices → word.now ≡ comma_list prices → ⊥)) }
+{
+    match read_numbers(alloc, word, 0, GREATEST_CEILING as u16)? {
+        None => Ok(None),
+        Some(numbers) => Ok(Prices::read(&widened(alloc, &numbers)?)),
+    }
+}
+
+/// The same numbers.
+fn widened(alloc: Global, numbers: &[u16]) -> Result<Vec<u32>, AllocError>
+    ensures { IfOk result (λ wide. wide.items ≡ numbers.now) }
+{
+    let mut wide = Vec::new(alloc);
+    for number in numbers {
+        wide.push(u32::from(*number))?;
+    }
+    Ok(wide)
+}
+
 /// The goods whose supplies a word lists, joined by commas.
 fn read_goods(alloc: Global, word: &str) -> Result<Option<Goods>, NoMemory>
     ensures some { IfOk result (λ o. IfSome o (λ goods. word.now ≡ comma_list goods)) }
     ensures none { IfOk result (λ o. IfNone o ((supply : List ℕ) → IsSupply supply → word.now ≡ comma_list supply → ⊥)) }
 {
-    match read_supplies(alloc, word)? {
+    match read_numbers(alloc, word, 1, MOST_UNITS)? {
         None => Ok(None),
         Some(supplies) => match Goods::new(&supplies) {
             Ok(goods) => Ok(Some(goods)),
@@ -443,41 +547,48 @@ fn read_goods(alloc: Global, word: &str) -> Result<Option<Goods>, NoMemory>
     }
 }
 
-/// The supplies that a word lists, joined by commas: at most six numbers from 1 to 2,047.
-fn read_supplies(alloc: Global, word: &str) -> Result<Option<Vec<u16>>, NoMemory>
-    ensures some { IfOk result (λ o. IfSome o (λ v. map decimal v.items ≡ slice_split (λ b. b == 44) word.now)) }
-    ensures small { IfOk result (λ o. IfSome o (λ v. AllByRecursion (λ n. n ≤ MOST_UNITS) v.items)) }
-    ensures none { IfOk result (λ o. IfNone o ((supply : List ℕ) → IsSupply supply → word.now ≡ comma_list supply → ⊥)) }
+/// The numbers that a word lists, joined by commas: one for each of 1 to 6 goods, each in a range.
+fn read_numbers(
+    alloc: Global,
+    word: &str,
+    low: u16,
+    high: u16,
+) -> Result<Option<Vec<u16>>, NoMemory>
+    ensures some { IfOk result (λ o. IfSome o (λ v. word.now ≡ comma_list v.items)) }
+    ensures numbers { IfOk result (λ o. IfSome o (λ v. AreNumbers low high v.items)) }
+    ensures none { IfOk result (λ o. IfNone o ((numbers : List ℕ) → AreNumbers low high numbers → word.now ≡ comma_list numbers → ⊥)) }
 {
-    let mut supplies = Vec::new(alloc);
+    let mut numbers = Vec::new(alloc);
     let mut rest = word;
     while let Some((piece, behind)) = rest.split_once(',') {
-        if !read_supply(&mut supplies, piece)? {
+        if !read_piece(&mut numbers, piece, low, high)? {
             return Ok(None);
         }
         rest = behind;
     }
-    if !read_supply(&mut supplies, rest)? {
+    if !read_piece(&mut numbers, rest, low, high)? {
         return Ok(None);
     }
-    Ok(Some(supplies))
+    Ok(Some(numbers))
 }
 
-/// Adds the supply that a piece of the list is, and says whether it is one and there was room for it.
-fn read_supply(supplies: &mut Vec<u16>, piece: &str) -> Result<bool, NoMemory>
-    requires { AllByRecursion (λ n. n ≤ MOST_UNITS) supplies.old.items }
-    ensures read { IfOk result (λ b. IsTrue b → (units : ℕ) × (piece.now ≡ decimal units)
-        × (supplies.new.items ≡ supplies.old.items ++ units ∷ [])) }
-    ensures small { IfOk result (λ _. AllByRecursion (λ n. n ≤ MOST_UNITS) supplies.new.items) }
-    ensures refused { IfOk result (λ b. b ≡ false → (6 ≤ length supplies.old.items)
-        ⊎ ((units : ℕ) → 1 ≤ units → units ≤ MOST_UNITS → piece.now ≡ decimal units → ⊥)) }
+/// Adds the number in a range that a piece of the list is, and says whether it is one and there was room for it.
+fn read_piece(numbers: &mut Vec<u16>, piece: &str, low: u16, high: u16) -> Result<bool, NoMemory>
+    requires few { length numbers.old.items ≤ MOST_GOODS }
+    requires within { AllByRecursion (IsRange low high) numbers.old.items }
+    ensures read { IfOk result (λ b. IsTrue b → (number : ℕ) × (piece.now ≡ decimal number)
+        × (numbers.new.items ≡ numbers.old.items ++ number ∷ [])) }
+    ensures few { IfOk result (λ _. length numbers.new.items ≤ MOST_GOODS) }
+    ensures within { IfOk result (λ _. AllByRecursion (IsRange low high) numbers.new.items) }
+    ensures refused { IfOk result (λ b. b ≡ false → (MOST_GOODS ≤ length numbers.old.items)
+        ⊎ ((number : ℕ) → IsRange low high number → piece.now ≡ decimal number → ⊥)) }
 {
-    if supplies.len() >= MOST_GOODS {
+    if numbers.len() >= MOST_GOODS {
         return Ok(false);
     }
-    match read_number(piece, 1, MOST_UNITS as u32) {
-        Some(units) => {
-            supplies.push(units as u16)?;
+    match read_number(piece, u32::from(low), u32::from(high)) {
+        Some(number) => {
+            numbers.push(number as u16)?;
             Ok(true)
         }
         None => Ok(false),

@@ -1,7 +1,7 @@
 -- What a house that was opened and closed comes to at a clock and at its journal.
-use Rattle.std.proofs.Common.{◌≡◌, ◌∙◌, ℕ, Bool, IsTrue, length, map, sym, ap, subst, None}
+use Rattle.std.proofs.Common.{◌≡◌, ◌∙◌, IsTrue, length, map, sym, ap, subst, None}
 use Rattle.house_io.specs.Disks.{DiskShown, is_told, told_moments}
-use Rattle.house_io.specs.Moments.{Leaves, Moments}
+use Rattle.house_io.specs.Moments.{Leaves}
 use Rattle.clock.specs.Reports.{ClockHistory}
 use Rattle.recovery.specs.Journaled.{Owner, owner_of}
 use Rattle.clock_book.specs.Books.{BookOf, BookState, IsKept}

@@ -13,7 +13,7 @@ use Rattle.settlement.specs.declared.outcome.Settlement.TheVariants as settlemen
 use Rattle.clock_book.specs.declared.faults.OpenFault.{OpenFault}
 use Rattle.house_run.specs.Journals.{IsBadJournal}
 use Rattle.house_run.specs.Outcomes.{Settles, SettlesAs}
-use Rattle.house_run.specs.Ends.{AreGood, AreGoodJournals, AreGoodValues, IsJournalIn, MayOpen, CommandEnds, IsDoneOrNoMemory, IsGoodAuction, IsGoodLog, NothingFailed, RunEnds, Wrote, WroteLine, as_seen}
+use Rattle.house_run.specs.Ends.{AreGood, AreGoodJournals, AreGoodValues, CanStart, HasBidder, IsJournalIn, MayOpen, CommandEnds, IsDoneOrNoMemory, IsGoodAuction, IsGoodLog, NothingFailed, RunEnds, Wrote, WroteLine, as_seen}
 use Rattle.report_log.specs.Logs.{IsFaultyAt, log_limit}
 use Rattle.house_run.specs.MoveEnds.{EndsMoving, HasMove, MayReadSecond}
 use Rattle.house_run.specs.Moves.{AreGoodTargets, AreOtherTerms, IsBadTarget, IsFull, IsNotPrefix}
@@ -26,8 +26,9 @@ use Rattle.house_run.specs.declared.ends.Ended.TheVariants as how
 use Rattle.house_run.specs.declared.ends.File.TheVariants as which
 use Rattle.house_run.proofs.Framing.{has}
 use Rattle.house_run.proofs.GoodJournals.{IsOther, no-other, not-bad, other-halted, other-no-award, other-open, read-told, says-told}
-use Rattle.house_run.specs.Markets.{IsBadValues}
+use Rattle.house_run.specs.Markets.{IsBadValues, IsNoBidder, IsOtherCount, StartsOutside}
 use Rattle.house_run.proofs.GoodMarkets.{good-values, not-without}
+use Rattle.house_run.proofs.GoodStarts.{none-outside, right-count, some-bidder}
 use Rattle.house_run.proofs.GoodTargets.{bad-target, no-room, not-front, other-terms}
 use Rattle.report_log.proofs.LogBytes.{no-fault}
 use Rattle.command_line.proofs.Once.{spelled-once}
@@ -80,10 +81,10 @@ record SomeJournal (auction journals : Option (List ℕ)) (files : List NamedFil
   pub journal : Has auction (λ a. Has journals (λ j. IsJournalIn files a j name))
   pub failed : Rose (shelf.faults_before name) (shelf.faults name)
 
-journal-failed : (auction journals : Option (List ℕ)) (clock : ℕ) (files : List NamedFile) (shelf : ShelfSeen) → shelf.files ≡ Some files → Has auction (λ a. Has journals (λ j. JournalFailed a j clock shelf)) → SomeJournal auction journals files shelf
-journal-failed None journals clock files shelf told may = absurd may
-journal-failed (Some auction) None clock files shelf told may = absurd may
-journal-failed (Some auction) (Some journals) clock files shelf told may = record {
+journal-failed : (auction journals : Option (List ℕ)) (bidder : Option ℕ) (clock : ℕ) (files : List NamedFile) (shelf : ShelfSeen) → shelf.files ≡ Some files → Has auction (λ a. Has journals (λ j. JournalFailed a j bidder clock shelf)) → SomeJournal auction journals files shelf
+journal-failed None journals bidder clock files shelf told may = absurd may
+journal-failed (Some auction) None bidder clock files shelf told may = absurd may
+journal-failed (Some auction) (Some journals) bidder clock files shelf told may = record {
   name = journal_name journals clock;
   journal = record { listing = may.listing; says = says-told shelf files auction may.listing told may.auction_is; clock = clock; clock_is = may.clock_is; name_is = refl };
   failed = may.failed;
@@ -98,17 +99,14 @@ not-other s needs shelf files other told may good =
 -- the two ends that are left
 ended-well : (needs : Needs) (seen : Outside) (net : NetSeen) (sink : SinkSeen) (files : List NamedFile) (end : Ended) → MayEnd needs seen end → seen.shelf.files ≡ Some files → AreGood needs files
     → NothingFailed needs files seen net sink → IsDoneOrNoMemory end
-ended-well needs seen net sink files how.Done may told good quiet = absurd may
 ended-well needs seen net sink files how.NoMemory may told good quiet = inr refl
-ended-well needs seen net sink files how.Usage may told good quiet = absurd may
-ended-well needs seen net sink files how.WriteFault may told good quiet = absurd may
 ended-well needs seen net sink files how.ReadFault may told good quiet = absurd (no-failure needs files seen net sink may.name quiet (inl may.source) may.failed)
 ended-well needs seen net sink files (how.DiskFault clock) may told good quiet = absurd (
-    let disk = journal-failed needs.auction needs.journals clock files seen.shelf told may in
+    let disk = journal-failed needs.auction needs.journals needs.bidder clock files seen.shelf told may in
     no-failure needs files seen net sink disk.name quiet (inr (inl disk.journal)) disk.failed)
 ended-well needs seen net sink files (how.BadJournal clock fault) may told good quiet = absurd (
-    let both = both-of-two needs.auction needs.journals (λ a j. IsBadJournal a j clock fault seen.shelf) (λ a j. AreGoodJournals needs.settles files a j) may good.journals in
-    not-bad needs.settles seen.shelf files both.one both.other clock fault told both.first both.second)
+    let both = both-of-two needs.auction needs.journals (λ a j. IsBadJournal a j needs.bidder clock fault seen.shelf) (λ a j. AreGoodJournals needs.settles files a j) may good.journals in
+    not-bad needs.settles seen.shelf files both.one both.other needs.bidder clock fault told both.first both.second)
 ended-well needs seen net sink files (how.Open clock round missing) may told good quiet = absurd (not-other (settlement.Open clock round missing) needs seen.shelf files (other-open clock round missing) told may good)
 ended-well needs seen net sink files (how.NoAward clock) may told good quiet = absurd (not-other (settlement.NoAward clock) needs seen.shelf files (other-no-award clock) told may good)
 ended-well needs seen net sink files (how.Halted clock units) may told good quiet = absurd (not-other (settlement.Halted clock units) needs seen.shelf files (other-halted clock units) told may good)
@@ -132,15 +130,16 @@ ended-well needs seen net sink files (how.NotSubstitutes bidder x y units) may t
 ended-well needs seen net sink files (how.BadLog place) may told good quiet = absurd (
     let both = both-of needs.log _ _ may good.log in
     good-log both.value place seen.shelf files told both.first both.second)
-ended-well needs seen net sink files how.NetFault may told good quiet = absurd may
-ended-well needs seen net sink files (how.Refused code detail value) may told good quiet = absurd may
-ended-well needs seen net sink files (how.LooksSpent clock) may told good quiet = absurd may
-ended-well needs seen net sink files how.BadReply may told good quiet = absurd may
-ended-well needs seen net sink files (how.NoBidder bidder) may told good quiet = absurd may
-ended-well needs seen net sink files how.OtherTerms may told good quiet = absurd may
-ended-well needs seen net sink files (how.NotPrefix clock place) may told good quiet = absurd may
-ended-well needs seen net sink files (how.TargetFull clock needed) may told good quiet = absurd may
-ended-well needs seen net sink files (how.BadTarget clock fault) may told good quiet = absurd may
+ended-well needs seen net sink files (how.NoBidder bidder) may told good quiet = absurd (
+    let both = both-of-two needs.auction needs.bidder (λ a b. IsNoBidder seen.shelf a bidder b) (λ a b. HasBidder files a b) may good.bidder in
+    some-bidder seen.shelf files both.one bidder both.other told both.first both.second)
+ended-well needs seen net sink files (how.StartCount found) may told good quiet = absurd (
+    let both = both-of-two needs.auction needs.start (λ a s. IsOtherCount seen.shelf a found s) (λ a s. CanStart files a s) may good.start in
+    right-count seen.shelf files both.one found both.other told both.first both.second)
+ended-well needs seen net sink files (how.StartRange units value) may told good quiet = absurd (
+    let both = both-of-two needs.auction needs.start (λ a s. StartsOutside seen.shelf a units value s) (λ a s. CanStart files a s) may good.start in
+    none-outside seen.shelf files both.one units value both.other told both.first both.second)
+ended-well needs seen net sink files end may told good quiet = absurd may
 
 -- nor does the net end it
 net-well : (needs : Needs) (seen : Outside) (net : NetSeen) (sink : SinkSeen) (files : List NamedFile) (end : Ended) → EndsOnNet needs seen.shelf net end → NothingFailed needs files seen net sink → ⊥
@@ -148,26 +147,7 @@ net-well needs seen net sink files how.NetFault ends quiet = still net.faults_be
 net-well needs seen net sink files (how.Refused code detail value) ends quiet = quiet.net_well (how.Refused code detail value) (λ e. (let no : ⊥ = cc in no)) ends
 net-well needs seen net sink files (how.LooksSpent clock) ends quiet = quiet.net_well (how.LooksSpent clock) (λ e. (let no : ⊥ = cc in no)) ends
 net-well needs seen net sink files how.BadReply ends quiet = quiet.net_well how.BadReply (λ e. (let no : ⊥ = cc in no)) ends
-net-well needs seen net sink files (how.NoBidder bidder) ends quiet = quiet.net_well (how.NoBidder bidder) (λ e. (let no : ⊥ = cc in no)) ends
-net-well needs seen net sink files how.Done ends quiet = absurd ends
-net-well needs seen net sink files how.NoMemory ends quiet = absurd ends
-net-well needs seen net sink files how.Usage ends quiet = absurd ends
-net-well needs seen net sink files how.ReadFault ends quiet = absurd ends
-net-well needs seen net sink files how.WriteFault ends quiet = absurd ends
-net-well needs seen net sink files (how.DiskFault clock) ends quiet = absurd ends
-net-well needs seen net sink files (how.BadJournal clock fault) ends quiet = absurd ends
-net-well needs seen net sink files (how.Open clock round missing) ends quiet = absurd ends
-net-well needs seen net sink files (how.NoAward clock) ends quiet = absurd ends
-net-well needs seen net sink files (how.Halted clock good) ends quiet = absurd ends
-net-well needs seen net sink files (how.BadAuction fault) ends quiet = absurd ends
-net-well needs seen net sink files (how.TooLong file) ends quiet = absurd ends
-net-well needs seen net sink files (how.BadValues fault) ends quiet = absurd ends
-net-well needs seen net sink files (how.NotSubstitutes bidder x y good) ends quiet = absurd ends
-net-well needs seen net sink files (how.BadLog place) ends quiet = absurd ends
-net-well needs seen net sink files how.OtherTerms ends quiet = absurd ends
-net-well needs seen net sink files (how.NotPrefix clock place) ends quiet = absurd ends
-net-well needs seen net sink files (how.TargetFull clock needed) ends quiet = absurd ends
-net-well needs seen net sink files (how.BadTarget clock fault) ends quiet = absurd ends
+net-well needs seen net sink files end ends quiet = absurd ends
 
 -- what is needed for moving journals has both
 record BothOfMove (needs : Needs) (P Q : List ℕ → List ℕ → Moving → Type 0) : Type 0 where
@@ -191,11 +171,12 @@ both-of-move needs P Q p q = of needs.auction needs.journals needs.moving refl r
     of (Some auction) (Some journals) (Some moving) a j m p q = record { auction = auction; journals = journals; moving = moving; auction_is = a; journals_is = j; moving_is = m; first = p; second = q }
 
 -- nor does moving journals
-target-journal : (old journals new target : List ℕ) (shelf : ShelfSeen) (clock : ℕ) (fault : OpenFault) → IsBadTarget clock fault shelf old journals new target → IsBadJournal new target clock fault shelf
+target-journal : (old journals new target : List ℕ) (shelf : ShelfSeen) (clock : ℕ) (fault : OpenFault) → IsBadTarget clock fault shelf old journals new target → IsBadJournal new target None clock fault shelf
 target-journal old journals new target shelf clock fault bad = record {
   terms = bad.terms;
   digest = bad.digest;
   on = record { listing = bad.move.second; auction_is = bad.move.new_is; terms_are = bad.move.terms_are; digest_is = bad.move.digest_is };
+  has_bidder = tt;
   clock_is = bad.clock_is;
   first = bad.first;
 }
@@ -208,7 +189,7 @@ moves-well needs seen net sink files (how.TooLong which.Auction) ends told good 
     let both = both-of-move needs (λ a j m. MayReadSecond seen.shelf a × IsTooLong seen.shelf m.auction auction_limit) (AreGoodTargets files) ends good.targets in
     not-long seen.shelf files both.moving.auction auction_limit told both.first.1 both.second.short
 moves-well needs seen net sink files (how.DiskFault clock) ends told good quiet =
-    let both = both-of-move needs (λ a j m. JournalFailed m.auction m.journals clock seen.shelf) (AreGoodTargets files) ends good.targets in
+    let both = both-of-move needs (λ a j m. JournalFailed m.auction m.journals None clock seen.shelf) (AreGoodTargets files) ends good.targets in
     let m = both.moving in
     let name = journal_name m.journals clock in
     let journal : IsJournalIn files m.auction m.journals name =
@@ -228,25 +209,7 @@ moves-well needs seen net sink files (how.BadTarget clock fault) ends told good 
     let J : Option (List ℕ) → Option (List ℕ) → Type 0 = λ o u. IfSome o (λ a. IfSome u (λ j. AreGoodJournals needs.settles files a j)) in
     let journals : AreGoodJournals needs.settles files both.auction both.journals = subst (J (Some both.auction)) both.journals_is (subst (λ o. J o needs.journals) both.auction_is good.journals) in
     bad-target seen.shelf files told both.auction both.journals both.moving clock fault needs.settles (target-journal both.auction both.journals both.moving.auction both.moving.journals seen.shelf clock fault both.first) journals both.second
-moves-well needs seen net sink files (how.TooLong which.Log) ends told good quiet = ends
-moves-well needs seen net sink files (how.TooLong which.Values) ends told good quiet = ends
-moves-well needs seen net sink files how.Done ends told good quiet = ends
-moves-well needs seen net sink files how.NoMemory ends told good quiet = ends
-moves-well needs seen net sink files how.Usage ends told good quiet = ends
-moves-well needs seen net sink files how.ReadFault ends told good quiet = ends
-moves-well needs seen net sink files how.WriteFault ends told good quiet = ends
-moves-well needs seen net sink files how.NetFault ends told good quiet = ends
-moves-well needs seen net sink files (how.BadJournal clock fault) ends told good quiet = ends
-moves-well needs seen net sink files (how.Open clock round missing) ends told good quiet = ends
-moves-well needs seen net sink files (how.NoAward clock) ends told good quiet = ends
-moves-well needs seen net sink files (how.Halted clock units) ends told good quiet = ends
-moves-well needs seen net sink files (how.BadValues fault) ends told good quiet = ends
-moves-well needs seen net sink files (how.NotSubstitutes bidder x y units) ends told good quiet = ends
-moves-well needs seen net sink files (how.BadLog place) ends told good quiet = ends
-moves-well needs seen net sink files (how.Refused code detail value) ends told good quiet = ends
-moves-well needs seen net sink files (how.LooksSpent clock) ends told good quiet = ends
-moves-well needs seen net sink files how.BadReply ends told good quiet = ends
-moves-well needs seen net sink files (how.NoBidder bidder) ends told good quiet = ends
+moves-well needs seen net sink files end ends told good quiet = ends
 
 any-end : (needs : Needs) (seen : Outside) (net : NetSeen) (sink : SinkSeen) (files : List NamedFile) (end : Ended) → Ends needs seen net end → seen.shelf.files ≡ Some files → AreGood needs files
     → NothingFailed needs files seen net sink → IsDoneOrNoMemory end

@@ -1,5 +1,5 @@
 -- The journals of an auction's clocks are opened one after another, and given back one after another.
-use Rattle.std.proofs.Common.{if◌then◌else◌, ◌≡◌, ◌≢◌, ◌∙◌, ◌<◌, ◌≤◌, ◌+◌, ◌++◌, ℕ, suc, Bool, true, false, List, [], ◌∷◌, length, get_or, reverse, Option, Some, None, Err, arith, inl, inr, refl, sym, ap, subst, append_assoc, length-append, option_map, unwrap_or}
+use Rattle.std.proofs.Common.{if◌then◌else◌, ◌≡◌, ◌≢◌, ◌∙◌, ◌<◌, ◌≤◌, ◌+◌, ◌++◌, ℕ, suc, List, [], ◌∷◌, length, get_or, reverse, Option, Some, None, Err, arith, inl, inr, refl, sym, ap, subst, append_assoc, length-append, option_map, unwrap_or}
 use Rattle.house_io.specs.Disks.{DiskShown, IsFresh, told_moments}
 use Rattle.std.specs.Prelude.{String, string_bytes, Contains}
 use Rattle.std.specs.declared.alloc.Global.{Global}

@@ -1,10 +1,9 @@
 -- Doors and books are given back one after another.
-use Rattle.std.proofs.Common.{◌≡◌, ◌∙◌, ◌≤◌, ◌-◌, ◌++◌, ℕ, Bool, IsTrue, List, [], ◌∷◌, length, map, reverse, Option, Some, None, arith, refl, sym, ap, subst, append_assoc, length-append}
+use Rattle.std.proofs.Common.{◌≡◌, ◌∙◌, ◌≤◌, ◌-◌, ◌++◌, ℕ, List, [], ◌∷◌, length, map, reverse, Option, Some, None, arith, refl, sym, ap, subst, append_assoc, length-append}
 use Rattle.house_io.specs.Disks.{DiskShown}
 use Rattle.std.specs.List.{AllByRecursion}
 use Rattle.std.proofs.lemmas.List.{append-nil, map-append, reverse-append}
 use Rattle.house_io.specs.Faults.{raised_by}
-use Rattle.house_io.specs.Moments.{Moments}
 use Rattle.house_io.specs.Nets.{NetLists, TakesDoor}
 use Rattle.house_io.specs.Told.{IfTold}
 use Rattle.clock.specs.Reports.{ClockOf, histories}

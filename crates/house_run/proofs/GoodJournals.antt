@@ -137,8 +137,8 @@ history-at (suc n) a clock P (c ∷ cs) are all low high =
     of here holds later (inl more) = later more
     of here holds later (inr same) = record { history = c; number = here ∙ (let e : a ≡ clock = omega arith in e); holds = holds }
 
-pub not-bad : (settles : Bool) (shelf : ShelfSeen) (files : List NamedFile) (auction journals : List ℕ) (clock : ℕ) (fault : OpenFault) → shelf.files ≡ Some files → IsBadJournal auction journals clock fault shelf → AreGoodJournals settles files auction journals → ⊥
-not-bad settles shelf files auction journals clock fault told bad good =
+pub not-bad : (settles : Bool) (shelf : ShelfSeen) (files : List NamedFile) (auction journals : List ℕ) (bidder : Option ℕ) (clock : ℕ) (fault : OpenFault) → shelf.files ≡ Some files → IsBadJournal auction journals bidder clock fault shelf → AreGoodJournals settles files auction journals → ⊥
+not-bad settles shelf files auction journals bidder clock fault told bad good =
     let same = same-auction settles shelf files auction journals bad.terms bad.digest told bad.on good in
     let few : clock ≤ good.terms.bidders = subst (λ (t : Terms). clock ≤ t.bidders) same.terms_same bad.clock_is in
     let here = history-at (good.terms.bidders + 1) 0 clock (IsFromJournal (Some files) good.terms good.listing.digest journals) good.histories good.from_journals.numbers good.from_journals.each (omega arith) (omega arith) in

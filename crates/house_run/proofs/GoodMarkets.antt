@@ -11,11 +11,10 @@ use Rattle.auction_file.specs.AuctionFile.{Listing, auction_of}
 use Rattle.valuation.specs.ValuesFile.{values_of}
 use Rattle.valuation.specs.declared.faults.ValuesFault.{ValuesFault}
 use Rattle.trial.specs.Bidding.{bidders_of}
-use Rattle.trial.specs.Making.{made_values}
 use Rattle.trial.specs.Refusals.{IsFirstWithout}
-use Rattle.house_run.specs.Ends.{AreGood, AreGoodValues, IsGoodNumber}
+use Rattle.house_run.specs.Ends.{AreGood, AreGoodValues}
 use Rattle.house_run.specs.Journals.{IsTermsOf}
-use Rattle.house_run.specs.Markets.{HasTerms, IsBadValues, IsNotSubstitutesAt, IsNotSubstitutesOf, market_bidders}
+use Rattle.house_run.specs.Markets.{HasTerms, IsBadValues, IsNotSubstitutesAt, market_bidders}
 use Rattle.house_run.specs.Needs.{Has, Needs}
 use Rattle.house_run.specs.Seen.{ShelfSeen, content, values_limit}
 use Rattle.house_run.proofs.GoodJournals.{read-told, says-told}
@@ -30,7 +29,7 @@ of-all P a (suc n) j all low high = by (eq-or-lt_of_le low) (λ less. of-all P (
     by (inr less) rest = rest less
 
 -- nobody is first without strong substitutes where all have them
-none-without : (terms : Terms) (u : ℕ → List ℕ → ℤ) (bidder : ℕ) (x y : List ℕ) (good : ℕ) → IsFirstWithout terms u bidder x y good → AllStrongSubstitutes terms.goods u (all_bidders terms.bidders) → ⊥
+pub none-without : (terms : Terms) (u : ℕ → List ℕ → ℤ) (bidder : ℕ) (x y : List ℕ) (good : ℕ) → IsFirstWithout terms u bidder x y good → AllStrongSubstitutes terms.goods u (all_bidders terms.bidders) → ⊥
 none-without terms u bidder x y good first all =
     let one = of-all (λ j. IsStrongSubstitutes terms.goods (u j)) 1 terms.bidders bidder all first.from_one (let h = first.to_last in omega arith) in
     first.broken.broken (λ more. one x y good first.broken.in_x first.broken.in_y more)
@@ -70,24 +69,11 @@ good-substitutes tried shelf files auction values bidder x y units told bad good
     let b = subst (λ n. P t.goods n good.valuations) (sym same.bidders) a in
     none-without t (market_bidders t bad.valuations) bidder x y units bad.first (subst (P t.goods t.bidders) v b)
 
-good-number : (number bidder : ℕ) (x y : List ℕ) (units : ℕ) → IsNotSubstitutesOf number bidder x y units → IsGoodNumber number → ⊥
-good-number number bidder x y units bad good =
-    let t = bad.terms in
-    let P : List ℕ → ℕ → List (List ℕ) → Type 0 = λ goods bidders vs. AllStrongSubstitutes goods (bidders_of goods vs) (all_bidders bidders) in
-    let a = subst (λ goods. P goods 12 (made_values number 12)) (sym bad.made.goods) good in
-    let b = subst (λ n. P t.goods n (made_values number 12)) (sym bad.made.bidders) a in
-    none-without t (market_bidders t bad.valuations) bidder x y units bad.first (subst (P t.goods t.bidders) (sym bad.made.values) b)
-
 pub not-without : (needs : Needs) (shelf : ShelfSeen) (files : List NamedFile) (bidder : ℕ) (x y : List ℕ) (units : ℕ) → shelf.files ≡ Some files → needs.bid ≡ None
-    → Has needs.auction (λ a. Has needs.values (λ v. IsNotSubstitutesAt shelf a v bidder x y units)) ⊎ Has needs.number (λ n. IsNotSubstitutesOf n bidder x y units) → AreGood needs files → ⊥
-not-without needs shelf files bidder x y units told asked (inl may) good = by needs.auction needs.values may good.values
+    → Has needs.auction (λ a. Has needs.values (λ v. IsNotSubstitutesAt shelf a v bidder x y units)) → AreGood needs files → ⊥
+not-without needs shelf files bidder x y units told asked may good = by needs.auction needs.values may good.values
   where
     by : (a v : Option (List ℕ)) → Has a (λ a. Has v (λ v. IsNotSubstitutesAt shelf a v bidder x y units)) → IfSome a (λ a. IfSome v (λ v. AreGoodValues (needs.bid ≡ None) files a v)) → ⊥
     by None v may good = may
     by (Some a) None may good = may
     by (Some a) (Some v) may good = good-substitutes (needs.bid ≡ None) shelf files a v bidder x y units told may good asked
-not-without needs shelf files bidder x y units told asked (inr may) good = by needs.number may good.number
-  where
-    by : (n : Option ℕ) → Has n (λ n. IsNotSubstitutesOf n bidder x y units) → IfSome n IsGoodNumber → ⊥
-    by None may good = may
-    by (Some n) may good = good-number n bidder x y units may good

@@ -1,5 +1,5 @@
 -- Targets that are unformed or stand for fronts of the histories that are moved to them refuse none of it.
-use Rattle.std.proofs.Common.{◌≡◌, ◌∙◌, ◌<◌, ◌≤◌, ◌+◌, ◌-◌, ℕ, zero, suc, Bool, List, [], ◌∷◌, length, take, get_or, slice_get, Option, Some, Ok, Err, arith, refl, sym, ap, subst}
+use Rattle.std.proofs.Common.{◌≡◌, ◌∙◌, ◌<◌, ◌≤◌, ◌+◌, ◌-◌, ℕ, zero, suc, Bool, List, [], ◌∷◌, length, take, get_or, slice_get, Option, Some, None, Ok, Err, arith, refl, sym, ap, subst}
 use Rattle.std.specs.List.{AllByRecursion}
 use Rattle.std.proofs.lemmas.List.{length-take-le}
 use Rattle.std.proofs.lemmas.List.Elements.{All-from_recursion}
@@ -145,7 +145,7 @@ module _ (shelf : ShelfSeen) (files : List NamedFile) (told : shelf.files ≡ So
         taken-get (x ∷ xs) (suc n) zero below = refl
         taken-get (x ∷ xs) (suc n) (suc k) below = taken-get xs n k (omega arith)
 
-    pub bad-target : (clock : ℕ) (fault : OpenFault) (settles : Bool) → IsBadJournal m.auction m.journals clock fault shelf → AreGoodJournals settles files old journals → AreGoodTargets files old journals m → ⊥
+    pub bad-target : (clock : ℕ) (fault : OpenFault) (settles : Bool) → IsBadJournal m.auction m.journals None clock fault shelf → AreGoodJournals settles files old journals → AreGoodTargets files old journals m → ⊥
     bad-target clock fault settles bad histories good =
         let file = content files (journal_name m.journals clock) in
         let two = said-once m.auction bad.on.listing good.second bad.on.auction_is good.second_says in

@@ -1,5 +1,5 @@
 -- What is left of a house that was served, or not, once it was closed.
-use Rattle.std.proofs.Common.{◌≡◌, ◌∙◌, ◌<◌, ◌≤◌, ◌+◌, ◌-◌, ◌++◌, ℕ, zero, suc, Bool, true, false, IsTrue, List, [], ◌∷◌, length, map, take, drop, get_or, Option, Some, None, Result, Ok, Err, arith, inl, inr, refl, sym, ap, subst}
+use Rattle.std.proofs.Common.{◌≡◌, ◌∙◌, ◌<◌, ◌≤◌, ◌+◌, ◌-◌, ◌++◌, ℕ, zero, suc, true, false, List, [], ◌∷◌, length, map, take, drop, get_or, Option, Some, None, Result, Ok, Err, arith, inl, inr, refl, sym, ap, subst}
 use Rattle.house_io.specs.Disks.{DiskShown}
 use Rattle.std.specs.List.{AllByRecursion}
 use Rattle.std.specs.Prelude.{◌⊎◌}
@@ -8,7 +8,6 @@ use Rattle.std.proofs.lemmas.List.{length-map}
 use Rattle.house_io.specs.Doors.{DoorLinks}
 use Rattle.house_io.specs.Faults.{Rose, raised_by}
 use Rattle.house_io.specs.Links.{LinkBytes}
-use Rattle.house_io.specs.Moments.{Moments}
 use Rattle.house_io.specs.Nets.{AsksDoors, GivesDoors, NetLists}
 use Rattle.house_io.specs.Shelves.{IsRefused}
 use Rattle.house_io.specs.Told.{IfTold}

@@ -1,5 +1,5 @@
 -- From the disks of a house's journals to these disks again.
-use Rattle.std.proofs.Common.{true≢false, ◌≡◌, ◌∙◌, ◌<◌, ◌≤◌, ◌-◌, ◌^◌, min, ℕ, zero, suc, Bool, IsTrue, List, [], ◌∷◌, length, map, get_or, Option, Some, Result, Ok, Err, arith, inl, inr, refl, sym, ap, subst}
+use Rattle.std.proofs.Common.{true≢false, ◌≡◌, ◌∙◌, ◌<◌, ◌≤◌, ◌-◌, ◌^◌, min, ℕ, zero, suc, IsTrue, List, [], ◌∷◌, length, map, get_or, Option, Some, Result, Ok, Err, arith, inl, inr, refl, sym, ap, subst}
 use Rattle.house_io.specs.Disks.{DiskShown, is_told, told_moments}
 use Rattle.std.specs.List.{AllByRecursion, flat_map}
 use Rattle.std.specs.Prelude.{◌⊎◌}
@@ -9,11 +9,10 @@ use Rattle.std.proofs.lemmas.List.Elements.{All-from_recursion}
 use Rattle.lot_base.specs.declared.auction_terms.Terms.{Terms}
 use Rattle.house_io.specs.Doors.{DoorLinks}
 use Rattle.house_io.specs.Links.{LinkBytes}
-use Rattle.house_io.specs.Moments.{Moments}
 use Rattle.house_io.specs.Nets.{NetLists}
 use Rattle.auction_file.specs.declared.listing.Auction.{Auction}
 use Rattle.clock.specs.Reports.{ClockHistory}
-use Rattle.recovery.specs.Journaled.{Owner, owner_of}
+use Rattle.recovery.specs.Journaled.{owner_of}
 use Rattle.clock_book.specs.Books.{BookOf, IsKept}
 use Rattle.clock_book.specs.DeskHistories.{marks_in}
 use Rattle.clock_book.specs.Opened.{IsLeftUnlessClaimed, Opens}

@@ -1,7 +1,7 @@
 -- An auction is read, and then its journals: how a command that needs both ends, and what it leaves.
-use Rattle.std.proofs.Common.{◌≡◌, ◌∙◌, ◌≤◌, ◌+◌, ◌++◌, ℕ, Bool, List, [], ◌∷◌, length, Option, Some, arith, inr, refl, sym, ap, subst}
+use Rattle.std.proofs.Common.{◌≡◌, ◌∙◌, ◌<◌, ◌≤◌, ◌+◌, ◌++◌, ℕ, Bool, List, [], ◌∷◌, length, Option, Some, arith, inr, refl, sym, ap, subst}
 use Rattle.std.proofs.Common.{Vec, Global, Ok, Err}
-use Rattle.std.specs.Prelude.{Result, IfOk, IfErr, ℤ}
+use Rattle.std.specs.Prelude.{Result, IfOk, IfErr, IfSome, ℤ}
 use Rattle.std.specs.List.{AllByRecursion}
 use Rattle.house_io.specs.Faults.{Rose}
 use Rattle.house_io.specs.Shelves.{NamedFile, ChangesNone, with_name}
@@ -9,6 +9,7 @@ use Rattle.lot_base.specs.declared.auction_terms.Terms.{Terms}
 use Rattle.clock.specs.Reports.{ClockHistory, ClockOf, histories}
 use Rattle.settlement.specs.Settling.{IsOutcomeOf}
 use Rattle.settlement.specs.Efficient.{ExplainsAll, IsEfficientSettlement}
+use Rattle.settlement.specs.Incentives.{IsAmongTruthful, IsChargedBy}
 use Rattle.settlement.specs.declared.outcome.Settlement.{Settlement}
 use Rattle.settlement.specs.Clocks.{AreClocksOf}
 use Rattle.auction_file.specs.AuctionFile.{Listing}
@@ -22,14 +23,15 @@ use Rattle.house_run.specs.Ends.{ShelfAnswer}
 use Rattle.house_run.specs.Outcomes.{IsSettlement}
 use Rattle.house_run.specs.Frame.{Frame, KeepsAll, KeepsFiles, OpensJournals, RisesAmong}
 use Rattle.house_run.specs.Journals.{AreFromJournals, AreHistories, IsAuctionOn, IsFromJournal, IsTermsOf}
+use Rattle.house_run.specs.Markets.{IsNoBidder}
 use Rattle.house_run.specs.Needs.{Needs, IsJournal, first_journals, journal_name, sources, with_names}
 use Rattle.house_run.specs.Seen.{Outside, ShelfSeen, IsAuctionAt}
 use Rattle.house_run.specs.SettleCommand.{SettleDone, settle_needs}
 use Rattle.house_run.specs.Status.{end_at}
-use Rattle.house_run.specs.Steps.{EndsAtJournal, IsSettledEnd, IsSettledText, IsSteady, LeavesSo, SyncsFirst, SyncsJournals}
+use Rattle.house_run.specs.Steps.{EndsAtJournal, EndsAtJournals, IsSettledEnd, IsSettledText, IsSteady, LeavesSo, OnlyReads, SyncsFirst, SyncsJournals}
 use Rattle.house_run.specs.declared.ends.Ended.{Ended}
 use Rattle.house_run.specs.declared.ends.Ended.TheVariants as how
-use Rattle.house_run.proofs.Framing.{auction-then, counts-then, has, kept-then, none-kept, steady-counts}
+use Rattle.house_run.proofs.Framing.{auction-then, counts-then, has, kept-then, none-kept, refused-frame, steady-counts}
 use Rattle.house_run.proofs.JournalSteps.{later, terms-are}
 
 pub sources-are : (needs : Needs) (auction : List ℕ) → needs.auction ≡ Some auction → sources needs ≡ auction ∷ [] → sources needs ≡ auction ∷ []
@@ -95,12 +97,13 @@ left auction journals seen terms digest listing files faults names opened synced
 pub house-ends : (fault : OpenFault) (auction journals : List ℕ) (seen : Outside) (terms : Terms) (digest : List ℕ) (clock : ℕ) (listing : Listing) (files : Option (List NamedFile)) (faults : List ℕ → ℕ) (names : List (List ℕ))
     → Opened auction seen terms digest listing files faults names → clock ≤ terms.bidders → SyncsJournals journals (terms.bidders + 1) (later seen.shelf files faults names)
     → EndsAtJournal (later seen.shelf files faults names) terms digest journals clock fault
-    → (needs : Needs) → needs.auction ≡ Some auction → sources needs ≡ auction ∷ [] → needs.journals ≡ Some journals → LeavesSo needs seen (end_at clock fault)
-house-ends why.DiskFault auction journals seen terms digest clock listing files faults names opened few synced ends needs a l j =
+    → (needs : Needs) → needs.auction ≡ Some auction → sources needs ≡ auction ∷ [] → needs.journals ≡ Some journals → IfSome needs.bidder (λ b. b ≤ terms.bidders) → LeavesSo needs seen (end_at clock fault)
+house-ends why.DiskFault auction journals seen terms digest clock listing files faults names opened few synced ends needs a l j comes =
     let P : ℕ → Type 0 = λ before. Rose before (seen.shelf.faults (journal_name journals clock)) in
-    let failed : JournalFailed auction journals clock seen.shelf = record {
+    let failed : JournalFailed auction journals needs.bidder clock seen.shelf = record {
       listing = listing;
       auction_is = opened.is;
+      has_bidder = subst (λ n. IfSome needs.bidder (λ b. b ≤ n)) opened.terms_are.bidders_are comes;
       clock_is = let e = opened.terms_are.bidders_are in omega arith;
       failed = subst P (opened.steady (journal_name journals clock)) ends.failed;
     } in
@@ -110,32 +113,44 @@ house-ends why.DiskFault auction journals seen terms digest clock listing files 
           (wider (λ name. name ≡ journal_name journals clock) (Tells needs (how.DiskFault clock)) seen.shelf.faults_before seen.shelf.faults (λ name e. has needs.journals journals (λ k. name ≡ journal_name k clock) j e)
           (counts-then (λ name. name ≡ journal_name journals clock) seen.shelf faults opened.steady ends.counts));
     }
-house-ends why.NoMemory auction journals seen terms digest clock listing files faults names opened few synced ends needs a l j = record {
+house-ends why.NoMemory auction journals seen terms digest clock listing files faults names opened few synced ends needs a l j comes = record {
   cause = tt;
   frame = left auction journals seen terms digest listing files faults names opened synced needs how.NoMemory a l j (steady-counts (Tells needs how.NoMemory) seen.shelf (λ name. ends name ∙ opened.steady name));
 }
-house-ends (why.Broken broken) auction journals seen terms digest clock listing files faults names opened few synced ends needs a l j = record {
+house-ends (why.Broken broken) auction journals seen terms digest clock listing files faults names opened few synced ends needs a l j comes = record {
   cause = has needs.auction auction _ a (has needs.journals journals _ j (record {
     terms = terms;
     digest = digest;
     on = on auction seen terms digest listing files faults names opened;
+    has_bidder = comes;
     clock_is = few;
     first = ends.1;
   }));
   frame = left auction journals seen terms digest listing files faults names opened synced needs (how.BadJournal clock (why.Broken broken)) a l j
       (steady-counts (Tells needs (how.BadJournal clock (why.Broken broken))) seen.shelf (λ name. ends.0 name ∙ opened.steady name));
 }
-house-ends (why.NotAcceptable number judgement) auction journals seen terms digest clock listing files faults names opened few synced ends needs a l j = record {
+house-ends (why.NotAcceptable number judgement) auction journals seen terms digest clock listing files faults names opened few synced ends needs a l j comes = record {
   cause = has needs.auction auction _ a (has needs.journals journals _ j (record {
     terms = terms;
     digest = digest;
     on = on auction seen terms digest listing files faults names opened;
+    has_bidder = comes;
     clock_is = few;
     first = ends.1;
   }));
   frame = left auction journals seen terms digest listing files faults names opened synced needs (how.BadJournal clock (why.NotAcceptable number judgement)) a l j
       (steady-counts (Tells needs (how.BadJournal clock (why.NotAcceptable number judgement))) seen.shelf (λ name. ends.0 name ∙ opened.steady name));
 }
+
+-- the auction that was read has no such bidder
+pub no-bidder : (auction journals : List ℕ) (bidder : Option ℕ) (seen : Outside) (number : ℕ) (terms : Terms) (listing : Listing) → bidder ≡ Some number → OnlyReads auction seen.shelf → IsSteady seen.shelf → IsAuctionAt seen.shelf auction listing → IsTermsOf listing terms
+    → terms.bidders < number → EndsAtJournals auction journals bidder seen (how.NoBidder number)
+no-bidder auction journals bidder seen number terms listing is reads steady read are few needs a l j b =
+    let none : IsNoBidder seen.shelf auction number number = record { listing = listing; auction_is = read; bidder_is = refl; above = (let e = are.bidders_are in omega arith) } in
+    record {
+      cause = has needs.auction auction _ a (has needs.bidder number (IsNoBidder seen.shelf auction number) (b ∙ is) none);
+      frame = refused-frame needs auction (how.NoBidder number) seen (sources-are needs auction a l) reads (steady-counts (Tells needs (how.NoBidder number)) seen.shelf steady);
+    }
 
 -- settling
 
@@ -156,34 +171,16 @@ settled-end how.NoMemory auction journals seen terms cs are is = tt
 settled-end (how.Open clock round missing) auction journals seen terms cs are is = (refl, record { terms = terms; histories = cs; are = are; settlement = is })
 settled-end (how.NoAward clock) auction journals seen terms cs are is = (refl, record { terms = terms; histories = cs; are = are; settlement = is })
 settled-end (how.Halted clock good) auction journals seen terms cs are is = (refl, record { terms = terms; histories = cs; are = are; settlement = is })
-settled-end how.Done auction journals seen terms cs are is = absurd is
-settled-end how.Usage auction journals seen terms cs are is = absurd is
-settled-end how.ReadFault auction journals seen terms cs are is = absurd is
-settled-end how.WriteFault auction journals seen terms cs are is = absurd is
-settled-end (how.DiskFault clock) auction journals seen terms cs are is = absurd is
-settled-end (how.BadJournal clock fault) auction journals seen terms cs are is = absurd is
-settled-end (how.BadAuction fault) auction journals seen terms cs are is = absurd is
-settled-end (how.TooLong file) auction journals seen terms cs are is = absurd is
-settled-end (how.BadValues fault) auction journals seen terms cs are is = absurd is
-settled-end (how.NotSubstitutes bidder x y good) auction journals seen terms cs are is = absurd is
-settled-end (how.BadLog place) auction journals seen terms cs are is = absurd is
-settled-end how.NetFault auction journals seen terms cs are is = absurd is
-settled-end (how.Refused code detail value) auction journals seen terms cs are is = absurd is
-settled-end (how.LooksSpent clock) auction journals seen terms cs are is = absurd is
-settled-end how.BadReply auction journals seen terms cs are is = absurd is
-settled-end (how.NoBidder bidder) auction journals seen terms cs are is = absurd is
-settled-end how.OtherTerms auction journals seen terms cs are is = absurd is
-settled-end (how.NotPrefix clock place) auction journals seen terms cs are is = absurd is
-settled-end (how.TargetFull clock needed) auction journals seen terms cs are is = absurd is
-settled-end (how.BadTarget clock fault) auction journals seen terms cs are is = absurd is
+settled-end end auction journals seen terms cs are is = absurd is
 
 -- the settlement of clocks that a call was lent
 pub settled-by : (terms : Terms) (cs ds : List ClockOf) (s t : Settlement) → ds ≡ cs → s ≡ t → IsOutcomeOf (histories ds) s
-    → ((u : ℕ → List ℕ → ℤ) → ExplainsAll u (histories ds) → IsEfficientSettlement u terms s) → IsSettlement terms (histories cs) t
-settled-by terms cs ds s t same is outcome efficient =
+    → ((u : ℕ → List ℕ → ℤ) → ExplainsAll u (histories ds) → IsEfficientSettlement u terms s)
+    → ((i : ℕ) (u : ℕ → List ℕ → ℤ) → IsAmongTruthful i u terms (histories ds) → IsChargedBy i u terms s) → IsSettlement terms (histories cs) t
+settled-by terms cs ds s t same is outcome efficient charged =
     let P : List ClockOf → Type 0 = λ ks. IsSettlement terms (histories ks) s in
     let Q : Settlement → Type 0 = λ x. IsSettlement terms (histories cs) x in
-    subst Q is (subst P same (record { outcome = outcome; efficient = efficient }))
+    subst Q is (subst P same (record { outcome = outcome; efficient = efficient; charged = charged }))
 
 pub settled-answer : (result : Result (Vec ℕ Global) Ended) (auction journals : List ℕ) (json : Bool) (seen : Outside) (terms : Terms) (cs : List ClockHistory) → AreHistories seen.shelf auction journals terms cs
     → IfOk result (λ text. IsSettledText terms cs json text.items) → IfErr result (IsSettledEnd terms cs) → ShelfAnswer (SettleDone auction journals json) (settle_needs auction journals) seen result

@@ -18,11 +18,17 @@ pub mod GoodJournals
 pub mod GoodMarkets
 pub mod MarketSteps
 pub mod Summing
+pub mod Pairing
+pub mod Explaining
+pub mod Judging
 pub mod Talking
 pub mod Rereading
 pub mod ServeSteps
 pub mod ServeJobs
 pub mod TargetSteps
 pub mod MoveSteps
+pub mod GoodStarts
+pub mod Floating
 pub mod GoodTargets
 pub mod Complete
+pub mod Among

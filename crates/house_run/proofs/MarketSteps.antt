@@ -2,6 +2,7 @@
 use Rattle.std.proofs.Common.{◌≡◌, ◌∙◌, ◌<◌, ℕ, List, [], ◌∷◌, Option, Some, None, Ok, Err, inl, inr, arith, refl, sym, ap, subst, take}
 use Rattle.std.specs.Prelude.{Result, IfOk, IfErr, Vec}
 use Rattle.std.specs.declared.alloc.Global.{Global}
+use Rattle.house_run.specs.FloatCommand.{float_needs}
 use Rattle.house_io.specs.Faults.{Rose}
 use Rattle.house_io.specs.Shelves.{NamedFile, ChangesNone, with_name}
 use Rattle.lot_base.specs.declared.auction_terms.Terms.{Terms}
@@ -25,7 +26,7 @@ use Rattle.house_run.specs.MakeCommand.{make_needs}
 use Rattle.house_run.specs.Needs.{Has, IsJournal, IsSource, Needs, sources, with_names}
 use Rattle.command_line.specs.Parts.{Bidding}
 use Rattle.house_run.specs.Seen.{Outside, ShelfSeen, IsAuctionAt, IsTooLong, values_limit}
-use Rattle.house_run.specs.Steps.{EndsAtValues, EndsSo, IsSteady, IsTrialEnd, LeavesSo, OnlyReads, OpensOnly, StopsBidding, end_by}
+use Rattle.house_run.specs.Steps.{EndsAtValues, EndsSo, IsStartEnd, IsSteady, IsTrialEnd, LeavesSo, OnlyReads, OpensOnly, StopsBidding, end_by}
 use Rattle.house_run.specs.BidCommand.{bid_needs}
 use Rattle.house_run.specs.TrialCommand.{TrialDone, trial_needs}
 use Rattle.house_run.specs.declared.ends.Ended.{Ended}
@@ -34,6 +35,8 @@ use Rattle.house_run.specs.declared.ends.File.TheVariants as which
 use Rattle.house_run.proofs.Closing.{none-changed}
 use Rattle.house_run.proofs.Framing.{auction-then, has, none-kept, one-counts, steady-counts, counts-then}
 use Rattle.house_run.proofs.JournalSteps.{later}
+use Rattle.house_run.proofs.GoodMarkets.{none-without}
+use Rattle.trial.proofs.MadeStrong.{made-strong}
 
 -- what is known where the auction was read and no count rose so far
 pub record AuctionRead (auction : List ℕ) (seen : Outside) (terms : Terms) (files : Option (List NamedFile)) (faults : List ℕ → ℕ) (names : List (List ℕ)) : Type 0 where
@@ -54,6 +57,9 @@ trial-two auction values = record { auction_is = refl; values_are = refl; source
 
 pub bid-two : (auction values : List ℕ) (b : Bidding) → ReadsTwo (bid_needs auction values b) auction values
 bid-two auction values b = record { auction_is = refl; values_are = refl; sources_are = refl; no_journals = refl }
+
+pub float-two : (auction values start : List ℕ) → ReadsTwo (float_needs auction values start) auction values
+float-two auction values start = record { auction_is = refl; values_are = refl; sources_are = refl; no_journals = refl }
 
 unjournaled : (needs : Needs) (auction values : List ℕ) (before now : Option (List NamedFile)) → ReadsTwo needs auction values → ChangesNone before now → KeepsFiles needs.journals before now
 unjournaled needs auction values before now two same = let P : Option (List ℕ) → Type 0 = λ o. KeepsFiles o before now in subst P (sym two.no_journals) same
@@ -115,7 +121,7 @@ market-read auction values seen terms valuations files faults names known reads 
 
 -- the valuations were refused
 pub values-ends : (end : Ended) (needs : Needs) (auction values : List ℕ) (seen : Outside) (terms : Terms) (files : Option (List NamedFile)) (faults : List ℕ → ℕ) (names : List (List ℕ)) → ReadsTwo needs auction values → AuctionRead auction seen terms files faults names
-    → ComesToValues seen.shelf auction needs.bid terms → OnlyReads values (later seen.shelf files faults names) → EndsAtValues terms values (later seen.shelf files faults names) end → LeavesSo needs seen end
+    → ComesToValues seen.shelf auction needs.bidder needs.start terms → OnlyReads values (later seen.shelf files faults names) → EndsAtValues terms values (later seen.shelf files faults names) end → LeavesSo needs seen end
 values-ends how.ReadFault needs auction values seen terms files faults names two known comes reads ends =
     let P : ℕ → Type 0 = λ before. Rose before (seen.shelf.faults values) in
     let source : IsSource needs values = inr (inr (inl (has needs.values values (λ v. values ≡ v) two.values_are refl))) in
@@ -145,89 +151,51 @@ values-ends (how.BadValues refusal) needs auction values seen terms files faults
       cause = has needs.auction auction (λ a. Has needs.values (λ v. MayReadValues needs seen.shelf a × IsBadValues seen.shelf a v refusal)) two.auction_is (has needs.values values (λ v. MayReadValues needs seen.shelf auction × IsBadValues seen.shelf auction v refusal) two.values_are ((terms, comes), bad));
       frame = market-frame needs auction values seen terms files faults names (how.BadValues refusal) two known reads (steady-counts (Tells needs (how.BadValues refusal)) (later seen.shelf files faults names) ends.0);
     }
-values-ends how.Done needs auction values seen terms files faults names two known comes reads ends = absurd ends
-values-ends how.Usage needs auction values seen terms files faults names two known comes reads ends = absurd ends
-values-ends how.WriteFault needs auction values seen terms files faults names two known comes reads ends = absurd ends
-values-ends (how.DiskFault clock) needs auction values seen terms files faults names two known comes reads ends = absurd ends
-values-ends (how.BadJournal clock refusal) needs auction values seen terms files faults names two known comes reads ends = absurd ends
-values-ends (how.BadAuction refusal) needs auction values seen terms files faults names two known comes reads ends = absurd ends
-values-ends (how.Open clock round missing) needs auction values seen terms files faults names two known comes reads ends = absurd ends
-values-ends (how.NoAward clock) needs auction values seen terms files faults names two known comes reads ends = absurd ends
-values-ends (how.Halted clock good) needs auction values seen terms files faults names two known comes reads ends = absurd ends
-values-ends (how.NotSubstitutes bidder x y good) needs auction values seen terms files faults names two known comes reads ends = absurd ends
-values-ends (how.TooLong which.Auction) needs auction values seen terms files faults names two known comes reads ends = absurd ends
-values-ends (how.TooLong which.Log) needs auction values seen terms files faults names two known comes reads ends = absurd ends
-values-ends (how.BadLog place) needs auction values seen terms files faults names two known comes reads ends = absurd ends
-values-ends how.NetFault needs auction values seen terms files faults names two known comes reads ends = absurd ends
-values-ends (how.Refused code detail value) needs auction values seen terms files faults names two known comes reads ends = absurd ends
-values-ends (how.LooksSpent clock) needs auction values seen terms files faults names two known comes reads ends = absurd ends
-values-ends how.BadReply needs auction values seen terms files faults names two known comes reads ends = absurd ends
-values-ends (how.NoBidder bidder) needs auction values seen terms files faults names two known comes reads ends = absurd ends
-values-ends how.OtherTerms needs auction values seen terms files faults names two known comes reads ends = absurd ends
-values-ends (how.NotPrefix clock place) needs auction values seen terms files faults names two known comes reads ends = absurd ends
-values-ends (how.TargetFull clock needed) needs auction values seen terms files faults names two known comes reads ends = absurd ends
-values-ends (how.BadTarget clock refusal) needs auction values seen terms files faults names two known comes reads ends = absurd ends
+values-ends end needs auction values seen terms files faults names two known comes reads ends = absurd ends
 
 -- the auction that was read has too few bidders
 pub no-bidder : (auction values : List ℕ) (b : Bidding) (seen : Outside) (bidder : ℕ) (terms : Terms) (listing : Listing) → b.bidder ≡ bidder → OnlyReads auction seen.shelf → IsSteady seen.shelf → IsAuctionAt seen.shelf auction listing → IsTermsOf listing terms
     → terms.bidders < bidder → StopsBidding auction values b seen (how.NoBidder bidder)
 no-bidder auction values b seen bidder terms listing same reads steady is are few = record {
-  cause = λ net. inr (inl (record { listing = listing; auction_is = is; bidder_is = sym same; above = (let e = are.bidders_are in omega arith) }));
+  cause = λ net. inl (record { listing = listing; auction_is = is; bidder_is = sym same; above = (let e = are.bidders_are in omega arith) });
   frame = auction-frame (bid_needs auction values b) auction values seen (how.NoBidder bidder) (bid-two auction values b) reads (steady-counts (Tells (bid_needs auction values b) (how.NoBidder bidder)) seen.shelf steady);
 }
+
+-- the clocks of the auction that was read can't start at these prices
+pub start-ends : (end : Ended) (auction values start : List ℕ) (seen : Outside) (terms : Terms) (listing : Listing) → OnlyReads auction seen.shelf → IsSteady seen.shelf → IsAuctionAt seen.shelf auction listing → IsTermsOf listing terms
+    → IsStartEnd terms start end → LeavesSo (float_needs auction values start) seen end
+start-ends (how.StartCount found) auction values start seen terms listing reads steady is are ends = record {
+  cause = record { terms = terms; terms_are = record { listing = listing; auction_is = is; terms_are = are }; found_is = ends.0; other = ends.1 };
+  frame = auction-frame (float_needs auction values start) auction values seen (how.StartCount found) (float-two auction values start) reads (steady-counts (Tells (float_needs auction values start) (how.StartCount found)) seen.shelf steady);
+}
+start-ends (how.StartRange good value) auction values start seen terms listing reads steady is are ends = record {
+  cause = record {
+    terms = terms;
+    terms_are = record { listing = listing; auction_is = is; terms_are = are };
+    count = ends.0;
+    value_is = ends.1;
+    first = ends.2;
+  };
+  frame = auction-frame (float_needs auction values start) auction values seen (how.StartRange good value) (float-two auction values start) reads (steady-counts (Tells (float_needs auction values start) (how.StartRange good value)) seen.shelf steady);
+}
+start-ends end auction values start seen terms listing reads steady is are ends = absurd ends
 
 -- the trial of the market has no outcome
 pub trial-ends : (end : Ended) (auction values : List ℕ) (seen : Outside) (terms : Terms) (valuations : List (List ℕ)) → IsMarketAt seen.shelf auction values terms valuations → IsTrialEnd terms valuations end → MayEnd (trial_needs auction values) seen end
 trial-ends how.NoMemory auction values seen terms valuations market ends = tt
-trial-ends (how.NotSubstitutes bidder x y good) auction values seen terms valuations market ends = (refl, inl (record { terms = terms; valuations = valuations; market = market; first = ends }))
-trial-ends how.Done auction values seen terms valuations market ends = absurd ends
-trial-ends how.Usage auction values seen terms valuations market ends = absurd ends
-trial-ends how.WriteFault auction values seen terms valuations market ends = absurd ends
-trial-ends how.ReadFault auction values seen terms valuations market ends = absurd ends
-trial-ends (how.DiskFault clock) auction values seen terms valuations market ends = absurd ends
-trial-ends (how.BadJournal clock refusal) auction values seen terms valuations market ends = absurd ends
-trial-ends (how.BadAuction refusal) auction values seen terms valuations market ends = absurd ends
-trial-ends (how.BadValues refusal) auction values seen terms valuations market ends = absurd ends
-trial-ends (how.Open clock round missing) auction values seen terms valuations market ends = absurd ends
-trial-ends (how.NoAward clock) auction values seen terms valuations market ends = absurd ends
-trial-ends (how.Halted clock good) auction values seen terms valuations market ends = absurd ends
-trial-ends (how.TooLong file) auction values seen terms valuations market ends = absurd ends
-trial-ends (how.BadLog place) auction values seen terms valuations market ends = absurd ends
-trial-ends how.NetFault auction values seen terms valuations market ends = absurd ends
-trial-ends (how.Refused code detail value) auction values seen terms valuations market ends = absurd ends
-trial-ends (how.LooksSpent clock) auction values seen terms valuations market ends = absurd ends
-trial-ends how.BadReply auction values seen terms valuations market ends = absurd ends
-trial-ends (how.NoBidder bidder) auction values seen terms valuations market ends = absurd ends
-trial-ends how.OtherTerms auction values seen terms valuations market ends = absurd ends
-trial-ends (how.NotPrefix clock place) auction values seen terms valuations market ends = absurd ends
-trial-ends (how.TargetFull clock needed) auction values seen terms valuations market ends = absurd ends
-trial-ends (how.BadTarget clock refusal) auction values seen terms valuations market ends = absurd ends
+trial-ends (how.NotSubstitutes bidder x y good) auction values seen terms valuations market ends = (refl, record { terms = terms; valuations = valuations; market = market; first = ends })
+trial-ends end auction values seen terms valuations market ends = absurd ends
 
-pub make-ends : (end : Ended) (number : ℕ) (seen : Outside) (terms : Terms) (valuations : List (List ℕ)) → IsMade number terms valuations → IsTrialEnd terms valuations end → MayEnd (make_needs number) seen end
+-- nor do its clocks float
+pub float-ends : (end : Ended) (auction values start : List ℕ) (seen : Outside) (terms : Terms) (valuations : List (List ℕ)) → IsMarketAt seen.shelf auction values terms valuations → IsTrialEnd terms valuations end → MayEnd (float_needs auction values start) seen end
+float-ends how.NoMemory auction values start seen terms valuations market ends = tt
+float-ends (how.NotSubstitutes bidder x y good) auction values start seen terms valuations market ends = (refl, record { terms = terms; valuations = valuations; market = market; first = ends })
+float-ends end auction values start seen terms valuations market ends = absurd ends
+
+pub make-ends : (end : Ended) (number : ℕ) (seen : Outside) (terms : Terms) (valuations : List (List ℕ)) → IsMade number terms valuations → IsTrialEnd terms valuations end → MayEnd make_needs seen end
 make-ends how.NoMemory number seen terms valuations made ends = tt
-make-ends (how.NotSubstitutes bidder x y good) number seen terms valuations made ends = (refl, inr (record { terms = terms; valuations = valuations; made = made; first = ends }))
-make-ends how.Done number seen terms valuations made ends = absurd ends
-make-ends how.Usage number seen terms valuations made ends = absurd ends
-make-ends how.WriteFault number seen terms valuations made ends = absurd ends
-make-ends how.ReadFault number seen terms valuations made ends = absurd ends
-make-ends (how.DiskFault clock) number seen terms valuations made ends = absurd ends
-make-ends (how.BadJournal clock refusal) number seen terms valuations made ends = absurd ends
-make-ends (how.BadAuction refusal) number seen terms valuations made ends = absurd ends
-make-ends (how.BadValues refusal) number seen terms valuations made ends = absurd ends
-make-ends (how.Open clock round missing) number seen terms valuations made ends = absurd ends
-make-ends (how.NoAward clock) number seen terms valuations made ends = absurd ends
-make-ends (how.Halted clock good) number seen terms valuations made ends = absurd ends
-make-ends (how.TooLong file) number seen terms valuations made ends = absurd ends
-make-ends (how.BadLog place) number seen terms valuations made ends = absurd ends
-make-ends how.NetFault number seen terms valuations made ends = absurd ends
-make-ends (how.Refused code detail value) number seen terms valuations made ends = absurd ends
-make-ends (how.LooksSpent clock) number seen terms valuations made ends = absurd ends
-make-ends how.BadReply number seen terms valuations made ends = absurd ends
-make-ends (how.NoBidder bidder) number seen terms valuations made ends = absurd ends
-make-ends how.OtherTerms number seen terms valuations made ends = absurd ends
-make-ends (how.NotPrefix clock place) number seen terms valuations made ends = absurd ends
-make-ends (how.TargetFull clock needed) number seen terms valuations made ends = absurd ends
-make-ends (how.BadTarget clock refusal) number seen terms valuations made ends = absurd ends
+make-ends (how.NotSubstitutes bidder x y good) number seen terms valuations made ends = absurd (none-without terms (market_bidders terms valuations) bidder x y good ends (made-strong number terms valuations made))
+make-ends end number seen terms valuations made ends = absurd ends
 
 -- a command that opens no file leaves all as it was
 pub nothing-opened : (needs : Needs) (seen : Outside) (end : Ended) → seen.shelf.files ≡ seen.shelf.files_before → seen.shelf.faults ≡ seen.shelf.faults_before → seen.shelf.opened ≡ seen.shelf.opened_before → Frame needs end seen

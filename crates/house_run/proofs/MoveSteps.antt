@@ -93,28 +93,7 @@ source-of old journals new target name (inr (inr (inr none))) = absurd none
 tells-of : (end : Ended) (old journals new target name : List ℕ) → Tells (alone new) end name → Tells (migrate_needs old journals new target) end name
 tells-of how.ReadFault old journals new target name tells = source-of old journals new target name tells
 tells-of (how.DiskFault clock) old journals new target name tells = absurd tells
-tells-of how.Done old journals new target name tells = tells
-tells-of how.NoMemory old journals new target name tells = tells
-tells-of how.Usage old journals new target name tells = tells
-tells-of how.WriteFault old journals new target name tells = tells
-tells-of (how.BadAuction fault) old journals new target name tells = tells
-tells-of (how.BadJournal clock fault) old journals new target name tells = tells
-tells-of (how.BadValues fault) old journals new target name tells = tells
-tells-of (how.Open clock round missing) old journals new target name tells = tells
-tells-of (how.NoAward clock) old journals new target name tells = tells
-tells-of (how.Halted clock good) old journals new target name tells = tells
-tells-of (how.NotSubstitutes bidder x y good) old journals new target name tells = tells
-tells-of (how.TooLong file) old journals new target name tells = tells
-tells-of (how.BadLog place) old journals new target name tells = tells
-tells-of how.NetFault old journals new target name tells = tells
-tells-of (how.Refused code detail value) old journals new target name tells = tells
-tells-of (how.LooksSpent clock) old journals new target name tells = tells
-tells-of how.BadReply old journals new target name tells = tells
-tells-of (how.NoBidder bidder) old journals new target name tells = tells
-tells-of how.OtherTerms old journals new target name tells = tells
-tells-of (how.NotPrefix clock place) old journals new target name tells = tells
-tells-of (how.TargetFull clock needed) old journals new target name tells = tells
-tells-of (how.BadTarget clock fault) old journals new target name tells = tells
+tells-of end old journals new target name tells = tells
 
 -- where the first file was read, what is seen from then on is this part
 pub record OldRead (old : List ℕ) (shelf : ShelfSeen) (files : Option (List NamedFile)) (faults : List ℕ → ℕ) (names : List (List ℕ)) : Type 0 where
@@ -150,28 +129,11 @@ module _ (old journals new target : List ℕ) (seen : Outside) (files : Option (
   ))
   second-cause (how.TooLong which.Auction) net first may =
       inr (inr (first, reads-told (λ bytes. auction_limit < length bytes) new seen.shelf.files (told_first seen.shelf.files_before seen.shelf.files) (reads-same seen.shelf.files_before seen.shelf.files both-unchanged) may))
-  second-cause (how.TooLong which.Log) net first may = absurd may
-  second-cause (how.TooLong which.Values) net first may = absurd may
-  second-cause how.Done net first may = absurd may
-  second-cause how.Usage net first may = absurd may
-  second-cause how.WriteFault net first may = absurd may
-  second-cause (how.DiskFault clock) net first may = absurd may
-  second-cause (how.BadJournal clock fault) net first may = absurd may
-  second-cause (how.BadValues fault) net first may = absurd may
   second-cause (how.Open clock round missing) net first may = absurd may.1
   second-cause (how.NoAward clock) net first may = absurd may.1
   second-cause (how.Halted clock good) net first may = absurd may.1
-  second-cause (how.NotSubstitutes bidder x y good) net first may = elim (may.1) [ inl none ↦ absurd none | inr none ↦ absurd none ]
-  second-cause (how.BadLog place) net first may = absurd may
-  second-cause how.NetFault net first may = absurd may
-  second-cause (how.Refused code detail value) net first may = absurd may
-  second-cause (how.LooksSpent clock) net first may = absurd may
-  second-cause how.BadReply net first may = absurd may
-  second-cause (how.NoBidder bidder) net first may = absurd may
-  second-cause how.OtherTerms net first may = absurd may
-  second-cause (how.NotPrefix clock place) net first may = absurd may
-  second-cause (how.TargetFull clock needed) net first may = absurd may
-  second-cause (how.BadTarget clock fault) net first may = absurd may
+  second-cause (how.NotSubstitutes bidder x y good) net first may = absurd may.1
+  second-cause end net first may = absurd may
 
   -- the second was refused
   pub second-stops : (end : Ended) (listing : Listing) (one : ShelfSeen) → one.files ≡ files → IsAuctionAt one old listing → EndsAtAuction new (record { shelf = later seen.shelf files faults names }) end → StopsMoving old journals new target seen end
@@ -320,11 +282,12 @@ module _ (old journals new : List ℕ) (first second : Auction) (seen : Outside)
     refused-frame clock fault steady =
         journals-frame (how.BadJournal clock fault) (steady-counts (Tells (migrate_needs old journals new target) (how.BadJournal clock fault)) seen.shelf (λ name. steady name ∙ r.steady name))
 
-    bad-journal : (clock : ℕ) (fault : OpenFault) → clock ≤ first.terms.bidders → IsFirstRefused seen.shelf.files first.terms first.digest journals clock fault → IsBadJournal old journals clock fault (found seen.shelf)
+    bad-journal : (clock : ℕ) (fault : OpenFault) → clock ≤ first.terms.bidders → IsFirstRefused seen.shelf.files first.terms first.digest journals clock fault → IsBadJournal old journals None clock fault (found seen.shelf)
     bad-journal clock fault few bad = record {
       terms = first.terms;
       digest = first.digest;
       on = record { listing = listing_of first; auction_is = old-then synced.synced.files; terms_are = terms-of first; digest_is = refl };
+      has_bidder = tt;
       clock_is = few;
       first = refused-reads seen.shelf.files (told_first seen.shelf.files_before seen.shelf.files) first.terms first.digest journals clock fault
           (reads-back (IsJournal journals) seen.shelf.files_before seen.shelf.files (whole-kept synced.synced.files)) bad;
@@ -337,6 +300,7 @@ module _ (old journals new : List ℕ) (first second : Auction) (seen : Outside)
       cause = λ net. inl (record {
         listing = listing_of first;
         auction_is = old-then synced.synced.files;
+        has_bidder = tt;
         clock_is = (let e = (terms-of first).bidders_are in omega arith);
         failed = subst (λ (n : ℕ). Rose n (seen.shelf.faults (journal_name journals clock))) (r.steady (journal_name journals clock)) ends.failed;
       });
@@ -514,6 +478,7 @@ module _ (old journals new target : List ℕ) (second : Auction) (cs : List Cloc
       of (how.DiskFault clock) (few, failed) = inr (inr (record {
         listing = move.second;
         auction_is = move.new_is;
+        has_bidder = tt;
         clock_is = (let e = move.terms_are.bidders_are in omega arith);
         failed = subst (λ (n : ℕ). Rose n (seen.shelf.faults (journal_name target clock))) (r.steady (journal_name target clock)) failed;
       }))
@@ -551,22 +516,4 @@ module _ (old journals new target : List ℕ) (second : Auction) (cs : List Cloc
         full = full.full;
       }))
       of how.NoMemory cause = inl tt
-      of how.Done cause = absurd cause
-      of how.Usage cause = absurd cause
-      of how.ReadFault cause = absurd cause
-      of how.WriteFault cause = absurd cause
-      of how.NetFault cause = absurd cause
-      of (how.BadAuction fault) cause = absurd cause
-      of (how.BadJournal clock fault) cause = absurd cause
-      of (how.Open clock round missing) cause = absurd cause
-      of (how.NoAward clock) cause = absurd cause
-      of (how.Halted clock good) cause = absurd cause
-      of (how.BadValues fault) cause = absurd cause
-      of (how.NotSubstitutes bidder x y good) cause = absurd cause
-      of (how.TooLong file) cause = absurd cause
-      of (how.BadLog place) cause = absurd cause
-      of (how.Refused code detail most) cause = absurd cause
-      of (how.LooksSpent clock) cause = absurd cause
-      of how.BadReply cause = absurd cause
-      of (how.NoBidder bidder) cause = absurd cause
-      of how.OtherTerms cause = absurd cause
+      of end cause = absurd cause

@@ -198,11 +198,12 @@ module _ (auction journals : List ℕ) (s : Serving) (value : Auction) (seen : O
       of (inl fails) =
           let bidders = (terms-of value).bidders_are in
           let few = fails.within in
-          subst E (sym fails.end_is) (inl (record { listing = listing_of value; auction_is = is-found not.keeps.others; clock_is = omega arith; failed = fails.failed }))
+          subst E (sym fails.end_is) (inl (record { listing = listing_of value; auction_is = is-found not.keeps.others; has_bidder = tt; clock_is = omega arith; failed = fails.failed }))
       of (inr (inl refused)) = subst E (sym refused.end_is) (inl (record {
         terms = value.terms;
         digest = value.digest;
         on = record { listing = listing_of value; auction_is = is-found not.keeps.others; terms_are = terms-of value; digest_is = refl };
+        has_bidder = tt;
         clock_is = refused.within;
         first = refused.first;
       }))

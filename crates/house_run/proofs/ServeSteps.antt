@@ -1,9 +1,8 @@
 -- The journals of an auction are opened, the auction is served, and they are given back.
 use Rattle.std.proofs.Common.{if◌then◌else◌, true≢false, ◌≡◌, ◌∙◌, ◌<◌, ◌≤◌, ◌+◌, ◌-◌, ◌^◌, ◌++◌, min, ℕ, Bool, true, false, IsTrue, List, [], ◌∷◌, length, map, take, get_or, Option, Some, None, Result, Ok, Err, arith, inl, inr, refl, sym, ap, subst, option_map, unwrap_or}
 use Rattle.house_io.specs.Disks.{DiskShown, IsFresh, is_told, told_moments}
-use Rattle.std.specs.Prelude.{◌⊎◌, IfSome}
+use Rattle.std.specs.Prelude.{IfSome}
 use Rattle.std.specs.List.{AllByRecursion}
-use Rattle.std.proofs.lemmas.Bool.{cases_lt}
 use Rattle.std.proofs.lemmas.List.Elements.{All-from_recursion}
 use Rattle.std.proofs.lemmas.List.{drop-map, length-map, map-append, take-map}
 use Rattle.house_io.specs.Doors.{DoorLinks, IsEmptyDoor}

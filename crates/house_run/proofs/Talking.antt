@@ -34,7 +34,6 @@ use Rattle.house_run.specs.Seen.{Outside}
 use Rattle.house_run.specs.Steps.{IsTalkEnd, NetCounts}
 use Rattle.house_run.specs.declared.ends.Ended.{Ended}
 use Rattle.house_run.specs.declared.ends.Ended.TheVariants as how
-use Rattle.house_run.proofs.RunsSeen.{told-by}
 
 -- the part of a bidder with these values
 abbrev pub part_with : Terms → Bidding → List ℕ → Part
@@ -159,25 +158,7 @@ bid-ends how.NetFault auction values b seen net p plays ends = inr (inl (inl tt,
 bid-ends (how.Refused code detail value) auction values b seen net p plays ends = inr (inl (record { part = p; plays = plays; talks = ends }))
 bid-ends (how.LooksSpent clock) auction values b seen net p plays ends = inr (inl (record { part = p; plays = plays; talks = ends }))
 bid-ends how.BadReply auction values b seen net p plays ends = inr (inl (record { part = p; plays = plays; talks = ends }))
-bid-ends how.Done auction values b seen net p plays ends = absurd ends
-bid-ends how.Usage auction values b seen net p plays ends = absurd ends
-bid-ends how.ReadFault auction values b seen net p plays ends = absurd ends
-bid-ends how.WriteFault auction values b seen net p plays ends = absurd ends
-bid-ends (how.DiskFault clock) auction values b seen net p plays ends = absurd ends
-bid-ends (how.BadJournal clock refusal) auction values b seen net p plays ends = absurd ends
-bid-ends (how.BadAuction refusal) auction values b seen net p plays ends = absurd ends
-bid-ends (how.BadValues refusal) auction values b seen net p plays ends = absurd ends
-bid-ends (how.Open clock round missing) auction values b seen net p plays ends = absurd ends
-bid-ends (how.NoAward clock) auction values b seen net p plays ends = absurd ends
-bid-ends (how.Halted clock good) auction values b seen net p plays ends = absurd ends
-bid-ends (how.NotSubstitutes bidder x y good) auction values b seen net p plays ends = absurd ends
-bid-ends (how.TooLong file) auction values b seen net p plays ends = absurd ends
-bid-ends (how.BadLog place) auction values b seen net p plays ends = absurd ends
-bid-ends (how.NoBidder bidder) auction values b seen net p plays ends = absurd ends
-bid-ends how.OtherTerms auction values b seen net p plays ends = absurd ends
-bid-ends (how.NotPrefix clock place) auction values b seen net p plays ends = absurd ends
-bid-ends (how.TargetFull clock needed) auction values b seen net p plays ends = absurd ends
-bid-ends (how.BadTarget clock refusal) auction values b seen net p plays ends = absurd ends
+bid-ends end auction values b seen net p plays ends = absurd ends
 
 -- what a bid leaves of the net
 pub bid-leaves : (auction values : List ℕ) (b : Bidding) (end : Ended) (net : NetSeen) → NetCounts end net → NetFrame (bid_needs auction values b) end net

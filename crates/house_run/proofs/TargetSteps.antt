@@ -1,5 +1,5 @@
 -- The targets of a migration are opened, the reports are moved to them, and they are given back.
-use Rattle.std.proofs.Common.{◌≡◌, ◌∙◌, ◌<◌, ◌≤◌, ◌+◌, ℕ, Bool, IsTrue, List, [], length, get_or, Option, Some, None, Result, Ok, Err, arith, inl, inr, refl, sym, ap, subst, unwrap_or}
+use Rattle.std.proofs.Common.{◌≡◌, ◌∙◌, ◌<◌, ◌≤◌, ◌+◌, ℕ, IsTrue, List, [], length, get_or, Option, Some, None, Result, Ok, Err, arith, inl, inr, refl, sym, ap, subst, unwrap_or}
 use Rattle.house_io.specs.Disks.{DiskShown, IsFresh, is_told, told_moments}
 use Rattle.std.proofs.lemmas.List.Elements.{All-from_recursion}
 use Rattle.house_io.specs.Faults.{Rose}

@@ -17,7 +17,7 @@ use Rattle.house_run.specs.declared.ends.Ended.{Ended}
 use Rattle.house_run.specs.declared.ends.Ended.TheVariants as how
 
 abbrev pub bid_needs : List ℕ → List ℕ → Bidding → Needs
-bid_needs auction values b = record nothing_needed { auction = Some auction; values = Some values; bid = Some b }
+bid_needs auction values b = record nothing_needed { auction = Some auction; values = Some values; bidder = Some b.bidder; bid = Some b }
 
 -- the standing line of a clock that was seen at its end
 abbrev pub look_line : SeenLook → List ℕ

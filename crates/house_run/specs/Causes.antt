@@ -1,6 +1,6 @@
 -- How a run may end, end by end: which line is written, when the end may come, and of which faults it tells. A row speaks of what a
 -- command needs, so it serves every command, and an end that a command cannot have asks for what the command does not need.
-use Rattle.std.specs.Prelude.{◌≡◌, ◌≢◌, ◌≤◌, ◌⊎◌, ◌++◌, ⊤, ℕ, List, [], ◌∷◌, length, Err, codes, decimal, None}
+use Rattle.std.specs.Prelude.{◌≡◌, ◌≢◌, ◌≤◌, ◌⊎◌, ◌++◌, ⊤, ℕ, List, [], ◌∷◌, length, Err, IfSome, Option, codes, decimal, None}
 use Rattle.house_io.specs.Faults.{Rose}
 use Rattle.lot_base.specs.declared.auction_terms.Terms.{Terms}
 use Rattle.outcome_text.specs.Lines.{line, numerals}
@@ -10,7 +10,7 @@ use Rattle.auction_file.specs.declared.faults.AuctionFault.TheVariants as refuse
 use Rattle.settlement.specs.declared.outcome.Settlement.TheVariants as settlement
 use Rattle.house_run.specs.Journals.{IsBadJournal}
 use Rattle.report_log.specs.Logs.{IsFaultyAt, log_limit}
-use Rattle.house_run.specs.Markets.{ComesToValues, IsBadValues, IsNotSubstitutesAt, IsNotSubstitutesOf}
+use Rattle.house_run.specs.Markets.{ComesToValues, IsBadValues, IsNoBidder, IsNotSubstitutesAt, IsOtherCount, StartsOutside}
 use Rattle.house_run.specs.Needs.{Log, Needs, Has, IsSource, journal_name}
 use Rattle.house_run.specs.Outcomes.{Settles}
 use Rattle.house_run.specs.Seen.{Outside, ShelfSeen, IsAuctionAt, IsRead, IsTooLong, auction_limit, values_limit}
@@ -50,6 +50,8 @@ line_of (how.NotPrefix clock number) = line (codes "not" ∷ codes "prefix" ∷ 
 line_of (how.TargetFull clock needed) = line (codes "target" ∷ codes "full" ∷ codes "clock" ∷ decimal clock ∷ codes "needed" ∷ decimal needed ∷ [])
 line_of (how.BadTarget clock fault) =
     line (codes "bad" ∷ codes "target" ∷ codes "clock" ∷ decimal clock ∷ codes "record" ∷ decimal (record_of fault) ∷ codes "fault" ∷ decimal (refusal_number fault) ∷ [])
+line_of (how.StartCount found) = line (codes "start" ∷ codes "count" ∷ decimal found ∷ [])
+line_of (how.StartRange good value) = line (codes "start" ∷ codes "good" ∷ decimal good ∷ codes "value" ∷ decimal value ∷ [])
 
 -- the line of the end has a number, so that it takes memory
 abbrev pub HasNumber : Ended → Type 0
@@ -73,10 +75,11 @@ pub record SourceFailed (needs : Needs) (shelf : ShelfSeen) : Type 0 where
   pub source : IsSource needs name
   pub failed : FailedAt shelf name
 
--- the journal of a clock of the auction that was read
-pub record JournalFailed (auction journals : List ℕ) (clock : ℕ) (shelf : ShelfSeen) : Type 0 where
+-- the journal of a clock of the auction that was read, which has the bidder that is needed, if one is
+pub record JournalFailed (auction journals : List ℕ) (bidder : Option ℕ) (clock : ℕ) (shelf : ShelfSeen) : Type 0 where
   pub listing : Listing
   pub auction_is : IsAuctionAt shelf auction listing
+  pub has_bidder : IfSome bidder (λ b. b ≤ length listing.bidder_names)
   pub clock_is : clock ≤ length listing.bidder_names
   pub failed : FailedAt shelf (journal_name journals clock)
 
@@ -93,18 +96,15 @@ pub record IsBadLog (log : Log) (place : ℕ) (shelf : ShelfSeen) : Type 0 where
 
 -- a command that needs valuations comes to them
 abbrev pub MayReadValues : Needs → ShelfSeen → List ℕ → Type 0
-MayReadValues needs shelf auction = (terms : Terms) × ComesToValues shelf auction needs.bid terms
+MayReadValues needs shelf auction = (terms : Terms) × ComesToValues shelf auction needs.bidder needs.start terms
 
 -- When a job may end so without a text, by what it found on the shelf. Usage and a write fault are no ends of a job, want of memory is free,
 -- and the ends by the net, and those of moving journals, stand in tables of their own.
 abbrev pub MayEnd : Needs → Outside → Ended → Type 0
-MayEnd needs seen how.Done = ⊥
 MayEnd needs seen how.NoMemory = ⊤
-MayEnd needs seen how.Usage = ⊥
-MayEnd needs seen how.WriteFault = ⊥
 MayEnd needs seen how.ReadFault = SourceFailed needs seen.shelf
-MayEnd needs seen (how.DiskFault clock) = Has needs.auction (λ auction. Has needs.journals (λ journals. JournalFailed auction journals clock seen.shelf))
-MayEnd needs seen (how.BadJournal clock fault) = Has needs.auction (λ auction. Has needs.journals (λ journals. IsBadJournal auction journals clock fault seen.shelf))
+MayEnd needs seen (how.DiskFault clock) = Has needs.auction (λ auction. Has needs.journals (λ journals. JournalFailed auction journals needs.bidder clock seen.shelf))
+MayEnd needs seen (how.BadJournal clock fault) = Has needs.auction (λ auction. Has needs.journals (λ journals. IsBadJournal auction journals needs.bidder clock fault seen.shelf))
 MayEnd needs seen (how.Open clock round missing) = Settles needs seen.shelf (settlement.Open clock round missing)
 MayEnd needs seen (how.NoAward clock) = Settles needs seen.shelf (settlement.NoAward clock)
 MayEnd needs seen (how.Halted clock good) = Settles needs seen.shelf (settlement.Halted clock good)
@@ -114,17 +114,12 @@ MayEnd needs seen (how.TooLong which.Log) = Has needs.log (λ log. IsTooLong see
 MayEnd needs seen (how.TooLong which.Values) = Has needs.auction (λ auction. Has needs.values (λ values. MayReadValues needs seen.shelf auction × IsTooLong seen.shelf values values_limit))
 MayEnd needs seen (how.BadValues fault) = Has needs.auction (λ auction. Has needs.values (λ values. MayReadValues needs seen.shelf auction × IsBadValues seen.shelf auction values fault))
 MayEnd needs seen (how.NotSubstitutes bidder x y good) = (needs.bid ≡ None)
-    × (Has needs.auction (λ auction. Has needs.values (λ values. IsNotSubstitutesAt seen.shelf auction values bidder x y good)) ⊎ Has needs.number (λ number. IsNotSubstitutesOf number bidder x y good))
+    × Has needs.auction (λ auction. Has needs.values (λ values. IsNotSubstitutesAt seen.shelf auction values bidder x y good))
 MayEnd needs seen (how.BadLog place) = Has needs.log (λ log. IsBadLog log place seen.shelf)
-MayEnd needs seen how.NetFault = ⊥
-MayEnd needs seen (how.Refused code detail value) = ⊥
-MayEnd needs seen (how.LooksSpent clock) = ⊥
-MayEnd needs seen how.BadReply = ⊥
-MayEnd needs seen (how.NoBidder bidder) = ⊥
-MayEnd needs seen how.OtherTerms = ⊥
-MayEnd needs seen (how.NotPrefix clock number) = ⊥
-MayEnd needs seen (how.TargetFull clock needed) = ⊥
-MayEnd needs seen (how.BadTarget clock fault) = ⊥
+MayEnd needs seen (how.NoBidder bidder) = Has needs.auction (λ auction. Has needs.bidder (IsNoBidder seen.shelf auction bidder))
+MayEnd needs seen (how.StartCount found) = Has needs.auction (λ auction. Has needs.start (IsOtherCount seen.shelf auction found))
+MayEnd needs seen (how.StartRange good value) = Has needs.auction (λ auction. Has needs.start (StartsOutside seen.shelf auction good value))
+MayEnd needs seen end = ⊥
 
 -- the names whose faults the end tells; a fault under any other name is told by none
 abbrev pub Tells : Needs → Ended → List ℕ → Type 0

@@ -2,7 +2,7 @@
 use Rattle.std.specs.Prelude.{◌≡◌, ◌<◌, ◌⊎◌, ℕ, List, [], false, length, map, slice_index_or, IfSome, Some}
 use Rattle.std.specs.List.{AllByRecursion}
 use Rattle.house_io.specs.Moments.{Leaves, Moments, synced_at}
-use Rattle.recovery.specs.Journaled.{Owner, owner_of}
+use Rattle.recovery.specs.Journaled.{Owner}
 use Rattle.clock_book.specs.Books.{BookState}
 use Rattle.clock_book.specs.DeskHistories.{IsInDoubt, reports_in}
 use Rattle.clock_book.specs.Opened.{LeftUnopened}

@@ -1,5 +1,5 @@
 -- The part that a bidder's agent plays in the market of two files, and its talk over a link of the net.
-use Rattle.std.specs.Prelude.{◌≡◌, ◌<◌, ◌⊎◌, ℕ, List, [], ◌∷◌, ◌++◌, length, Option, Result, Err}
+use Rattle.std.specs.Prelude.{◌≡◌, ◌⊎◌, ℕ, List, [], ◌∷◌, ◌++◌, length, Option, Result, Err}
 use Rattle.std.specs.List.{concat}
 use Rattle.house_io.specs.Doors.{IsEmptyLink}
 use Rattle.house_io.specs.Links.{LinkBytes}
@@ -7,7 +7,6 @@ use Rattle.house_io.specs.Told.{IfTold}
 use Rattle.lot_base.specs.Economy.{demand}
 use Rattle.lot_base.specs.Goods.{IsRange}
 use Rattle.lot_base.specs.declared.auction_terms.Terms.{Terms}
-use Rattle.auction_file.specs.AuctionFile.{Listing}
 use Rattle.bidder_agent.specs.Talks.{Agrees, Part}
 use Rattle.bidder_agent.specs.declared.agents.AgentEnd.{AgentEnd}
 use Rattle.bidder_agent.specs.declared.agents.AgentEnd.TheVariants as agent
@@ -16,7 +15,7 @@ use Rattle.house_run.specs.Markets.{IsMarketAt, market_bidders}
 use Rattle.command_line.specs.Parts.{Bidding}
 use Rattle.house_run.specs.Nets.{NetSeen}
 use Rattle.house_io.specs.NetsShown.{NetView}
-use Rattle.house_run.specs.Seen.{ShelfSeen, IsAuctionAt}
+use Rattle.house_run.specs.Seen.{ShelfSeen}
 use Rattle.house_run.specs.declared.ends.Ended.{Ended}
 use Rattle.house_run.specs.declared.ends.Ended.TheVariants as how
 
@@ -70,10 +69,3 @@ ended_by agent.NoMemory = how.NoMemory
 -- what a talk that gave no looks leaves of the net, where the command ends so
 abbrev pub LeavesTalk : NetSeen → List ℕ → Part → Ended → Type 0
 LeavesTalk net address p end = IsUndialled net address ⊎ ((stop : AgentEnd) × TalksOn net address p (Err stop) × (end ≡ ended_by stop))
-
--- the auction that was read has no bidder of this number
-pub record IsNoBidder (shelf : ShelfSeen) (auction : List ℕ) (b : Bidding) (bidder : ℕ) : Type 0 where
-  pub listing : Listing
-  pub auction_is : IsAuctionAt shelf auction listing
-  pub bidder_is : bidder ≡ b.bidder
-  pub above : length listing.bidder_names < bidder

@@ -23,8 +23,7 @@ use Rattle.house_run.specs.Journals.{AreFromJournals, IsTermsOf}
 use Rattle.lot_base.specs.Economy.{AllStrongSubstitutes}
 use Rattle.clock.specs.Reports.{ClockHistory, all_bidders}
 use Rattle.valuation.specs.ValuesFile.{values_of}
-use Rattle.trial.specs.Bidding.{bidders_of}
-use Rattle.trial.specs.Making.{made_supply, made_values}
+use Rattle.two_way.specs.Histories.{IsStart}
 use Rattle.house_run.specs.Markets.{market_bidders}
 use Rattle.house_run.specs.Needs.{Has, IsSource, Needs, journal_name}
 use Rattle.house_run.specs.Outcomes.{HaveClosed}
@@ -185,9 +184,19 @@ pub record AreGoodValues (tried : Type 0) (files : List NamedFile) (auction valu
   pub read : values_of terms.goods terms.bidders terms.ceiling (content files values) ≡ Ok valuations
   pub substitutes : tried → AllStrongSubstitutes terms.goods (market_bidders terms valuations) (all_bidders terms.bidders)
 
--- the market of the number has bidders with strong substitutes
-abbrev pub IsGoodNumber : ℕ → Type 0
-IsGoodNumber number = AllStrongSubstitutes made_supply (bidders_of made_supply (made_values number 12)) (all_bidders 12)
+-- the auction has this bidder
+pub record HasBidder (files : List NamedFile) (auction : List ℕ) (bidder : ℕ) : Type 0 where
+  pub listing : Listing
+  pub says : auction_of (content files auction) ≡ Ok listing
+  pub few : bidder ≤ length listing.bidder_names
+
+-- the clocks of the auction can start at these prices
+pub record CanStart (files : List NamedFile) (auction start : List ℕ) : Type 0 where
+  pub listing : Listing
+  pub says : auction_of (content files auction) ≡ Ok listing
+  pub terms : Terms
+  pub terms_are : IsTermsOf listing terms
+  pub starts : IsStart terms start
 
 -- the files that are needed are good
 pub record AreGood (needs : Needs) (files : List NamedFile) : Type 0 where
@@ -195,7 +204,8 @@ pub record AreGood (needs : Needs) (files : List NamedFile) : Type 0 where
   pub log : IfSome needs.log (λ log. IsGoodLog log.terms (content files log.name))
   pub journals : IfSome needs.auction (λ auction. IfSome needs.journals (λ journals. AreGoodJournals needs.settles files auction journals))
   pub values : IfSome needs.auction (λ auction. IfSome needs.values (λ values. AreGoodValues (needs.bid ≡ None) files auction values))
-  pub number : IfSome needs.number IsGoodNumber
+  pub bidder : IfSome needs.auction (λ auction. IfSome needs.bidder (HasBidder files auction))
+  pub start : IfSome needs.auction (λ auction. IfSome needs.start (CanStart files auction))
   pub targets : IfSome needs.auction (λ auction. IfSome needs.journals (λ journals. IfSome needs.moving (AreGoodTargets files auction journals)))
 
 -- the answer is Done, or memory ran out

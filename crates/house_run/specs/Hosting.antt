@@ -1,5 +1,5 @@
 -- What a house comes to that is opened on the disks of its journals, served at doors on a net, and closed.
-use Rattle.std.specs.Prelude.{◌≡◌, ◌≤◌, ◌<◌, ◌⊎◌, ◌++◌, ◌∷◌, [], ◌-◌, ◌^◌, min, ℕ, Bool, false, List, length, map, take, drop, slice_index_or, IsTrue, Option, Result, Ok, Err, vec_capacity}
+use Rattle.std.specs.Prelude.{◌≡◌, ◌≤◌, ◌<◌, ◌⊎◌, ◌++◌, ◌∷◌, [], ◌-◌, ◌^◌, min, ℕ, false, List, length, map, take, drop, slice_index_or, IsTrue, Option, Result, Ok, Err, vec_capacity}
 use Rattle.house_io.specs.Disks.{DiskShown, IfDiskTold}
 use Rattle.std.specs.List.{AllByRecursion, flat_map}
 use Rattle.house_io.specs.Doors.{DoorLinks, IsEmptyDoor}
@@ -8,7 +8,6 @@ use Rattle.house_io.specs.declared.links.Link as links
 use Rattle.house_io.specs.declared.nets.Net as nets
 use Rattle.house_io.specs.Faults.{Rose}
 use Rattle.house_io.specs.Links.{LinkBytes}
-use Rattle.house_io.specs.Moments.{Moments}
 use Rattle.house_io.specs.Nets.{NetLists, GivesDoors}
 use Rattle.house_io.specs.Told.{IfTold}
 use Rattle.auction_file.specs.declared.listing.Auction.{Auction}

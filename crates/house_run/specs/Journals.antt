@@ -1,6 +1,6 @@
 -- What the journals of an auction's clocks have to say: of each clock a legal history. The journals are read in the order of the
 -- clocks, and the first one that has no such history is told.
-use Rattle.std.specs.Prelude.{◌≡◌, ◌≤◌, ◌+◌, ⊤, ℕ, List, ◌∷◌, length, map, Option, Err}
+use Rattle.std.specs.Prelude.{◌≡◌, ◌≤◌, ◌+◌, ⊤, ℕ, List, ◌∷◌, length, map, IfSome, Option, Err}
 use Rattle.std.specs.List.{AllByRecursion, range_with_len}
 use Rattle.house_io.specs.Shelves.{NamedFile, IfTells}
 use Rattle.lot_base.specs.declared.auction_terms.Terms.{Terms}
@@ -67,10 +67,11 @@ pub record IsFirstRefused (files : Option (List NamedFile)) (terms : Terms) (dig
   pub from_journals : AreFromJournals files terms digest journals clock earlier
   pub refused : IsRefusedJournal files terms digest (journal_name journals clock) clock fault
 
--- the same, of a clock of the auction of a file
-pub record IsBadJournal (auction journals : List ℕ) (clock : ℕ) (fault : OpenFault) (shelf : ShelfSeen) : Type 0 where
+-- the same, of a clock of the auction of a file, which has the bidder that is needed, if one is
+pub record IsBadJournal (auction journals : List ℕ) (bidder : Option ℕ) (clock : ℕ) (fault : OpenFault) (shelf : ShelfSeen) : Type 0 where
   pub terms : Terms
   pub digest : List ℕ
   pub on : IsAuctionOn shelf auction terms digest
+  pub has_bidder : IfSome bidder (λ b. b ≤ terms.bidders)
   pub clock_is : clock ≤ terms.bidders
   pub first : IsFirstRefused shelf.files terms digest journals clock fault

@@ -25,8 +25,11 @@ pub mod Serving
 pub mod FoldCommand
 pub mod CheckCommand
 pub mod StandingCommand
+pub mod ExplainCommand
+pub mod JudgeCommand
 pub mod SettleCommand
 pub mod TrialCommand
+pub mod FloatCommand
 pub mod MakeCommand
 pub mod ServeCommand
 pub mod MigrateCommand

@@ -4,7 +4,7 @@
 --
 -- T is the sum of the steps of all clocks, M the sum of all payments, and H the SHA-256 (FIPS 180-4) of the outcome's plain text in
 -- lowercase hexadecimal digits.
-use Rattle.std.specs.Prelude.{◌≡◌, ◌+◌, ℕ, ℤ, pos, ◌+ℤ◌, List, [], ◌∷◌, Some, codes, decimal}
+use Rattle.std.specs.Prelude.{◌≡◌, ◌+◌, ℕ, ℤ, pos, ◌+ℤ◌, List, [], ◌∷◌, codes, decimal}
 use Rattle.std.specs.Fmt.{signed_decimal}
 use Rattle.sha2.specs.Sha256.{sha256}
 use Rattle.hex.specs.Hex.{encode_lower}
@@ -18,8 +18,9 @@ use Rattle.trial.specs.Making.{IsMade}
 use Rattle.house_run.specs.Markets.{TriesAs}
 use Rattle.house_run.specs.Needs.{Needs, nothing_needed}
 
-abbrev pub make_needs : ℕ → Needs
-make_needs number = record nothing_needed { number = Some number }
+-- no file is read
+abbrev pub make_needs : Needs
+make_needs = nothing_needed
 
 -- the steps of all clocks, and the payments of all bidders
 abbrev pub steps_in : List ClockRow → ℕ

@@ -1,5 +1,5 @@
--- What a command needs of the outside: which files it reads, where its journals lie, and what it does on the net. The definitions of ends and frames ask
--- about this alone, and never about the command.
+-- What a command needs of the outside: which files it reads, where its journals lie, what it asks of the auction, and what it does on the net. The
+-- definitions of ends and frames ask about this alone, and never about the command.
 use Rattle.std.specs.Prelude.{◌≡◌, ◌⊎◌, ℕ, zero, suc, ◌/◌, ◌%◌, ◌≤◌, Bool, false, List, [], ◌∷◌, ◌++◌, Option, Some, None, option_map, codes, decimal}
 use Rattle.house_io.specs.Shelves.{with_name}
 use Rattle.lot_base.specs.declared.limits.TheConstants.{MOST_BIDDERS}
@@ -26,15 +26,28 @@ pub record Needs : Type 0 where
   pub settles : Bool
   -- the name of the file with the bidders' valuations
   pub values : Option (List ℕ)
-  -- the number of a market that is made
-  pub number : Option ℕ
+  -- the number of the bidder whose part is taken, or whose reports are judged
+  pub bidder : Option ℕ
+  -- the prices at which the clocks start
+  pub start : Option (List ℕ)
   pub bid : Option Bidding
   pub serve : Option Serving
   -- where the journals are moved
   pub moving : Option Moving
 
 abbrev pub nothing_needed : Needs
-nothing_needed = record { auction = None; log = None; journals = None; settles = false; values = None; number = None; bid = None; serve = None; moving = None }
+nothing_needed = record {
+  auction = None;
+  log = None;
+  journals = None;
+  settles = false;
+  values = None;
+  bidder = None;
+  start = None;
+  bid = None;
+  serve = None;
+  moving = None;
+}
 
 -- it is needed, and it has P
 abbrev pub Has : {A : Type 0} → Option A → (A → Type 0) → Type 0

@@ -5,7 +5,7 @@ use Rattle.bidder_agent.specs.Talks.{Part}
 use Rattle.bidder_agent.specs.declared.agents.AgentEnd.{AgentEnd}
 use Rattle.bidder_agent.specs.declared.agents.AgentEnd.TheVariants as agent
 use Rattle.house_run.specs.Causes.{MayEnd}
-use Rattle.house_run.specs.Dialling.{IsNoBidder, PlaysIn, TalksOn}
+use Rattle.house_run.specs.Dialling.{PlaysIn, TalksOn}
 use Rattle.house_run.specs.MoveEnds.{EndsMoving}
 use Rattle.house_run.specs.Needs.{Has, Needs}
 use Rattle.command_line.specs.Parts.{Bidding}
@@ -33,7 +33,6 @@ EndsOnNet needs shelf net how.NetFault = NeedsNet needs × Rose net.faults_befor
 EndsOnNet needs shelf net (how.Refused code detail value) = EndsTalking needs shelf net (agent.Refused code detail value)
 EndsOnNet needs shelf net (how.LooksSpent clock) = EndsTalking needs shelf net (agent.LooksSpent clock)
 EndsOnNet needs shelf net how.BadReply = EndsTalking needs shelf net agent.BadReply
-EndsOnNet needs shelf net (how.NoBidder bidder) = Has needs.auction (λ auction. Has needs.bid (λ b. IsNoBidder shelf auction b bidder))
 EndsOnNet needs shelf net end = ⊥
 
 -- when a job may end so

@@ -5,6 +5,7 @@ use Rattle.clock.specs.Reports.{ClockHistory}
 use Rattle.settlement.specs.Settling.{IsOutcomeOf, NoneIs}
 use Rattle.settlement.specs.Clocks.{is_running, is_halted, has_no_choice}
 use Rattle.settlement.specs.Efficient.{ExplainsAll, IsEfficientSettlement}
+use Rattle.settlement.specs.Incentives.{IsAmongTruthful, IsChargedBy}
 use Rattle.settlement.specs.declared.outcome.Outcome.{Outcome}
 use Rattle.settlement.specs.declared.outcome.Settlement.{Settlement}
 use Rattle.outcome_text.specs.Json.{json_text}
@@ -15,10 +16,12 @@ use Rattle.house_run.specs.Seen.{ShelfSeen}
 
 -- The histories of clocks on these terms settle so. Where one valuation for each bidder, with strong substitutes, explains the reports of
 -- all clocks, an outcome is the bidders' equilibrium at the least such prices, with the payments of Vickrey, Clarke and Groves; each
--- clock has a choice that clears, and none halts whose ceiling is above all values.
+-- clock has a choice that clears, and none halts whose ceiling is above all values. And whatever a bidder reports, where the reports of all
+-- others are true it pays what these three ask, at least the reserve of its award and at most its price, and nothing for nothing.
 pub record IsSettlement (terms : Terms) (histories : List ClockHistory) (s : Settlement) : Type 0 where
   pub outcome : IsOutcomeOf histories s
   pub efficient : (u : ℕ → List ℕ → ℤ) → ExplainsAll u histories → IsEfficientSettlement u terms s
+  pub charged : (i : ℕ) (u : ℕ → List ℕ → ℤ) → IsAmongTruthful i u terms histories → IsChargedBy i u terms s
 
 -- the histories that the journals of the auction have settle so
 pub record SettlesAs (shelf : ShelfSeen) (auction journals : List ℕ) (s : Settlement) : Type 0 where

@@ -36,6 +36,8 @@ status_of how.OtherTerms = 20
 status_of (how.NotPrefix clock number) = 21
 status_of (how.TargetFull clock needed) = 22
 status_of (how.BadTarget clock fault) = 23
+status_of (how.StartCount found) = 24
+status_of (how.StartRange good value) = 25
 
 -- want of memory has no line, and no number
 abbrev pub number_of : AuctionFault → ℕ

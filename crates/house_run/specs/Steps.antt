@@ -1,5 +1,5 @@
 -- What one step of a job does on the shelf. A job is a few of these in turn.
-use Rattle.std.specs.Prelude.{◌≡◌, ◌≢◌, ◌≤◌, ◌⊎◌, ⊤, ℕ, Bool, List, [], ◌∷◌, Some, Result, Ok, Err}
+use Rattle.std.specs.Prelude.{◌≡◌, ◌≢◌, ◌≤◌, ◌⊎◌, ⊤, ℕ, Bool, List, [], ◌∷◌, length, Option, Some, Result, Ok, Err}
 use Rattle.house_io.specs.Shelves.{ChangesNone, RisesOnly, with_name}
 use Rattle.house_run.specs.Causes.{FailedAt, MayEnd, Tells}
 use Rattle.lot_base.specs.declared.auction_terms.Terms.{Terms}
@@ -22,6 +22,10 @@ use Rattle.valuation.specs.declared.faults.ValuesFault.TheVariants as refused
 use Rattle.trial.specs.Refusals.{IsFirstWithout}
 use Rattle.trial.specs.declared.faults.TrialFault.{TrialFault}
 use Rattle.trial.specs.declared.faults.TrialFault.TheVariants as fault
+use Rattle.lot_base.specs.Goods.{at}
+use Rattle.two_way.specs.Histories.{IsFirstOutside}
+use Rattle.two_way.specs.declared.floating.FloatFault.{FloatFault}
+use Rattle.two_way.specs.declared.floating.FloatFault.TheVariants as floats
 use Rattle.house_run.specs.Markets.{market_bidders}
 use Rattle.house_io.specs.Faults.{Rose}
 use Rattle.bidder_agent.specs.Talks.{Part}
@@ -91,13 +95,14 @@ EndsAtJournal shelf terms digest journals clock why.NoMemory = IsSteady shelf
 EndsAtJournal shelf terms digest journals clock (why.Broken broken) = IsSteady shelf × IsFirstRefused shelf.files terms digest journals clock (why.Broken broken)
 EndsAtJournal shelf terms digest journals clock (why.NotAcceptable number judgement) = IsSteady shelf × IsFirstRefused shelf.files terms digest journals clock (why.NotAcceptable number judgement)
 
--- every command with this auction file and these journals may end so, and leaves what it should
+-- every command with this auction file and these journals, that needs this bidder or none, may end so, and leaves what it should
 pub record LeavesSo (needs : Needs) (seen : Outside) (end : Ended) : Type 0 where
   pub cause : MayEnd needs seen end
   pub frame : Frame needs end seen
 
-abbrev pub EndsAtJournals : List ℕ → List ℕ → Outside → Ended → Type 0
-EndsAtJournals auction journals seen end = (needs : Needs) → needs.auction ≡ Some auction → sources needs ≡ auction ∷ [] → needs.journals ≡ Some journals → LeavesSo needs seen end
+abbrev pub EndsAtJournals : List ℕ → List ℕ → Option ℕ → Outside → Ended → Type 0
+EndsAtJournals auction journals bidder seen end =
+    (needs : Needs) → needs.auction ≡ Some auction → sources needs ≡ auction ∷ [] → needs.journals ≡ Some journals → needs.bidder ≡ bidder → LeavesSo needs seen end
 
 -- whatever a command with this auction file and these journals ends with, it leaves what it should
 abbrev pub ReadsJournals : List ℕ → List ℕ → Outside → Type 0
@@ -126,6 +131,18 @@ IsTrialEnd terms valuations end = ⊥
 abbrev pub end_by : TrialFault → Ended
 end_by (fault.NotSubstitutes bidder x y good) = how.NotSubstitutes bidder x y good
 end_by fault.NoMemory = how.NoMemory
+
+-- how a command ends whose market does not float
+abbrev pub float_end : FloatFault → Ended
+float_end (floats.NotSubstitutes bidder x y good) = how.NotSubstitutes bidder x y good
+float_end floats.NoMemory = how.NoMemory
+
+-- how a command ends whose clocks can't start at these prices
+abbrev pub IsStartEnd : Terms → List ℕ → Ended → Type 0
+IsStartEnd terms start (how.StartCount found) = (found ≡ length start) × (length start ≢ length terms.goods)
+IsStartEnd terms start (how.StartRange good value) =
+    (length start ≡ length terms.goods) × (value ≡ at start good) × IsFirstOutside terms start good
+IsStartEnd terms start end = ⊥
 
 -- the text of the outcome that the histories settle with
 pub record IsSettledText (terms : Terms) (histories : List ClockHistory) (json : Bool) (text : List ℕ) : Type 0 where

@@ -9,7 +9,10 @@ ghost use Rattle.house_run.specs.Seen.{outside};
 
 mod bid;
 mod check;
+mod explain;
+mod float;
 mod fold;
+mod judge;
 mod make;
 mod migrate;
 mod serve;
@@ -44,6 +47,14 @@ pub(crate) fn job<T: Threads + Wait + Sync, H: Shelf, N: Net>(
         CommandWords::Standing { auction, journals } => {
             standing::job(alloc, auction, journals, shelf)
         }
+        CommandWords::Explain { auction, journals } => {
+            explain::job(alloc, auction, journals, shelf)
+        }
+        CommandWords::Judge {
+            auction,
+            journals,
+            bidder,
+        } => judge::job(alloc, auction, journals, *bidder, shelf),
         CommandWords::Settle {
             auction,
             journals,
@@ -54,6 +65,11 @@ pub(crate) fn job<T: Threads + Wait + Sync, H: Shelf, N: Net>(
             values,
             workers,
         } => trials::job(rt, alloc, auction, values, *workers, shelf),
+        CommandWords::Float {
+            auction,
+            values,
+            start,
+        } => float::job(alloc, auction, values, start, shelf),
         CommandWords::Make { number, workers } => { make::job(rt, alloc, *number, *workers, shelf) }
         CommandWords::Serve {
             auction,

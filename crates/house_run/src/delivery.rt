@@ -1,7 +1,5 @@
 //! Writing the one text of a run.
-ghost use Rattle.std.specs.Prelude.{◌≡◌, ◌++◌, OnOk, IfOk, IfSome, IfNone, string_bytes};
-ghost use Rattle.outcome_text.specs.Lines.{numerals};
-ghost use Rattle.outcome_text.specs.Spaced.{spaced};
+ghost use Rattle.std.specs.Prelude.{◌≡◌, IfOk, IfSome, IfNone, string_bytes};
 ghost use Rattle.house_run.specs.Causes.{HasNumber, line_of};
 ghost use Rattle.house_run.specs.Ends.{Wrote, WroteLine};
 ghost use Rattle.house_run.specs.Seen.{sink_seen};
@@ -12,6 +10,7 @@ use auction_file::AuctionFault;
 use clock_book::OpenFault;
 use house_io::{Sink, write_whole};
 use lot_base::Bundle;
+use outcome_text::write_bundle;
 use std::alloc::{AllocError, Global};
 use std::fmt::Write;
 use valuation::ValuesFault;
@@ -75,7 +74,9 @@ fn plain_line(ended: &Ended) -> Option<&'static [u8]>
         | Ended::NoBidder(_)
         | Ended::NotPrefix { .. }
         | Ended::TargetFull { .. }
-        | Ended::BadTarget { .. } => None,
+        | Ended::BadTarget { .. }
+        | Ended::StartCount(_)
+        | Ended::StartRange { .. } => None,
     }
 }
 
@@ -110,6 +111,8 @@ fn numbered_line(alloc: Global, ended: &Ended) -> Result<String, AllocError>
         Ended::NotPrefix { clock, number } => not_prefix_line(alloc, *clock, *number),
         Ended::TargetFull { clock, needed } => target_full_line(alloc, *clock, *needed),
         Ended::BadTarget { clock, fault } => bad_target_line(alloc, *clock, fault),
+        Ended::StartCount(found) => start_count_line(alloc, *found),
+        Ended::StartRange { good, value } => start_range_line(alloc, *good, *value),
         Ended::Done
         | Ended::NoMemory
         | Ended::Usage
@@ -218,6 +221,20 @@ fn bad_target_line(alloc: Global, clock: u8, fault: &OpenFault) -> Result<String
     Ok(line)
 }
 
+fn start_count_line(alloc: Global, found: u8) -> Result<String, AllocError>
+    ensures { IfOk result (λ line. string_bytes line ≡ line_of (how.StartCount found)) }
+{
+    let line = format!(in alloc; "start count {found}\n")?;
+    Ok(line)
+}
+
+fn start_range_line(alloc: Global, good: u8, value: u32) -> Result<String, AllocError>
+    ensures { IfOk result (λ line. string_bytes line ≡ line_of (how.StartRange good value)) }
+{
+    let line = format!(in alloc; "start good {good} value {value}\n")?;
+    Ok(line)
+}
+
 fn bad_values_line(alloc: Global, fault: &ValuesFault) -> Result<String, AllocError>
     ensures { IfOk result (λ line. string_bytes line ≡ line_of (how.BadValues fault.now)) }
 {
@@ -241,15 +258,4 @@ fn not_substitutes_line(
     write_bundle(&mut line, y)?;
     write!(line, " good {good}\n")?;
     Ok(line)
-}
-
-/// Writes each quantity of a bundle behind a blank.
-fn write_bundle(text: &mut String, bundle: &Bundle) -> Result<(), AllocError>
-    ensures { OnOk result (string_bytes text.new ≡ string_bytes text.old ++ spaced (numerals bundle.now)) }
-{
-    for good in 0..bundle.count() {
-        let quantity = bundle.quantity(good);
-        write!(text, " {quantity}")?;
-    }
-    Ok(())
 }

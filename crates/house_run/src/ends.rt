@@ -103,6 +103,13 @@ pub enum Ended {
         clock: u8,
         fault: OpenFault,
     },
+    /// There are not as many start prices as goods, but so many.
+    StartCount(u8),
+    /// A good, the first such one, would start at this price below its opening, or not below the ceiling.
+    StartRange {
+        good: u8,
+        value: u32,
+    },
 }
 
 impl Ended {
@@ -135,6 +142,8 @@ impl Ended {
             Ended::NotPrefix { .. } => 21,
             Ended::TargetFull { .. } => 22,
             Ended::BadTarget { .. } => 23,
+            Ended::StartCount(_) => 24,
+            Ended::StartRange { .. } => 25,
         }
     }
 }

@@ -1,14 +1,17 @@
 //! Markets, and what a trial of one gives.
-ghost use Rattle.std.specs.Prelude.{◌≡◌, ◌≤◌, IfOk, IfErr};
+ghost use Rattle.std.specs.Prelude.{◌≡◌, ◌≤◌, IfOk, IfErr, OnOk};
 ghost use Rattle.clock.specs.Reports.{histories};
 ghost use Rattle.lot_base.specs.Goods.{IsRange};
 ghost use Rattle.trial.specs.Trials.{AreValuationsOf, IsTried};
 ghost use Rattle.house_run.specs.Frame.{Frame};
+ghost use Rattle.two_way.specs.FloatHistories.{IsFloat};
+ghost use Rattle.two_way.specs.Histories.{IsStart};
+ghost use Rattle.house_run.specs.FloatCommand.{float_needs};
 ghost use Rattle.house_run.specs.Markets.{IsMarketAt, TriesAs, market_bidders};
 ghost use Rattle.house_run.specs.Seen.{outside, shelf_seen};
 ghost use Rattle.house_run.specs.BidCommand.{bid_needs};
 ghost use Rattle.command_line.specs.Parts.{Bidding};
-ghost use Rattle.house_run.specs.Steps.{IsTrialEnd, LeavesSo, StopsBidding, end_by};
+ghost use Rattle.house_run.specs.Steps.{IsStartEnd, IsTrialEnd, LeavesSo, StopsBidding, end_by, float_end};
 ghost use Rattle.house_run.specs.TrialCommand.{trial_needs};
 ghost use Rattle.house_run.specs.declared.ends.Ended.{Ended as End};
 
@@ -16,11 +19,12 @@ use crate::ends::Ended;
 use crate::files::{read_auction, read_values};
 use auction_file::Auction;
 use house_io::Shelf;
-use lot_base::Terms;
+use lot_base::{Prices, Terms};
 use settlement::{Outcome, Settlement};
 use std::alloc::Global;
 use std::thread::Threads;
 use trial::{TrialFault, Tried, trial};
+use two_way::{FloatFault, Floated, first_outside, float};
 use valuation::Valuation;
 
 /// The terms of an auction, and a valuation for each bidder.
@@ -55,6 +59,58 @@ pub(crate) fn read_market<H: Shelf>(
             valuations,
         }),
         Err(ended) => Err(ended),
+    }
+}
+
+/// Reads an auction, whose clocks have to be able to start at these prices, and a file of valuations, or says how a command that needs both
+/// ends.
+pub(crate) fn read_started<H: Shelf>(
+    alloc: Global,
+    shelf: &mut H,
+    auction: &str,
+    values: &str,
+    start: &Prices,
+) -> Result<Market, Ended>
+    ensures read { IfOk result (λ m. IsMarketAt (shelf_seen H.Shelf shelf.old shelf.new) auction.now values.now m.terms
+        m.valuations.items) }
+    ensures valuations { IfOk result (λ m. AreValuationsOf m.terms m.valuations.items) }
+    ensures starts { IfOk result (λ m. IsStart m.terms start.now) }
+    ensures frame { IfOk result (λ _. (end : End)
+        → Frame (float_needs auction.now values.now start.now) end (outside H.Shelf shelf.old shelf.new)) }
+    ensures ends { IfErr result (LeavesSo (float_needs auction.now values.now start.now) (outside H.Shelf shelf.old shelf.new)) }
+{
+    let auction = match read_auction(alloc, shelf, auction) {
+        Ok(auction) => auction,
+        Err(ended) => return Err(ended),
+    };
+    match check_start(&auction.terms, start) {
+        Ok(()) => {}
+        Err(ended) => return Err(ended),
+    }
+    match read_values(alloc, shelf, values, &auction.terms) {
+        Ok(valuations) => Ok(Market {
+            terms: auction.terms,
+            valuations,
+        }),
+        Err(ended) => Err(ended),
+    }
+}
+
+/// Whether clocks on these terms can start at these prices, or how a command ends that would start them there.
+fn check_start(terms: &Terms, start: &Prices) -> Result<(), Ended>
+    ensures starts { OnOk result (IsStart terms.now start.now) }
+    ensures ends { IfErr result (IsStartEnd terms.now start.now) }
+{
+    let found = start.count();
+    if found != terms.goods.count() {
+        return Err(Ended::StartCount(found));
+    }
+    match first_outside(terms, start) {
+        None => Ok(()),
+        Some(good) => Err(Ended::StartRange {
+            good,
+            value: start.get(good),
+        }),
     }
 }
 
@@ -116,6 +172,40 @@ pub(crate) fn try_market<T: Threads + Sync>(
     match trial(rt, alloc, terms, valuations, workers) {
         Ok(tried) => outcome_of(terms, valuations, tried),
         Err(fault) => Err(end_by(&fault)),
+    }
+}
+
+/// What a market floats to from these prices, or how a command that needs it ends.
+pub(crate) fn float_market(
+    alloc: Global,
+    terms: &Terms,
+    valuations: &[Valuation],
+    start: &Prices,
+) -> Result<Floated, Ended>
+    requires valuations { AreValuationsOf terms.now valuations.now }
+    requires starts { IsStart terms.now start.now }
+    ensures floats { IfOk result (λ f. IsFloat terms.now (market_bidders terms.now valuations.now) start.now f.clocks.items f.prices
+        f.rows f.choices) }
+    ensures ends { IfErr result (IsTrialEnd terms.now valuations.now) }
+{
+    match float(alloc, terms, valuations, start) {
+        Ok(floated) => Ok(floated),
+        Err(fault) => Err(float_end(&fault)),
+    }
+}
+
+/// How a command ends whose market does not float.
+fn float_end(fault: &FloatFault) -> Ended
+    ensures { result ≡ float_end fault.now }
+{
+    match fault {
+        FloatFault::NoMemory => Ended::NoMemory,
+        FloatFault::NotSubstitutes { bidder, x, y, good } => Ended::NotSubstitutes {
+            bidder: *bidder,
+            x: *x,
+            y: *y,
+            good: *good,
+        },
     }
 }
 

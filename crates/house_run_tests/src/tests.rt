@@ -12,10 +12,14 @@ mod runs;
 // The words of the command line.
 mod spelling;
 
-// A command each: `check`; `fold`; `standing` and `settle`; `trial` and `make`; `bid`; `serve`; `migrate`.
+// A command each: `check`; `fold`; `standing` and `settle`; `explain`; `judge`; `trial` and `make`; `float`; `bid`;
+// `serve`; `migrate`.
 mod bids;
 mod checks;
+mod explains;
+mod floats;
 mod folds;
+mod judges;
 mod migrates;
 mod serves;
 mod settles;
@@ -73,6 +77,14 @@ fn ends_have_their_numbers(rt: HostRuntime) {
                 needed: 67_108_865,
             },
             22,
+        ),
+        (Ended::StartCount(2), 24),
+        (
+            Ended::StartRange {
+                good: 0,
+                value: 100,
+            },
+            25,
         ),
     ] {
         assert_eq!(rt; number_of(&ended), status, "{ended:?}");

@@ -29,8 +29,8 @@ pub(crate) fn job<T: Threads + Sync, H: Shelf>(
     shelf: &mut H,
 ) -> Result<Vec<u8>, Ended>
     requires { IsRange 1 64 workers }
-    ensures answer { ShelfAnswer (λ _. MakeDone number) (make_needs number) (outside H.Shelf shelf.old shelf.new) result }
-    ensures frame { Frame (make_needs number) (end_of result) (outside H.Shelf shelf.old shelf.new) }
+    ensures answer { ShelfAnswer (λ _. MakeDone number) make_needs (outside H.Shelf shelf.old shelf.new) result }
+    ensures frame { Frame make_needs (end_of result) (outside H.Shelf shelf.old shelf.new) }
 {
     let (terms, valuations) = match make(alloc, number) {
         Ok(market) => market,

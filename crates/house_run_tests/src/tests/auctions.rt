@@ -13,6 +13,9 @@ pub(super) const SECOND_VERSION: &str = "version = 2\nceiling = 10\n";
 /// The head of a file in version 1, with a ceiling of 100.
 pub(super) const TO_HUNDRED: &str = "version = 1\nceiling = 100\n";
 
+/// The head of a file in version 1, with a ceiling of 2.
+pub(super) const TO_TWO: &str = "version = 1\nceiling = 2\n";
+
 /// One unit of one good.
 pub(super) const ONE_UNIT: &str = r#"
 [[goods]]
@@ -25,6 +28,13 @@ pub(super) const TWO_UNITS: &str = r#"
 [[goods]]
 name = "oil"
 supply = 2
+"#;
+
+/// Three units of one good.
+pub(super) const THREE_UNITS: &str = r#"
+[[goods]]
+name = "oil"
+supply = 3
 "#;
 
 /// Two goods in one unit each.

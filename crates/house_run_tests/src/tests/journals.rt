@@ -1,4 +1,5 @@
 //! Journals that are written by the tests.
+use super::auctions::digest_of;
 use house_io::{Disk, SureDisk};
 use lot_base::Prices;
 use report_journal::{Header, Journal};
@@ -82,4 +83,83 @@ pub(super) fn journal_with(
         }
     }
     file_in(alloc, journal)
+}
+
+/// The files of a house: the auction, and the journals of its first clocks.
+pub(super) const NAMES: &[&str] = &[
+    "a",
+    "j/clock-00.ahj",
+    "j/clock-01.ahj",
+    "j/clock-02.ahj",
+    "j/clock-03.ahj",
+];
+
+/// The contents of a house without journals.
+pub(super) fn only(alloc: Global, auction: Vec<u8>) -> Option<Vec<Vec<u8>>> {
+    let mut contents = Vec::new(alloc);
+    contents.push(auction).ok()?;
+    Some(contents)
+}
+
+/// The digest of the first of these contents.
+pub(super) fn digest_in(alloc: Global, contents: &[Vec<u8>]) -> Option<[u8; 32]> {
+    digest_of(alloc, contents.first()?)
+}
+
+/// Adds the journals of the first clocks, each with these reports of one good.
+fn push_journals(
+    alloc: Global,
+    contents: &mut Vec<Vec<u8>>,
+    digest: [u8; 32],
+    reports: &[&[Report]],
+) -> Option<()> {
+    let mut clock = 0u32;
+    for rows in reports {
+        contents
+            .push(journal_with(alloc, clock, digest, rows)?)
+            .ok()?;
+        clock = clock.saturating_add(1);
+    }
+    Some(())
+}
+
+/// The contents of a house of one good, whose first clocks have these reports.
+pub(super) fn house_with(
+    alloc: Global,
+    auction: Vec<u8>,
+    reports: &[&[Report]],
+) -> Option<Vec<Vec<u8>>> {
+    let mut contents = only(alloc, auction)?;
+    let digest = digest_in(alloc, &contents)?;
+    push_journals(alloc, &mut contents, digest, reports)?;
+    Some(contents)
+}
+
+/// Adds the journals of the first clocks, each with these entries.
+fn push_entries(
+    alloc: Global,
+    contents: &mut Vec<Vec<u8>>,
+    digest: [u8; 32],
+    clocks: &[&[&[u8]]],
+) -> Option<()> {
+    let mut clock = 0u32;
+    for entries in clocks {
+        contents
+            .push(journal_of(alloc, clock, digest, None, entries)?)
+            .ok()?;
+        clock = clock.saturating_add(1);
+    }
+    Some(())
+}
+
+/// The contents of a house whose first clocks have these entries.
+pub(super) fn house_of_entries(
+    alloc: Global,
+    auction: Vec<u8>,
+    clocks: &[&[&[u8]]],
+) -> Option<Vec<Vec<u8>>> {
+    let mut contents = only(alloc, auction)?;
+    let digest = digest_in(alloc, &contents)?;
+    push_entries(alloc, &mut contents, digest, clocks)?;
+    Some(contents)
 }

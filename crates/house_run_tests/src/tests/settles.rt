@@ -1,7 +1,9 @@
 //! The commands `standing` and `settle`.
-use super::auctions::{TO_HUNDRED, TWO_GOODS, TWO_UNITS, auction_of, digest_of};
+use super::auctions::{TO_HUNDRED, TWO_GOODS, TWO_UNITS, auction_of};
 use super::fixtures::{Outside, named, sure_shelf};
-use super::journals::{Report, journal_of, journal_with};
+use super::journals::{
+    NAMES, Report, digest_in, house_of_entries, house_with, journal_of, journal_with, only,
+};
 use super::runs::{FailingRow, ends_over, fails_so, has_kept, runs_over};
 use house_io::SureShelf;
 use std::alloc::Global;
@@ -71,55 +73,19 @@ const WITHOUT_THIRD: &[Report] = &[
     [2, 5, 1, 1],
 ];
 
-/// The files of a house: the auction, and the journals of its first clocks.
-const NAMES: &[&str] = &[
-    "a",
-    "j/clock-00.ahj",
-    "j/clock-01.ahj",
-    "j/clock-02.ahj",
-    "j/clock-03.ahj",
-];
-
-/// Adds the journals of the first clocks, each with these reports.
-fn push_journals(
-    alloc: Global,
-    contents: &mut Vec<Vec<u8>>,
-    digest: [u8; 32],
-    reports: &[&[Report]],
-) -> Option<()> {
-    let mut clock = 0u32;
-    for rows in reports {
-        contents
-            .push(journal_with(alloc, clock, digest, rows)?)
-            .ok()?;
-        clock = clock.saturating_add(1);
-    }
-    Some(())
-}
-
 /// The contents of a house of two units for so many bidders, whose clocks have these reports.
 fn house_of(alloc: Global, bidders: usize, reports: &[&[Report]]) -> Option<Vec<Vec<u8>>> {
-    let mut contents = only(alloc, auction_of(alloc, TO_HUNDRED, TWO_UNITS, bidders)?)?;
-    let digest = digest_in(alloc, &contents)?;
-    push_journals(alloc, &mut contents, digest, reports)?;
-    Some(contents)
-}
-
-/// The contents of a house without journals.
-fn only(alloc: Global, auction: Vec<u8>) -> Option<Vec<Vec<u8>>> {
-    let mut contents = Vec::new(alloc);
-    contents.push(auction).ok()?;
-    Some(contents)
-}
-
-/// The digest of the first of these contents.
-fn digest_in(alloc: Global, contents: &[Vec<u8>]) -> Option<[u8; 32]> {
-    digest_of(alloc, contents.first()?)
+    let auction = auction_of(alloc, TO_HUNDRED, TWO_UNITS, bidders)?;
+    house_with(alloc, auction, reports)
 }
 
 const SETTLE: &[&str] = &["settle", "a", "j"];
 
 const STANDING: &[&str] = &["standing", "a", "j"];
+
+const EXPLAIN: &[&str] = &["explain", "a", "j"];
+
+const JUDGE: &[&str] = &["judge", "a", "j", "2"];
 
 /// Whether these words over an auction of two units for so many bidders, with these reports, end so.
 fn units_end_so(
@@ -235,24 +201,10 @@ const AGAIN: &[u8] = &[2, 0, 0, 0, 2, 2, 0, 2, 0, 1, 0, 0, 0, 1, 0, 1];
 /// The bundle of both goods is the last of each.
 const TWO_GOODS_ENTRIES: &[&[&[u8]]] = &[&[FIRST, SECOND, DEARER, AGAIN], &[SECOND], &[FIRST]];
 
-/// Adds the journals of these clocks.
-fn push_two_goods(alloc: Global, contents: &mut Vec<Vec<u8>>, digest: [u8; 32]) -> Option<()> {
-    let mut clock = 0u32;
-    for entries in TWO_GOODS_ENTRIES {
-        contents
-            .push(journal_of(alloc, clock, digest, None, entries)?)
-            .ok()?;
-        clock = clock.saturating_add(1);
-    }
-    Some(())
-}
-
 /// The contents of their house.
 fn house_of_two_goods(alloc: Global) -> Option<Vec<Vec<u8>>> {
-    let mut contents = only(alloc, auction_of(alloc, TO_HUNDRED, TWO_GOODS, 2)?)?;
-    let digest = digest_in(alloc, &contents)?;
-    push_two_goods(alloc, &mut contents, digest)?;
-    Some(contents)
+    let auction = auction_of(alloc, TO_HUNDRED, TWO_GOODS, 2)?;
+    house_of_entries(alloc, auction, TWO_GOODS_ENTRIES)
 }
 
 /// Whether the auction of two goods settles so.
@@ -289,6 +241,17 @@ clock 1 round 1 running prices 0 missing 2
 clock 2 round 1 running prices 0 missing 1
 ";
 
+const UNEXPLAINED: &str = "clock 0 running
+clock 1 running
+clock 2 running
+";
+
+const UNJUDGED: &str = "rational bidder 2 bundles 3
+value 0 0
+value 1 0
+value 2 0
+";
+
 /// Whether a shelf has no file of any of these names.
 fn has_none(shelf: &SureShelf, names: &[&str]) -> bool {
     for name in names {
@@ -318,6 +281,8 @@ fn makes_no_file(
 fn a_look_at_absent_journals_makes_no_file(rt: HostRuntime) {
     for (words, status, text) in [
         (STANDING, 0, UNBEGUN),
+        (EXPLAIN, 0, UNEXPLAINED),
+        (JUDGE, 0, UNJUDGED),
         (SETTLE, 9, "open clock 0 round 1 missing 1\n"),
     ] {
         let told = makes_no_file(&rt, rt.alloc(), words, status, text);

@@ -12,7 +12,7 @@ pub returns-in-Ok-clause-some : goal.returns-in-Ok-clause-some
 returns-in-Ok-clause-some c = record {
   behind = words_of c.args.behind.now;
   words_are = refl;
-  named = c.is_name.ensures.0 c.if-not-is_name.false;
+  named = sym c.is_name.ensures ∙ c.if-not-is_name.false;
   arguments_are = c.in-Ok.ensures;
   known = ap (list_all (is_argument c.args.name.now)) c.in-Ok.ensures ∙ sym c.are_arguments.ensures ∙ c.if-not-are_arguments.false;
 }
@@ -21,7 +21,7 @@ pub returns-in-Err-clause-memory : goal.returns-in-Err-clause-memory
 returns-in-Err-clause-memory c = may-be _ c.args.name.now (joined c.args.name.now (words_of c.args.behind.now)) (record {
   behind = words_of c.args.behind.now;
   words_are = refl;
-  named = c.is_name.ensures.0 c.if-not-is_name.false;
+  named = sym c.is_name.ensures ∙ c.if-not-is_name.false;
   arguments_are = refl;
   known = sym c.are_arguments.ensures ∙ c.if-not-are_arguments.false;
 })

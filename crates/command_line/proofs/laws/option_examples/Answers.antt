@@ -1,4 +1,4 @@
-use Rattle.std.proofs.Common.{◌≡◌, Bool, true, false, [], ◌∷◌, refl, inl, inr}
+use Rattle.std.proofs.Common.{◌≡◌, Bool, true, false, [], ◌∷◌, refl}
 use Rattle.std.specs.Prelude.{codes}
 use Rattle.command_line.specs.Arguments.{HasFlag}
 use Rattle.command_line.proofs.NamedWords.{no-settle}
@@ -30,7 +30,7 @@ returns-clause-before c = record {
 pub returns-clause-twice : goal.returns-clause-twice
 returns-clause-twice c =
     no-settle (codes "settle" ∷ codes "a" ∷ codes "j" ∷ codes "--json" ∷ codes "--json" ∷ []) (codes "a" ∷ codes "j" ∷ []) (codes "--json" ∷ codes "--json" ∷ [])
-    (record { behind = codes "a" ∷ codes "j" ∷ codes "--json" ∷ codes "--json" ∷ []; words_are = refl; named = inr (inr (inr (inl refl))); arguments = record { known = refl; plain_are = refl; options_are = refl } })
+    (record { behind = codes "a" ∷ codes "j" ∷ codes "--json" ∷ codes "--json" ∷ []; words_are = refl; named = refl; arguments = record { known = refl; plain_are = refl; options_are = refl } })
     (λ auction journals json same has. twice json has)
 
 pub returns-clause-valued : goal.returns-clause-valued

@@ -46,5 +46,5 @@ returns-clause-alone c = unknown (codes "serve") (codes "a" ∷ codes "j" ∷ co
 pub returns-clause-leading : goal.returns-clause-leading
 returns-clause-leading c =
     no-trial (codes "trial" ∷ codes "a" ∷ codes "v" ∷ codes "--workers" ∷ codes "01" ∷ []) (codes "a" ∷ codes "v" ∷ []) (codes "--workers=01" ∷ [])
-    (record { behind = codes "a" ∷ codes "v" ∷ codes "--workers" ∷ codes "01" ∷ []; words_are = refl; named = inr (inr (inr (inr (inl refl)))); arguments = record { known = refl; plain_are = refl; options_are = refl } })
+    (record { behind = codes "a" ∷ codes "v" ∷ codes "--workers" ∷ codes "01" ∷ []; words_are = refl; named = refl; arguments = record { known = refl; plain_are = refl; options_are = refl } })
     (λ auction values workers same number. value-refused (codes "--workers=") (codes "01") 1 64 1 (codes "--workers=01" ∷ []) refl (λ n low high digits. no-numeral (codes "01") n (omega arith) digits refl) workers number)

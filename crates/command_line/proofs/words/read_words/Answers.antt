@@ -19,6 +19,14 @@ pub returns-in-standing-clause-some : goal.returns-in-standing-clause-some
 returns-in-standing-clause-some c =
     some-then c.read_standing.result _ _ (λ command spelled words is. subst (λ ws. Spells (command_as command) ws) (sym (parted-words words (codes "standing") _ _ _ _ c.in-standing.is (ap texts c.as_slice-plain.ensures.value) refl refl is)) spelled) c.read_standing.ensures.some
 
+pub returns-in-explain-clause-some : goal.returns-in-explain-clause-some
+returns-in-explain-clause-some c =
+    some-then c.read_explain.result _ _ (λ command spelled words is. subst (λ ws. Spells (command_as command) ws) (sym (parted-words words (codes "explain") _ _ _ _ c.in-explain.is (ap texts c.as_slice-plain.ensures.value) refl refl is)) spelled) c.read_explain.ensures.some
+
+pub returns-in-judge-clause-some : goal.returns-in-judge-clause-some
+returns-in-judge-clause-some c =
+    some-then c.read_judge.result _ _ (λ command spelled words is. subst (λ ws. Spells (command_as command) ws) (sym (parted-words words (codes "judge") _ _ _ _ c.in-judge.is (ap texts c.as_slice-plain.ensures.value) refl refl is)) spelled) c.read_judge.ensures.some
+
 pub returns-in-settle-clause-some : goal.returns-in-settle-clause-some
 returns-in-settle-clause-some c =
     some-then c.read_settle.result _ _ (λ command spelled words is. spelled words (same-parted words (codes "settle") _ _ _ _ _ c.in-settle.is (ap texts c.as_slice-plain.ensures.value) (ap texts c.as_slice-options.ensures.value) is)) c.read_settle.ensures.some
@@ -26,6 +34,10 @@ returns-in-settle-clause-some c =
 pub returns-in-trial-clause-some : goal.returns-in-trial-clause-some
 returns-in-trial-clause-some c =
     some-then c.read_trial.result _ _ (λ command spelled words is. spelled words (same-parted words (codes "trial") _ _ _ _ _ c.in-trial.is (ap texts c.as_slice-plain.ensures.value) (ap texts c.as_slice-options.ensures.value) is)) c.read_trial.ensures.some
+
+pub returns-in-float-clause-some : goal.returns-in-float-clause-some
+returns-in-float-clause-some c =
+    some-then c.read_float.result _ _ (λ command spelled words is. subst (λ ws. Spells (command_as command) ws) (sym (parted-words words (codes "float") _ _ _ _ c.in-float.is (ap texts c.as_slice-plain.ensures.value) refl refl is)) spelled) c.read_float.ensures.some
 
 pub returns-in-make-clause-some : goal.returns-in-make-clause-some
 returns-in-make-clause-some c =

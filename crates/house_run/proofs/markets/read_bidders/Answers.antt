@@ -56,5 +56,5 @@ returns-in-Err-read_values-clause-ends g c = λ b same.
     let has_terms = terms-then c.args.auction.now seen auction.terms files faults names known c.read_values.ensures.reads.unchanged in
     let needs = bid_needs c.args.auction.now c.args.values.now b in
     let within : b.bidder ≤ auction.terms.bidders = omega arith in
-    let leaves = values-ends c.in-Err-read_values.ended needs c.args.auction.now c.args.values.now seen auction.terms files faults names (bid-two c.args.auction.now c.args.values.now b) known (record { terms_are = has_terms; bidder = within }) c.read_values.ensures.reads c.in-Err-read_values.ensures.refused in
+    let leaves = values-ends c.in-Err-read_values.ended needs c.args.auction.now c.args.values.now seen auction.terms files faults names (bid-two c.args.auction.now c.args.values.now b) known (record { terms_are = has_terms; has_bidder = within; starts = tt }) c.read_values.ensures.reads c.in-Err-read_values.ensures.refused in
     record { cause = λ net. inl leaves.cause; frame = leaves.frame }

@@ -45,4 +45,4 @@ returns-clause-ends g c =
     let names = g.H.Shelf.opened c.read_auction.new.shelf in
     let known = known-by c.args.auction.now seen auction.terms (listing_of auction) files faults names c.in-Ok.ensures.read (terms-of auction) c.read_auction.ensures.reads.unchanged c.in-Ok.ensures.opened c.in-Ok.ensures.steady in
     let has = terms-then c.args.auction.now seen auction.terms files faults names known c.read_values.ensures.reads.unchanged in
-    values-ends c.in-Err-read_values.ended (trial_needs c.args.auction.now c.args.values.now) c.args.auction.now c.args.values.now seen auction.terms files faults names (trial-two c.args.auction.now c.args.values.now) known (record { terms_are = has; bidder = tt }) c.read_values.ensures.reads c.in-Err-read_values.ensures.refused
+    values-ends c.in-Err-read_values.ended (trial_needs c.args.auction.now c.args.values.now) c.args.auction.now c.args.values.now seen auction.terms files faults names (trial-two c.args.auction.now c.args.values.now) known (record { terms_are = has; has_bidder = tt; starts = tt }) c.read_values.ensures.reads c.in-Err-read_values.ensures.refused

@@ -7,10 +7,10 @@ use Rattle.house_run.proofs.HouseSteps.{clocks-of, settled-answer}
 use Rattle.house_run.proofs.commands.settle.job.Goals as goal
 
 pub returns-in-Err-clause-answer : goal.returns-in-Err-clause-answer
-returns-in-Err-clause-answer g c = (c.in-Err.ensures.ends (settle_needs c.args.auction.now c.args.journals.now) refl refl refl).cause
+returns-in-Err-clause-answer g c = (c.in-Err.ensures.ends (settle_needs c.args.auction.now c.args.journals.now) refl refl refl refl).cause
 
 pub returns-in-Err-clause-frame : goal.returns-in-Err-clause-frame
-returns-in-Err-clause-frame g c = (c.in-Err.ensures.ends (settle_needs c.args.auction.now c.args.journals.now) refl refl refl).frame
+returns-in-Err-clause-frame g c = (c.in-Err.ensures.ends (settle_needs c.args.auction.now c.args.journals.now) refl refl refl refl).frame
 
 pub settled_text-requires : goal.settled_text-requires
 settled_text-requires g c = clocks-of _ _ _ _ _ c.in-Ok.ensures.read

@@ -8,10 +8,10 @@ use Rattle.house_run.specs.declared.ends.Ended.TheVariants as how
 use Rattle.house_run.proofs.commands.standing.job.Goals as goal
 
 pub returns-in-Err-clause-answer : goal.returns-in-Err-clause-answer
-returns-in-Err-clause-answer g c = (c.in-Err.ensures.ends (standing_needs c.args.auction.now c.args.journals.now) refl refl refl).cause
+returns-in-Err-clause-answer g c = (c.in-Err.ensures.ends (standing_needs c.args.auction.now c.args.journals.now) refl refl refl refl).cause
 
 pub returns-in-Err-clause-frame : goal.returns-in-Err-clause-frame
-returns-in-Err-clause-frame g c = (c.in-Err.ensures.ends (standing_needs c.args.auction.now c.args.journals.now) refl refl refl).frame
+returns-in-Err-clause-frame g c = (c.in-Err.ensures.ends (standing_needs c.args.auction.now c.args.journals.now) refl refl refl refl).frame
 
 pub returns-in-Ok-standing_text-clause-answer : goal.returns-in-Ok-standing_text-clause-answer
 returns-in-Ok-standing_text-clause-answer g c = record {
