@@ -1,0 +1,8 @@
+use Rattle.house_lives.proofs.Readings.{settle-law, standing-law}
+use Rattle.house_lives.proofs.laws.readings_law.Goals as goal
+
+pub returns-clause-settle : goal.returns-clause-settle
+returns-clause-settle c = settle-law
+
+pub returns-clause-standing : goal.returns-clause-standing
+returns-clause-standing c = standing-law

@@ -1,0 +1,10 @@
+pub mod Lives
+pub mod Bytes
+pub mod Kept
+pub mod Crashes
+pub mod Rows
+pub mod Readings
+pub mod Others
+pub mod Runs
+pub mod Moved
+pub mod Headline
