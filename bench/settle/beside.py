@@ -1,7 +1,9 @@
 #!/usr/bin/env python3
 """Settles made auctions by the program and by examples/settle.py, and compares what both write and how they end.
 
-    beside.py PROGRAM [--auctions N] [--seed S]
+    beside.py PROGRAM [--auctions N] [--seed S] [--page]
+
+With --page the script of examples/auction.html settles each too, in node.
 
 PROGRAM is the built house_main. An auction has one to six goods and one to twelve bidders, of either version; its bidders want what a random
 valuation says, or report what they like. Some clocks stop early, some journals are cut, changed at a byte, or another clock's. It prints how
@@ -22,6 +24,7 @@ sys.path.insert(0, str(pathlib.Path(__file__).resolve().parents[2] / "examples")
 from settle import Auction, Clock  # noqa: E402
 
 SETTLE = pathlib.Path(__file__).resolve().parents[2] / "examples" / "settle.py"
+PAGE = pathlib.Path(__file__).resolve().parent / "page.js"
 MOST_BUNDLES = 60
 
 
@@ -136,18 +139,21 @@ def main():
     words.add_argument("program", type=pathlib.Path)
     words.add_argument("--auctions", type=int, default=1_000)
     words.add_argument("--seed", type=int, default=1)
+    words.add_argument("--page", action="store_true")
     given = words.parse_args()
+    others = [[sys.executable, SETTLE], *([["node", PAGE]] if given.page else [])]
     ends, different = collections.Counter(), 0
     for number in range(given.auctions):
         with tempfile.TemporaryDirectory() as name:
             folder = pathlib.Path(name)
             make(random.Random(f"{given.seed} {number}"), folder)
-            by_program = answer([given.program.resolve(), "settle", folder / "auction.toml", folder])
-            by_script = answer([sys.executable, SETTLE, folder / "auction.toml", folder])
+            files = [folder / "auction.toml", folder]
+            by_program = answer([given.program.resolve(), "settle", *files])
+            by_others = [answer([*other, *files]) for other in others]
         ends[by_program[0]] += 1
-        if by_program != by_script:
+        if any(by_other != by_program for by_other in by_others):
             different += 1
-            print(f"auction {number}: {by_program} {by_script}")
+            print(f"auction {number}: {by_program} {by_others}")
     print(f"auctions {given.auctions}, different {different}, by status {dict(sorted(ends.items()))}")
     sys.exit(1 if different else 0)
 
