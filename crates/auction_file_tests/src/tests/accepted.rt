@@ -3,7 +3,7 @@ use super::*;
 use auction_file::{Auction, Name};
 use lot_base::{Sequence, Terms};
 
-/// The text of `examples/spectrum.toml`.
+/// The text of `examples/spectrum/auction.toml`.
 const SPECTRUM: &str =
     r#"# Spectrum licences in three bands, offered to four operators. Prices are in thousands per licence.
 #
