@@ -33,9 +33,11 @@ NUMBERS = {"price": ("prices ", 1), "award": ("bidder ", 3), "payment": ("bidder
 PLANTS = ("journal", "journal", *NUMBERS)
 
 
-def answer(words):
-    ran = subprocess.run(words, capture_output=True)
-    return ran.returncode, ran.stdout.decode()
+def answers(commands):
+    """The status and the text of each command; they run beside one another."""
+    running = [subprocess.Popen(words, stdout=subprocess.PIPE, stderr=subprocess.DEVNULL) for words in commands]
+    texts = [process.communicate()[0].decode() for process in running]
+    return [(process.returncode, text) for process, text in zip(running, texts)]
 
 
 @dataclasses.dataclass
@@ -45,11 +47,11 @@ class Settlers:
     all: list
     comparing: list
 
-    def answers(self, files):
-        return [answer([*settler, *files]) for settler in self.all]
+    def settled(self, files):
+        return answers([*settler, *files] for settler in self.all)
 
     def compared(self, files, outcome):
-        return [answer([*settler, *files, "--check", outcome]) for settler in self.comparing]
+        return answers([*settler, *files, "--check", outcome] for settler in self.comparing)
 
 
 def settlers_of(given):
@@ -104,7 +106,7 @@ def plant_byte(rng, settlers, files, text):
     clock = int(journal.stem[-2:])
     file, _ = changed(rng, journal.read_bytes())
     journal.write_bytes(file)
-    found = settlers.answers(files)
+    found = settlers.settled(files)
     status, said = found[0]
     if any(one != found[0] for one in found):
         return "not told", found
@@ -151,7 +153,7 @@ def main():
         with tempfile.TemporaryDirectory() as name:
             rng, folder = random.Random(f"{given.seed} {number}"), pathlib.Path(name)
             auction, files = make(rng, folder), [folder / "auction.toml", folder]
-            found = settlers.answers(files)
+            found = settlers.settled(files)
             if any(one != found[0] for one in found):
                 wrong += 1
                 print(f"auction {number} differs: {found}")
