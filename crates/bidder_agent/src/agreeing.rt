@@ -5,6 +5,7 @@ ghost use Rattle.bidder_agent.specs.Talks.{Agrees, HasCauseOf, part};
 
 use crate::agents::{AgentEnd, Demands, Seen};
 use crate::knowing::{Known, next_clock};
+use crate::pausing::Pause;
 use crate::talking::exchange;
 use crate::visiting::visit;
 use auction_file::Auction;
@@ -12,9 +13,12 @@ use house_io::Link;
 use lot_base::Sequence;
 use report_wire::ToHouse;
 use std::alloc::Global;
+use std::time::Clock;
 
-/// Takes the part of a bidder, until all clocks but the bidder's own have ended or halted.
+/// Takes the part of a bidder, until all clocks but the bidder's own have ended or halted. Behind each round through the open clocks in
+/// which no look showed anything new it pauses, each time twice as long, from 50 microseconds to 5 milliseconds.
 pub fn agree<D: Demands, L: Link>(
+    rt: &impl Clock,
     alloc: Global,
     auction: &Auction,
     demands: &D,
@@ -49,7 +53,11 @@ pub fn agree<D: Demands, L: Link>(
         looks: Vec::new(alloc),
     };
     let mut from = 0u8;
+    let mut pause = Pause::none();
     'visits: while let Some(clock) = next_clock(&known, bidder, from) {
+        if clock < from {
+            pause.rest(rt);
+        }
         let place = clock as usize;
         let before = known[place];
         match visit(
@@ -64,7 +72,12 @@ pub fn agree<D: Demands, L: Link>(
             link,
             &mut seen.looks,
         ) {
-            Ok(after) => known[place] = after,
+            Ok(after) => {
+                if after.is_new() {
+                    pause.news();
+                }
+                known[place] = after;
+            }
             Err(end) => return Err(end),
         }
         from = clock + 1;

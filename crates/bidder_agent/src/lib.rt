@@ -5,6 +5,7 @@ pub mod agents;
 pub mod agreeing;
 pub mod hearing;
 mod knowing;
+mod pausing;
 mod talking;
 mod visiting;
 pub mod wants;

@@ -1,4 +1,6 @@
 //! Talks of a bidder with links in memory.
+mod pauses;
+
 use auction_file::Auction;
 use bidder_agent::{AgentEnd, Seen, Wants, agree};
 use clock::Look;
@@ -7,6 +9,7 @@ use lot_base::Phase;
 use std::alloc::Global;
 use std::process::Abort;
 use std::test::Fail;
+use std::time::Clock;
 use valuation::Valuation;
 use worked_auctions::talks::{
     ALL, BYE, ENDED_0, ENDED_2, HELLO, LOOK_0, LOOK_2, LOOKS, ONCE, QUIT, REFUSED, REPLIES,
@@ -88,6 +91,7 @@ fn list_link(alloc: Global, failing: u64) -> Result<ListLink, Fail> {
 /// Takes the part of bidder 1 in an auction, with a valuation.
 fn play<L: Link>(
     rt: &impl Abort,
+    clock: &impl Clock,
     alloc: Global,
     auction: &Auction,
     valuation: &Valuation,
@@ -99,19 +103,20 @@ fn play<L: Link>(
         goods: auction.terms.goods,
         valuation,
     };
-    agree(alloc, auction, &wants, 1, b"abc", link, looks)
+    agree(clock, alloc, auction, &wants, 1, b"abc", link, looks)
 }
 
 /// The same, with the files above.
 fn talk<L: Link>(
     rt: &impl Abort,
+    clock: &impl Clock,
     alloc: Global,
     link: &mut L,
     looks: u32,
 ) -> Result<Result<Seen, AgentEnd>, Fail> {
     let auction = auction(rt, alloc)?;
     let valuation = valuation(alloc, &auction)?;
-    Ok(play(rt, alloc, &auction, &valuation, link, looks))
+    Ok(play(rt, clock, alloc, &auction, &valuation, link, looks))
 }
 
 fn count_of(answer: &Result<Seen, AgentEnd>) -> Result<usize, AgentEnd> {
@@ -121,15 +126,15 @@ fn count_of(answer: &Result<Seen, AgentEnd>) -> Result<usize, AgentEnd> {
     }
 }
 
-fn talks(rt: &impl Abort, alloc: Global, case: &Case) -> Result<bool, Fail> {
+fn talks(rt: &(impl Abort + Clock), alloc: Global, case: &Case) -> Result<bool, Fail> {
     let (comes, looks, goes, end) = case;
     let mut link = sure_link(alloc, comes)?;
-    let answer = talk(rt, alloc, &mut link, *looks)?;
+    let answer = talk(rt, rt, alloc, &mut link, *looks)?;
     let wanted = joined(alloc, goes)?;
     Ok(count_of(&answer) == *end && link.written() == wanted.as_slice())
 }
 
-fn check(rt: &impl Abort, alloc: Global, cases: &[Case]) -> Result<(), Fail> {
+fn check(rt: &(impl Abort + Clock), alloc: Global, cases: &[Case]) -> Result<(), Fail> {
     for case in cases {
         let talked = talks(rt, alloc, case)?;
         assert!(rt; talked, "{case:?}");
@@ -143,9 +148,9 @@ fn is_ended(look: &Look) -> bool {
 }
 
 /// Whether the clocks 0 and 2 were seen at their ends.
-fn sees_both(alloc: Global, rt: &impl Abort) -> Result<bool, Fail> {
+fn sees_both(alloc: Global, rt: &(impl Abort + Clock)) -> Result<bool, Fail> {
     let mut link = sure_link(alloc, REPLIES)?;
-    match talk(rt, alloc, &mut link, 1)? {
+    match talk(rt, rt, alloc, &mut link, 1)? {
         Ok(seen) => Ok(match seen.looks.as_slice() {
             [first, second] => {
                 first.clock == 0
@@ -231,9 +236,14 @@ fn a_round_never_goes_back(rt: HostRuntime) -> Result<(), Fail> {
 }
 
 /// Whether the talk ends by the link's fault behind these frames.
-fn is_cut(rt: &impl Abort, alloc: Global, failing: u64, goes: &[&[u8]]) -> Result<bool, Fail> {
+fn is_cut(
+    rt: &(impl Abort + Clock),
+    alloc: Global,
+    failing: u64,
+    goes: &[&[u8]],
+) -> Result<bool, Fail> {
     let mut link = list_link(alloc, failing)?;
-    let answer = talk(rt, alloc, &mut link, 1)?;
+    let answer = talk(rt, rt, alloc, &mut link, 1)?;
     let wanted = joined(alloc, goes)?;
     Ok(count_of(&answer) == Err(AgentEnd::LinkFault) && link.written() == wanted.as_slice())
 }

@@ -9,10 +9,11 @@ use house_run::{Ended, run};
 use std::alloc::Global;
 use std::sync::Wait;
 use std::thread::Threads;
+use std::time::Clock;
 
 /// Runs the program as its `main` does. Where the words are those of `serve`, and the shelf tells its files, the call is a life of the
 /// laws, however it ended; where it is done, whatever the command, it is a run that was done.
-pub fn live<T: Threads + Wait + Sync, H: Shelf, S: Sink, N: Net>(
+pub fn live<T: Threads + Wait + Sync + Clock, H: Shelf, S: Sink, N: Net>(
     rt: &T,
     alloc: Global,
     words: &[String],

@@ -26,9 +26,10 @@ use house_io::{Net, Shelf};
 use std::alloc::Global;
 use std::sync::Wait;
 use std::thread::Threads;
+use std::time::Clock;
 
 /// The text of a command's job, or how the job ended without one.
-pub(crate) fn job<T: Threads + Wait + Sync, H: Shelf, N: Net>(
+pub(crate) fn job<T: Threads + Wait + Sync + Clock, H: Shelf, N: Net>(
     rt: &T,
     alloc: Global,
     command: &CommandWords,
@@ -80,7 +81,7 @@ pub(crate) fn job<T: Threads + Wait + Sync, H: Shelf, N: Net>(
             auction,
             values,
             bidding,
-        } => bid::job(alloc, auction, values, bidding, shelf, net),
+        } => bid::job(rt, alloc, auction, values, bidding, shelf, net),
         CommandWords::Migrate {
             old,
             journals,

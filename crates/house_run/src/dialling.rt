@@ -15,9 +15,11 @@ use bidder_agent::{AgentEnd, Seen, Wants, agree};
 use command_line::Bidding;
 use house_io::{Link, Net};
 use std::alloc::Global;
+use std::time::Clock;
 
 /// Dials a link, takes the bidder's part over it, and hangs it up.
-pub(crate) fn talk<N: Net>(
+pub(crate) fn talk<T: Clock, N: Net>(
+    rt: &T,
     alloc: Global,
     market: &Bidders,
     bidding: &Bidding,
@@ -38,7 +40,7 @@ pub(crate) fn talk<N: Net>(
         Ok(link) => link,
         Err(refusal) => return Err(net_end(refusal)),
     };
-    let answer = play(alloc, market, bidding, &mut link);
+    let answer = play(rt, alloc, market, bidding, &mut link);
     net.hang_up(link);
     match answer {
         Ok(seen) => Ok(seen),
@@ -47,7 +49,8 @@ pub(crate) fn talk<N: Net>(
 }
 
 /// Takes the bidder's part over a link.
-fn play<L: Link>(
+fn play<T: Clock, L: Link>(
+    rt: &T,
     alloc: Global,
     market: &Bidders,
     bidding: &Bidding,
@@ -67,6 +70,7 @@ fn play<L: Link>(
     };
     let token = bidding.token.as_bytes();
     agree(
+        rt,
         alloc,
         auction,
         &wants,

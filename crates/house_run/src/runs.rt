@@ -19,11 +19,12 @@ use lot_base::NoMemory;
 use std::alloc::Global;
 use std::sync::Wait;
 use std::thread::Threads;
+use std::time::Clock;
 
 /// Does what the words say, and writes one text: the job's where it was done, else a line that says how it ended, and nothing
 /// where memory ran out. The words are those of the command line without the program's name. Each source that was opened is
 /// closed again, and each link that was dialled is hung up.
-pub fn run<T: Threads + Wait + Sync, H: Shelf, S: Sink, N: Net>(
+pub fn run<T: Threads + Wait + Sync + Clock, H: Shelf, S: Sink, N: Net>(
     rt: &T,
     alloc: Global,
     words: &[String],
@@ -44,7 +45,7 @@ pub fn run<T: Threads + Wait + Sync, H: Shelf, S: Sink, N: Net>(
 }
 
 /// The same, but for what follows where nothing fails.
-fn run_words<T: Threads + Wait + Sync, H: Shelf, S: Sink, N: Net>(
+fn run_words<T: Threads + Wait + Sync + Clock, H: Shelf, S: Sink, N: Net>(
     rt: &T,
     alloc: Global,
     words: &[String],
@@ -63,7 +64,7 @@ fn run_words<T: Threads + Wait + Sync, H: Shelf, S: Sink, N: Net>(
 }
 
 /// The same, of words with each option and its value in one.
-fn run_joined<T: Threads + Wait + Sync, H: Shelf, S: Sink, N: Net>(
+fn run_joined<T: Threads + Wait + Sync + Clock, H: Shelf, S: Sink, N: Net>(
     rt: &T,
     alloc: Global,
     joined: &Joined,
@@ -82,7 +83,7 @@ fn run_joined<T: Threads + Wait + Sync, H: Shelf, S: Sink, N: Net>(
 }
 
 /// The same, of words that were parted.
-fn run_parted<T: Threads + Wait + Sync, H: Shelf, S: Sink, N: Net>(
+fn run_parted<T: Threads + Wait + Sync + Clock, H: Shelf, S: Sink, N: Net>(
     rt: &T,
     alloc: Global,
     parted: &Parted,
@@ -104,7 +105,7 @@ fn run_parted<T: Threads + Wait + Sync, H: Shelf, S: Sink, N: Net>(
 }
 
 /// Does the job of a command, and writes its text or the line of its end.
-fn run_command<T: Threads + Wait + Sync, H: Shelf, S: Sink, N: Net>(
+fn run_command<T: Threads + Wait + Sync + Clock, H: Shelf, S: Sink, N: Net>(
     rt: &T,
     alloc: Global,
     command: &CommandWords,

@@ -5,6 +5,7 @@ use super::shelves::{Kill, no_journals};
 use std::alloc::Global;
 use std::sync::Wait;
 use std::thread::Threads;
+use std::time::Clock;
 use worked_auctions::talks::TAKEN_2;
 
 /// How many calls on the journal are tried: more than a life with one report makes.
@@ -38,7 +39,7 @@ fn fate_of(first: Option<&[u8]>, second: Option<&[u8]>) -> Fate {
 
 /// The fate of ada's report to the clock without bob where the house is killed at this call on the clock's journal, and started again.
 /// Nothing, here and below, where there is no memory.
-fn fate_at(rt: &(impl Threads + Wait + Sync), alloc: Global, call: u64) -> Option<Fate> {
+fn fate_at(rt: &(impl Threads + Wait + Sync + Clock), alloc: Global, call: u64) -> Option<Fate> {
     let journals = no_journals(alloc)?;
     let first = life(rt, alloc, &journals, Some(Kill { clock: 2, call }), &[ADA])?;
     let second = life(rt, alloc, &first.journals, None, &[ADA])?;
@@ -46,7 +47,7 @@ fn fate_at(rt: &(impl Threads + Wait + Sync), alloc: Global, call: u64) -> Optio
 }
 
 /// Its fate for each call in turn.
-fn fates(rt: &(impl Threads + Wait + Sync), alloc: Global) -> Option<Vec<Fate>> {
+fn fates(rt: &(impl Threads + Wait + Sync + Clock), alloc: Global) -> Option<Vec<Fate>> {
     let mut fates = Vec::new(alloc);
     for call in 0..CALLS {
         fates.push(fate_at(rt, alloc, call)?).ok()?;
@@ -66,7 +67,10 @@ fn count(fates: &[Fate], wanted: Fate) -> usize {
 }
 
 /// How often the report was dropped, counted though a fault was answered, and lost, and whether it was kept at the last call.
-fn counts(rt: &(impl Threads + Wait + Sync), alloc: Global) -> Option<(usize, usize, usize, bool)> {
+fn counts(
+    rt: &(impl Threads + Wait + Sync + Clock),
+    alloc: Global,
+) -> Option<(usize, usize, usize, bool)> {
     let fates = fates(rt, alloc)?;
     let kept = matches!(fates.last(), Some(Fate::Kept));
     Some((

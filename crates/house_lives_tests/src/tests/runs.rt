@@ -6,6 +6,7 @@ use house_lives::live;
 use std::alloc::Global;
 use std::sync::Wait;
 use std::thread::Threads;
+use std::time::Clock;
 
 /// The room of a link and of a sink, in bytes.
 const ROOM: u32 = 2_000;
@@ -25,7 +26,7 @@ fn words_of(alloc: Global, words: &[&str]) -> Option<Vec<String>> {
 
 /// How a run of these words ends, over a net and a sink where nothing fails.
 fn ended(
-    rt: &(impl Threads + Wait + Sync),
+    rt: &(impl Threads + Wait + Sync + Clock),
     alloc: Global,
     words: &[String],
     shelf: &mut ListShelf,
@@ -37,7 +38,7 @@ fn ended(
 
 /// The status and the text of a run of these words.
 fn answer_of(
-    rt: &(impl Threads + Wait + Sync),
+    rt: &(impl Threads + Wait + Sync + Clock),
     alloc: Global,
     words: &[&str],
     shelf: &mut ListShelf,
@@ -125,7 +126,7 @@ fn shown(alloc: Global, shelf: &ListShelf, net: &SureNet) -> Option<Lived> {
 
 /// A life on these journals, with a session for each of these lists of frames.
 pub(super) fn life(
-    rt: &(impl Threads + Wait + Sync),
+    rt: &(impl Threads + Wait + Sync + Clock),
     alloc: Global,
     journals: &[Vec<u8>],
     kill: Option<Kill>,
@@ -139,7 +140,7 @@ pub(super) fn life(
 
 /// The status and the text of `settle` on these journals.
 pub(super) fn settled(
-    rt: &(impl Threads + Wait + Sync),
+    rt: &(impl Threads + Wait + Sync + Clock),
     alloc: Global,
     journals: &[Vec<u8>],
 ) -> Option<(u8, Vec<u8>)> {

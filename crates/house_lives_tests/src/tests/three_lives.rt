@@ -5,6 +5,7 @@ use super::shelves::{Kill, no_journals};
 use std::alloc::Global;
 use std::sync::Wait;
 use std::thread::Threads;
+use std::time::Clock;
 use worked_auctions::talks::{TAKEN_0, TAKEN_2};
 
 /// What the text of the settlement begins with.
@@ -26,7 +27,7 @@ const BEHIND: usize = 17;
 
 /// The call on the journal of a clock that writes the record of a bidder's second report: the first at which a kill makes a fault of it.
 fn record_call(
-    rt: &(impl Threads + Wait + Sync),
+    rt: &(impl Threads + Wait + Sync + Clock),
     alloc: Global,
     journals: &[Vec<u8>],
     clock: usize,
@@ -42,14 +43,18 @@ fn record_call(
 }
 
 /// In its first life the house was killed as it opened the gate before ada's second report: one was acknowledged.
-fn first(rt: &(impl Threads + Wait + Sync), alloc: Global) -> Option<Lived> {
+fn first(rt: &(impl Threads + Wait + Sync + Clock), alloc: Global) -> Option<Lived> {
     let journals = no_journals(alloc)?;
     let call = record_call(rt, alloc, &journals, 2, &[ADA])?.saturating_add(TO_GATE);
     life(rt, alloc, &journals, Some(Kill { clock: 2, call }), &[ADA])
 }
 
 /// In its second life the power went as it wrote bob's second report: one was acknowledged.
-fn second(rt: &(impl Threads + Wait + Sync), alloc: Global, journals: &[Vec<u8>]) -> Option<Lived> {
+fn second(
+    rt: &(impl Threads + Wait + Sync + Clock),
+    alloc: Global,
+    journals: &[Vec<u8>],
+) -> Option<Lived> {
     let call = record_call(rt, alloc, journals, 1, &[BOB])?;
     life(rt, alloc, journals, Some(Kill { clock: 1, call }), &[BOB])
 }
@@ -71,7 +76,7 @@ fn was_answered(lived: &Lived, session: usize, replies: (&[u8], &[u8])) -> bool 
 
 /// Whether the journals settle.
 fn do_settle(
-    rt: &(impl Threads + Wait + Sync),
+    rt: &(impl Threads + Wait + Sync + Clock),
     alloc: Global,
     journals: &[Vec<u8>],
 ) -> Option<bool> {
@@ -81,7 +86,7 @@ fn do_settle(
 
 /// In its third life both came back: whether what was acknowledged was there, the rest was taken, and all of it settles.
 fn ends_well(
-    rt: &(impl Threads + Wait + Sync),
+    rt: &(impl Threads + Wait + Sync + Clock),
     alloc: Global,
     journals: &[Vec<u8>],
 ) -> Option<bool> {
@@ -92,7 +97,7 @@ fn ends_well(
 }
 
 /// Whether the three lives go so, with these bytes where the power went.
-fn go_well(rt: &(impl Threads + Wait + Sync), alloc: Global, fill: u8) -> Option<bool> {
+fn go_well(rt: &(impl Threads + Wait + Sync + Clock), alloc: Global, fill: u8) -> Option<bool> {
     let first = first(rt, alloc)?;
     let second = second(rt, alloc, &first.journals)?;
     let told = was_answered(&first, 0, (TAKEN_0, FAILED))

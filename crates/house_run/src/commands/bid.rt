@@ -19,9 +19,11 @@ use house_io::{Net, Shelf};
 use lot_base::NoMemory;
 use outcome_text::write_standing;
 use std::alloc::Global;
+use std::time::Clock;
 
 /// The lines of the clocks' ends that the agent saw, or why there are none.
-pub(crate) fn job<H: Shelf, N: Net>(
+pub(crate) fn job<T: Clock, H: Shelf, N: Net>(
+    rt: &T,
     alloc: Global,
     auction: &str,
     values: &str,
@@ -41,7 +43,7 @@ pub(crate) fn job<H: Shelf, N: Net>(
         Ok(market) => market,
         Err(ended) => return Err(ended),
     };
-    let seen = match talk(alloc, &market, bidding, net) {
+    let seen = match talk(rt, alloc, &market, bidding, net) {
         Ok(seen) => seen,
         Err(ended) => return Err(ended),
     };

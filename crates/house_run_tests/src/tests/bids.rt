@@ -7,6 +7,7 @@ use house_io::{ListLink, ListNet, Net, SureNet};
 use std::alloc::Global;
 use std::sync::Wait;
 use std::thread::Threads;
+use std::time::Clock;
 use worked_auctions::talks::{ALL, HELLO, LOOKS, ONCE, REFUSED, REPLIES};
 use worked_auctions::valuations::TIE;
 
@@ -27,7 +28,7 @@ type Case<'a> = (&'a [&'a str], &'a [&'a [u8]], &'a [&'a [u8]], u8, &'a str);
 
 /// Whether these words over a net end with this status and text.
 fn ends_with<N: Net>(
-    rt: &(impl Threads + Wait + Sync),
+    rt: &(impl Threads + Wait + Sync + Clock),
     alloc: Global,
     words: &[&str],
     net: &mut N,
@@ -55,7 +56,7 @@ fn has_gone(alloc: Global, net: &SureNet, frames: &[&[u8]]) -> Option<bool> {
 }
 
 /// Whether a bid ends as the case says.
-fn bids(rt: &(impl Threads + Wait + Sync), alloc: Global, case: &Case) -> Option<bool> {
+fn bids(rt: &(impl Threads + Wait + Sync + Clock), alloc: Global, case: &Case) -> Option<bool> {
     let (words, comes, goes, status, text) = case;
     let mut net = net_to_dial(alloc, comes)?;
     let told = ends_with(rt, alloc, words, &mut net, *status, text)?;
@@ -108,7 +109,7 @@ fn list_net(alloc: Global, failing_link: Option<u64>, failing: Option<u64>) -> O
 
 /// Whether a bid over such a net is told to fail there.
 fn tells_the_fault(
-    rt: &(impl Threads + Wait + Sync),
+    rt: &(impl Threads + Wait + Sync + Clock),
     alloc: Global,
     failing_link: Option<u64>,
     failing: Option<u64>,

@@ -5,6 +5,7 @@ use super::runs::runs_over;
 use std::alloc::Global;
 use std::sync::Wait;
 use std::thread::Threads;
+use std::time::Clock;
 
 /// The head and the goods of an auction of two bidders, the entries of its clocks, and how they are explained.
 type Row = (
@@ -83,7 +84,11 @@ clock 2 running
 const EXPLAIN: &[&str] = &["explain", "a", "j"];
 
 /// Whether the clocks of an auction are explained so.
-fn is_explained(rt: &(impl Threads + Wait + Sync), alloc: Global, row: &Row) -> Option<bool> {
+fn is_explained(
+    rt: &(impl Threads + Wait + Sync + Clock),
+    alloc: Global,
+    row: &Row,
+) -> Option<bool> {
     let (head, goods, clocks, text) = row;
     let auction = auction_of(alloc, head, goods, 2)?;
     let contents = house_of_entries(alloc, auction, clocks)?;

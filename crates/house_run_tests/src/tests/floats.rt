@@ -5,6 +5,7 @@ use super::runs::runs_over;
 use std::alloc::Global;
 use std::sync::Wait;
 use std::thread::Threads;
+use std::time::Clock;
 use worked_auctions::valuations;
 
 /// The head of a file in version 2, with a ceiling of 100.
@@ -133,7 +134,7 @@ const NO_STARTS: &[Row] = &[
 const NAMES: &[&str] = &["a", "v"];
 
 /// Whether an auction floats so.
-fn floats(rt: &(impl Threads + Wait + Sync), alloc: Global, row: &Row) -> Option<bool> {
+fn floats(rt: &(impl Threads + Wait + Sync + Clock), alloc: Global, row: &Row) -> Option<bool> {
     let (head, goods, bidders, values, start, status, text) = row;
     let mut contents = Vec::new(alloc);
     contents

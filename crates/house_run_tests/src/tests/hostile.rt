@@ -10,6 +10,7 @@ use report_wire::{Reader, ToHouse};
 use std::alloc::Global;
 use std::sync::Wait;
 use std::thread::Threads;
+use std::time::Clock;
 use valuation::read as read_values;
 use worked_auctions::talks::HELLO;
 
@@ -209,7 +210,7 @@ fn status_and_line(alloc: Global, answer: &Answer) -> Option<String> {
 
 /// How these words end over these files.
 fn command_answer(
-    rt: &(impl Threads + Wait + Sync),
+    rt: &(impl Threads + Wait + Sync + Clock),
     alloc: Global,
     words: &[&str],
     files: &[Named],
@@ -229,7 +230,7 @@ fn ada_shelf(alloc: Global) -> Option<SureShelf> {
 
 /// The first line of what a house on a net tells.
 fn served_line(
-    rt: &(impl Threads + Wait + Sync),
+    rt: &(impl Threads + Wait + Sync + Clock),
     alloc: Global,
     net: &mut SureNet,
 ) -> Option<String> {
@@ -254,7 +255,7 @@ fn with_replies(alloc: Global, line: &str, net: &SureNet) -> Option<String> {
 
 /// How the session of these bytes ended, and what was written.
 fn session_answer(
-    rt: &(impl Threads + Wait + Sync),
+    rt: &(impl Threads + Wait + Sync + Clock),
     alloc: Global,
     bytes: &[u8],
 ) -> Option<String> {
@@ -269,7 +270,11 @@ fn journal_with<'a>(alloc: Global, digest: &'a [u8], bytes: &'a [u8]) -> Option<
 }
 
 /// How a settlement of such a journal ends.
-fn settle_answer(rt: &(impl Threads + Wait + Sync), alloc: Global, bytes: &[u8]) -> Option<String> {
+fn settle_answer(
+    rt: &(impl Threads + Wait + Sync + Clock),
+    alloc: Global,
+    bytes: &[u8],
+) -> Option<String> {
     let auction = ada_alone(alloc)?;
     let digest = digest_of(alloc, &auction)?;
     let journal = journal_with(alloc, &digest, bytes)?;
@@ -282,7 +287,7 @@ fn settle_answer(rt: &(impl Threads + Wait + Sync), alloc: Global, bytes: &[u8])
 
 /// What the reader of a case answers to these bytes.
 fn answer_by(
-    rt: &(impl Threads + Wait + Sync),
+    rt: &(impl Threads + Wait + Sync + Clock),
     alloc: Global,
     by: By,
     bytes: &[u8],
@@ -307,7 +312,7 @@ fn front_of(by: By) -> &'static [u8] {
 }
 
 /// Whether a reader answers as the case says.
-fn answers(rt: &(impl Threads + Wait + Sync), alloc: Global, case: &Case) -> Option<bool> {
+fn answers(rt: &(impl Threads + Wait + Sync + Clock), alloc: Global, case: &Case) -> Option<bool> {
     let (by, bytes, times, wanted) = case;
     let whole = repeated(alloc, front_of(*by), bytes, *times)?;
     let found = answer_by(rt, alloc, *by, &whole)?;

@@ -6,6 +6,7 @@ use super::runs::{runs_over, runs_so};
 use std::alloc::Global;
 use std::sync::Wait;
 use std::thread::Threads;
+use std::time::Clock;
 
 /// What was reported to the clocks of an auction of one unit for ada and bob, the words over it, the status and the text.
 type Row = (
@@ -66,7 +67,7 @@ value 1 0
 ];
 
 /// Whether these words over that auction end so.
-fn is_judged(rt: &(impl Threads + Wait + Sync), alloc: Global, row: &Row) -> Option<bool> {
+fn is_judged(rt: &(impl Threads + Wait + Sync + Clock), alloc: Global, row: &Row) -> Option<bool> {
     let (reports, words, status, text) = row;
     let auction = auction_of(alloc, FIRST_VERSION, ONE_UNIT, 2)?;
     let contents = house_with(alloc, auction, reports)?;
@@ -86,7 +87,7 @@ const DAMAGED: &[u8] = &[0xa5; 64];
 
 /// Whether these words over that auction, with a damaged journal, end so.
 fn ends_over_damage(
-    rt: &(impl Threads + Wait + Sync),
+    rt: &(impl Threads + Wait + Sync + Clock),
     alloc: Global,
     words: &[&str],
     status: u8,

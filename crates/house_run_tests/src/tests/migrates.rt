@@ -8,6 +8,7 @@ use lot_base::Prices;
 use std::alloc::Global;
 use std::sync::Wait;
 use std::thread::Threads;
+use std::time::Clock;
 
 const THIRD_VERSION: &str = "version = 3\nceiling = 10\n";
 
@@ -186,7 +187,7 @@ fn has_all(alloc: Global, shelf: &SureShelf, contents: &[Vec<u8>]) -> Option<boo
 }
 
 /// The bytes of each file once the journals were moved, if they were.
-fn moved_bytes(rt: &(impl Threads + Wait + Sync), alloc: Global) -> Option<Vec<Vec<u8>>> {
+fn moved_bytes(rt: &(impl Threads + Wait + Sync + Clock), alloc: Global) -> Option<Vec<Vec<u8>>> {
     let contents = contents_of(alloc, Hindrance::Nothing)?;
     let mut shelf = shelf_of(alloc, &contents)?;
     if !ends_over(rt, alloc, MIGRATE, &mut shelf, 0, MOVED)? {
@@ -197,7 +198,7 @@ fn moved_bytes(rt: &(impl Threads + Wait + Sync), alloc: Global) -> Option<Vec<V
 
 /// Whether a migration over these files is done, with those files at its end.
 fn is_moved(
-    rt: &(impl Threads + Wait + Sync),
+    rt: &(impl Threads + Wait + Sync + Clock),
     alloc: Global,
     contents: &[Vec<u8>],
     moved: &[Vec<u8>],
@@ -208,19 +209,19 @@ fn is_moved(
 }
 
 /// Whether a migration over journals that were moved is done and changes nothing.
-fn moves_nothing(rt: &(impl Threads + Wait + Sync), alloc: Global) -> Option<bool> {
+fn moves_nothing(rt: &(impl Threads + Wait + Sync + Clock), alloc: Global) -> Option<bool> {
     let moved = moved_bytes(rt, alloc)?;
     is_moved(rt, alloc, &moved, &moved)
 }
 
 /// A shelf of which the journals were moved.
-fn moved_shelf(rt: &(impl Threads + Wait + Sync), alloc: Global) -> Option<SureShelf> {
+fn moved_shelf(rt: &(impl Threads + Wait + Sync + Clock), alloc: Global) -> Option<SureShelf> {
     shelf_of(alloc, &moved_bytes(rt, alloc)?)
 }
 
 /// Whether these words tell how the clocks stand.
 fn tells_standing(
-    rt: &(impl Threads + Wait + Sync),
+    rt: &(impl Threads + Wait + Sync + Clock),
     alloc: Global,
     words: &[&str],
 ) -> Option<bool> {
@@ -230,7 +231,7 @@ fn tells_standing(
 
 /// The text that these words write.
 fn text_of(
-    rt: &(impl Threads + Wait + Sync),
+    rt: &(impl Threads + Wait + Sync + Clock),
     alloc: Global,
     words: &[&str],
     shelf: &mut SureShelf,
@@ -252,7 +253,7 @@ fn has_opening(alloc: Global, before: &[u8], after: &[u8]) -> Option<bool> {
 }
 
 /// Whether the old auction settles, and the new one does so too, with the line of the opening price.
-fn settles_twice(rt: &(impl Threads + Wait + Sync), alloc: Global) -> Option<bool> {
+fn settles_twice(rt: &(impl Threads + Wait + Sync + Clock), alloc: Global) -> Option<bool> {
     let mut shelf = moved_shelf(rt, alloc)?;
     let before = text_of(rt, alloc, &["settle", "a", "j"], &mut shelf)?;
     let after = text_of(rt, alloc, &["settle", "b", "t"], &mut shelf)?;
@@ -276,7 +277,7 @@ fn journals_are_moved_once(rt: HostRuntime) {
 
 /// Whether a migration over files where this keeps journals from being moved ends so.
 fn is_told(
-    rt: &(impl Threads + Wait + Sync),
+    rt: &(impl Threads + Wait + Sync + Clock),
     alloc: Global,
     hindrance: Hindrance,
     status: u8,
@@ -306,7 +307,7 @@ const HINDRANCES: &[(Hindrance, u8, &str)] = &[
 ];
 
 /// Whether a migration of a folder to itself is no command, over no files.
-fn is_usage(rt: &(impl Threads + Wait + Sync), alloc: Global) -> Option<bool> {
+fn is_usage(rt: &(impl Threads + Wait + Sync + Clock), alloc: Global) -> Option<bool> {
     let mut shelf = shelf_of(alloc, &[])?;
     let words = ["migrate", "a", "j", "b", "j"];
     ends_over(rt, alloc, &words, &mut shelf, 2, "usage\n")
@@ -338,7 +339,7 @@ fn may_tell(place: Outside, status: u8) -> bool {
 
 /// The status of a migration on such a shelf.
 fn migration_status(
-    rt: &(impl Threads + Wait + Sync),
+    rt: &(impl Threads + Wait + Sync + Clock),
     alloc: Global,
     shelf: &mut ListShelf,
     failing: Failing,
@@ -349,7 +350,7 @@ fn migration_status(
 
 /// Whether a migration over what that shelf has is done where nothing fails, with those files at its end.
 fn goes_on(
-    rt: &(impl Threads + Wait + Sync),
+    rt: &(impl Threads + Wait + Sync + Clock),
     alloc: Global,
     shelf: &ListShelf,
     moved: &[Vec<u8>],
@@ -361,7 +362,7 @@ fn goes_on(
 /// Runs a migration where these calls fail, and then one where none does. Whether the first was done, as one that has no such call
 /// is; nothing where the second was not, or the first told another fault.
 fn is_done_on(
-    rt: &(impl Threads + Wait + Sync),
+    rt: &(impl Threads + Wait + Sync + Clock),
     alloc: Global,
     shelf: &mut ListShelf,
     moved: &[Vec<u8>],
@@ -380,7 +381,7 @@ fn is_done_on(
 
 /// The same over these files.
 fn is_done(
-    rt: &(impl Threads + Wait + Sync),
+    rt: &(impl Threads + Wait + Sync + Clock),
     alloc: Global,
     contents: &[Vec<u8>],
     moved: &[Vec<u8>],
@@ -392,7 +393,7 @@ fn is_done(
 
 /// Whether there is a number of calls from which on a migration is done, with so many calls in a row failing from there on.
 fn ends_done(
-    rt: &(impl Threads + Wait + Sync),
+    rt: &(impl Threads + Wait + Sync + Clock),
     alloc: Global,
     contents: &[Vec<u8>],
     moved: &[Vec<u8>],
@@ -414,7 +415,7 @@ fn ends_done(
 
 /// The same over the files that nothing keeps from being moved.
 fn goes_on_from_each(
-    rt: &(impl Threads + Wait + Sync),
+    rt: &(impl Threads + Wait + Sync + Clock),
     alloc: Global,
     place: Outside,
     count: u64,

@@ -8,10 +8,11 @@ use house_run::run;
 use std::alloc::Global;
 use std::sync::Wait;
 use std::thread::Threads;
+use std::time::Clock;
 
 /// How a run of these words ends.
 fn ended<H: Shelf, S: Sink, N: Net>(
-    rt: &(impl Threads + Wait + Sync),
+    rt: &(impl Threads + Wait + Sync + Clock),
     alloc: Global,
     words: &[String],
     shelf: &mut H,
@@ -23,7 +24,7 @@ fn ended<H: Shelf, S: Sink, N: Net>(
 
 /// The status that these words end with. Nothing, here and below, where there is no memory.
 fn status_of<H: Shelf, S: Sink, N: Net>(
-    rt: &(impl Threads + Wait + Sync),
+    rt: &(impl Threads + Wait + Sync + Clock),
     alloc: Global,
     words: &[&str],
     shelf: &mut H,
@@ -50,7 +51,7 @@ fn with_text(alloc: Global, status: u8, out: &SureSink) -> Option<Answer> {
 
 /// What these words answer over a shelf and a net, where no write fails.
 pub(super) fn answer_of<H: Shelf, N: Net>(
-    rt: &(impl Threads + Wait + Sync),
+    rt: &(impl Threads + Wait + Sync + Clock),
     alloc: Global,
     words: &[&str],
     shelf: &mut H,
@@ -63,7 +64,7 @@ pub(super) fn answer_of<H: Shelf, N: Net>(
 
 /// Whether these words end with this status and text over a shelf and a net.
 pub(super) fn ends_so<H: Shelf, N: Net>(
-    rt: &(impl Threads + Wait + Sync),
+    rt: &(impl Threads + Wait + Sync + Clock),
     alloc: Global,
     words: &[&str],
     shelf: &mut H,
@@ -77,7 +78,7 @@ pub(super) fn ends_so<H: Shelf, N: Net>(
 
 /// What these words answer over a shelf where nothing fails, and no net.
 pub(super) fn answer_over(
-    rt: &(impl Threads + Wait + Sync),
+    rt: &(impl Threads + Wait + Sync + Clock),
     alloc: Global,
     words: &[&str],
     shelf: &mut SureShelf,
@@ -88,7 +89,7 @@ pub(super) fn answer_over(
 
 /// Whether these words end with this status and text over such a shelf.
 pub(super) fn ends_over(
-    rt: &(impl Threads + Wait + Sync),
+    rt: &(impl Threads + Wait + Sync + Clock),
     alloc: Global,
     words: &[&str],
     shelf: &mut SureShelf,
@@ -113,7 +114,7 @@ pub(super) fn has_kept(shelf: &SureShelf, files: &[Named]) -> bool {
 
 /// Whether these words over these files, where nothing fails, end with this status and text, and leave the files as they were.
 pub(super) fn runs_so(
-    rt: &(impl Threads + Wait + Sync),
+    rt: &(impl Threads + Wait + Sync + Clock),
     alloc: Global,
     words: &[&str],
     files: &[Named],
@@ -127,7 +128,7 @@ pub(super) fn runs_so(
 
 /// The same over these contents, each with its name.
 pub(super) fn runs_over(
-    rt: &(impl Threads + Wait + Sync),
+    rt: &(impl Threads + Wait + Sync + Clock),
     alloc: Global,
     words: &[&str],
     names: &[&str],
@@ -141,7 +142,7 @@ pub(super) fn runs_over(
 
 /// The status that these words end with over a shelf and a sink where calls fail, and no net.
 pub(super) fn failing_status(
-    rt: &(impl Threads + Wait + Sync),
+    rt: &(impl Threads + Wait + Sync + Clock),
     alloc: Global,
     words: &[&str],
     shelf: &mut ListShelf,
@@ -176,7 +177,7 @@ fn failing_in(row: &FailingRow) -> Failing {
 
 /// Whether the words of a row over a shelf and a sink end as it says.
 fn fails_on(
-    rt: &(impl Threads + Wait + Sync),
+    rt: &(impl Threads + Wait + Sync + Clock),
     alloc: Global,
     row: &FailingRow,
     shelf: &mut ListShelf,
@@ -189,7 +190,7 @@ fn fails_on(
 
 /// Whether they do so over a shelf of these files, and leave the files as they were.
 fn fails_over(
-    rt: &(impl Threads + Wait + Sync),
+    rt: &(impl Threads + Wait + Sync + Clock),
     alloc: Global,
     files: &[Named],
     row: &FailingRow,
@@ -202,7 +203,7 @@ fn fails_over(
 
 /// Whether the words of a row over these files end as it says, and leave the files as they were.
 pub(super) fn fails_so(
-    rt: &(impl Threads + Wait + Sync),
+    rt: &(impl Threads + Wait + Sync + Clock),
     alloc: Global,
     files: &[Named],
     row: &FailingRow,

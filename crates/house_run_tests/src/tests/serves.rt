@@ -7,6 +7,7 @@ use house_io::{ListDoor, ListNet, SureDoor, SureNet, SureShelf};
 use std::alloc::Global;
 use std::sync::Wait;
 use std::thread::Threads;
+use std::time::Clock;
 use worked_auctions::talks::{BYE, HELLO, QUIT, REPORT_0, REPORT_2, TAKEN_0, TAKEN_2, WELCOME};
 
 /// Ada wants the unit, and says so to the clock of all and to that without bob.
@@ -97,7 +98,7 @@ pub(super) fn journal_length(shelf: &SureShelf) -> Option<usize> {
 
 /// Whether the auction is served at two doors.
 fn is_served(
-    rt: &(impl Threads + Wait + Sync),
+    rt: &(impl Threads + Wait + Sync + Clock),
     alloc: Global,
     shelf: &mut SureShelf,
     net: &mut SureNet,
@@ -107,7 +108,7 @@ fn is_served(
 
 /// Whether it is settled.
 fn is_settled(
-    rt: &(impl Threads + Wait + Sync),
+    rt: &(impl Threads + Wait + Sync + Clock),
     alloc: Global,
     shelf: &mut SureShelf,
     net: &mut SureNet,
@@ -121,7 +122,7 @@ type Served = (bool, bool, usize, bool);
 
 /// All that of one auction over a shelf and a net.
 fn served_on(
-    rt: &(impl Threads + Wait + Sync),
+    rt: &(impl Threads + Wait + Sync + Clock),
     alloc: Global,
     shelf: &mut SureShelf,
     net: &mut SureNet,
@@ -135,7 +136,7 @@ fn served_on(
 
 /// The same over a shelf without journals.
 fn served_anew(
-    rt: &(impl Threads + Wait + Sync),
+    rt: &(impl Threads + Wait + Sync + Clock),
     alloc: Global,
     net: &mut SureNet,
 ) -> Option<Served> {
@@ -144,7 +145,7 @@ fn served_anew(
 }
 
 /// The same on a net with both bidders.
-fn served_and_settled(rt: &(impl Threads + Wait + Sync), alloc: Global) -> Option<Served> {
+fn served_and_settled(rt: &(impl Threads + Wait + Sync + Clock), alloc: Global) -> Option<Served> {
     let mut net = net_with_doors(alloc, &[ADA, BOB])?;
     served_anew(rt, alloc, &mut net)
 }
@@ -157,7 +158,7 @@ fn an_auction_is_served_and_settled(rt: HostRuntime) {
 
 /// Whether a house on this net ends with a fault of it.
 fn ends_by_the_net(
-    rt: &(impl Threads + Wait + Sync),
+    rt: &(impl Threads + Wait + Sync + Clock),
     alloc: Global,
     net: &mut ListNet,
 ) -> Option<bool> {
@@ -166,7 +167,7 @@ fn ends_by_the_net(
 }
 
 /// Whether one on a net whose first call fails does so.
-fn tells_the_fault(rt: &(impl Threads + Wait + Sync), alloc: Global) -> Option<bool> {
+fn tells_the_fault(rt: &(impl Threads + Wait + Sync + Clock), alloc: Global) -> Option<bool> {
     let mut net = failing_net(alloc)?;
     ends_by_the_net(rt, alloc, &mut net)
 }

@@ -9,6 +9,7 @@ use house_io::SureShelf;
 use std::alloc::Global;
 use std::sync::Wait;
 use std::thread::Threads;
+use std::time::Clock;
 use worked_auctions::outcomes;
 
 /// The reports of each clock where no, one and two units are worth 0, 10 and 14, then 0, 8 and 11, then 0, 6 and 7.
@@ -89,7 +90,7 @@ const JUDGE: &[&str] = &["judge", "a", "j", "2"];
 
 /// Whether these words over an auction of two units for so many bidders, with these reports, end so.
 fn units_end_so(
-    rt: &(impl Threads + Wait + Sync),
+    rt: &(impl Threads + Wait + Sync + Clock),
     alloc: Global,
     words: &[&str],
     bidders: usize,
@@ -168,7 +169,7 @@ const NO_SETTLE: &[&[&str]] = &[
 
 /// The place, from 0, of the first words of a table that end otherwise over one bidder's auction.
 fn first_other(
-    rt: &(impl Threads + Wait + Sync),
+    rt: &(impl Threads + Wait + Sync + Clock),
     alloc: Global,
     table: &[&[&str]],
     status: u8,
@@ -208,7 +209,7 @@ fn house_of_two_goods(alloc: Global) -> Option<Vec<Vec<u8>>> {
 }
 
 /// Whether the auction of two goods settles so.
-fn two_goods_settle(rt: &(impl Threads + Wait + Sync), alloc: Global) -> Option<bool> {
+fn two_goods_settle(rt: &(impl Threads + Wait + Sync + Clock), alloc: Global) -> Option<bool> {
     let contents = house_of_two_goods(alloc)?;
     runs_over(rt, alloc, SETTLE, NAMES, &contents, 0, outcomes::ONE_EACH)
 }
@@ -264,7 +265,7 @@ fn has_none(shelf: &SureShelf, names: &[&str]) -> bool {
 
 /// Whether these words over two bidders' auction without journals end so, leave its file as it was, and make no other.
 fn makes_no_file(
-    rt: &(impl Threads + Wait + Sync),
+    rt: &(impl Threads + Wait + Sync + Clock),
     alloc: Global,
     words: &[&str],
     status: u8,
@@ -345,7 +346,7 @@ fn wrong_house(alloc: Global, wrong: Wrong) -> Option<Vec<Vec<u8>>> {
 
 /// Whether these words refuse such a journal with this line.
 fn is_refused(
-    rt: &(impl Threads + Wait + Sync),
+    rt: &(impl Threads + Wait + Sync + Clock),
     alloc: Global,
     words: &[&str],
     wrong: Wrong,
@@ -376,7 +377,7 @@ const FAILING: &[FailingRow] = &[
 
 /// Whether the words of a row over one bidder's auction end as it says.
 fn fails_over_house(
-    rt: &(impl Threads + Wait + Sync),
+    rt: &(impl Threads + Wait + Sync + Clock),
     alloc: Global,
     row: &FailingRow,
 ) -> Option<bool> {

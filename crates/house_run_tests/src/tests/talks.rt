@@ -74,7 +74,7 @@ fn free_address<R: std::net::Net>(rt: &R, alloc: Global) -> Result<String, Fail>
 /// How these words end over TCP. There is nothing where there is no memory.
 fn run_over_tcp<T>(rt: &T, alloc: Global, words: &[&str], shelf: &mut SureShelf) -> Ran
 where
-    T: Threads + Wait + Sync + Eprint + std::net::Net,
+    T: Threads + Wait + Sync + Clock + Eprint + std::net::Net,
     T::Stream: Send,
     T::Listener: Send,
 {
@@ -253,7 +253,7 @@ struct Visits {
 /// How another house at an address ends.
 fn serve_at<T>(rt: &T, alloc: Global, address: &str) -> Ran
 where
-    T: Threads + Wait + Sync + Eprint + std::net::Net,
+    T: Threads + Wait + Sync + Clock + Eprint + std::net::Net,
     T::Stream: Send,
     T::Listener: Send,
 {

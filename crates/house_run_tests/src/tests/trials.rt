@@ -5,6 +5,7 @@ use super::runs::{FailingRow, fails_so, runs_over, runs_so};
 use std::alloc::Global;
 use std::sync::Wait;
 use std::thread::Threads;
+use std::time::Clock;
 use worked_auctions::{outcomes, valuations};
 
 const SEVEN: &str =
@@ -63,7 +64,7 @@ const TRIAL: &[&str] = &["trial", "a", "v"];
 
 /// Whether the trial of an auction that is told ends with this status and text.
 fn tries(
-    rt: &(impl Threads + Wait + Sync),
+    rt: &(impl Threads + Wait + Sync + Clock),
     alloc: Global,
     told: &Told,
     status: u8,
@@ -75,7 +76,7 @@ fn tries(
 
 /// Whether these words over two empty files end with this status and text.
 fn ends_over_nothing(
-    rt: &(impl Threads + Wait + Sync),
+    rt: &(impl Threads + Wait + Sync + Clock),
     alloc: Global,
     words: &[&str],
     status: u8,
@@ -232,7 +233,7 @@ const FAILING: &[(Outside, u64, u8, &str)] = &[
 
 /// Whether the words of a row over these contents end as it says.
 fn fails_over(
-    rt: &(impl Threads + Wait + Sync),
+    rt: &(impl Threads + Wait + Sync + Clock),
     alloc: Global,
     contents: &[Vec<u8>],
     row: &FailingRow,
@@ -243,7 +244,7 @@ fn fails_over(
 
 /// Whether the trial of the first auction ends as the row says, by one worker and by eight.
 fn fails_by_any(
-    rt: &(impl Threads + Wait + Sync),
+    rt: &(impl Threads + Wait + Sync + Clock),
     alloc: Global,
     row: &(Outside, u64, u8, &'static str),
 ) -> Option<bool> {
