@@ -91,9 +91,9 @@ def harmed(rng, file, other):
 
 
 def changed(rng, file):
-    """The file with one byte that is another, and the place of that byte."""
+    """The file with one byte that is another, often by a small number as between quantities, and the place of that byte."""
     at = rng.randrange(len(file))
-    return file[:at] + bytes([file[at] ^ rng.randint(1, 255)]) + file[at + 1 :], at
+    return file[:at] + bytes([file[at] ^ rng.choice((1, 2, 3, rng.randint(1, 255)))]) + file[at + 1 :], at
 
 
 def make(rng, folder):
