@@ -2,6 +2,7 @@
 //! top call. It ends with the top call's status.
 #![tactic(auto)]
 
+use advice::advice;
 use house_io::{FolderShelf, StdoutSink, TcpNet};
 use house_run::{Ended, answer_usage, run};
 use std::process::ExitCode;
@@ -18,13 +19,31 @@ fn main(rt: HostRuntime) -> ExitCode {
                 // Else a word that is mistyped reads as journals without reports. Where it cannot be said nobody can be told.
                 let _unsaid = eprintln!(rt; "no journal was found");
             }
+            advise(&rt, &words, &ended);
             ended
         }
-        Err(error) if error.kind() == io::ErrorKind::OutOfMemory => Ended::NoMemory,
+        Err(error) if error.kind() == io::ErrorKind::OutOfMemory => {
+            advise(&rt, &[], &Ended::NoMemory);
+            Ended::NoMemory
+        }
         // Words that are not UTF-8 are no command.
-        Err(_) => answer_usage(&mut out),
+        Err(_) => {
+            let ended = answer_usage(&mut out);
+            advise(&rt, &[], &ended);
+            ended
+        }
     };
     ExitCode::from(ended.status())
+}
+
+/// Says on standard error what the end of a run of these words means, and what to do. Where it cannot be said nobody can be told.
+fn advise(rt: &HostRuntime, words: &[String], ended: &Ended) {
+    match advice(rt.alloc(), words, ended) {
+        Ok(text) if !text.is_empty() => {
+            let _unsaid = eprintln!(rt; "{text}");
+        }
+        _ => {}
+    }
 }
 
 /// The words of the command line behind the program's name.

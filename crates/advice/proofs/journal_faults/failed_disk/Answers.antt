@@ -1,0 +1,6 @@
+use Rattle.std.proofs.Common.{string_bytes}
+use Rattle.advice.proofs.NotEmpty.{behind, if-ok}
+use Rattle.advice.proofs.journal_faults.failed_disk.Goals as goal
+
+pub returns : goal.returns
+returns c = if-ok c.format.result _ _ (λ text is. behind _ _ _ (string_bytes text) is) c.format.ensures.ok
