@@ -34,10 +34,13 @@ ROWS = {
     "fold": ["fold", "2", "3", "100", "three-bidders.log"],
     "check": ["check", "auction.toml"],
     "standing": ["standing", "auction.toml", "."],
+    "explain": ["explain", "auction.toml", "."],
+    "judge": ["judge", "auction.toml", ".", "1"],
     "settle": ["settle", "auction.toml", "."],
     "settle --json": ["settle", "auction.toml", ".", "--json"],
     "trial": ["trial", "auction.toml", "values.toml"],
     "trial --workers 4": ["trial", "auction.toml", "values.toml", "--workers", "4"],
+    "float": ["float", "auction.toml", "values.toml", "10"],
     "migrate": ["migrate", "auction.toml", ".", "second.toml", "moved"],
     "serve": ["serve", "auction.toml", "served", f"127.0.0.1:{PORT}", "--doors", "3", "--sessions", "3"],
 }

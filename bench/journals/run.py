@@ -4,7 +4,7 @@ as many reports as there can be on clock 0, beside the plain form of the same cl
 
 In each round every member reports the same demand, which drives one price up; in the last one the first member wants all there is and the others
 nothing, so each clock ends and clears. The program is proved and built where it stands, by `rt run`; give --no-build to measure
-the program that was built before.
+the program that was built before. With --judge that program judges one bidder's 720,012 reports, beside `standing` of the same journals.
 """
 import hashlib
 import struct
@@ -112,7 +112,29 @@ def replay():
         )
 
 
+def judging():
+    """One bidder's part of all rounds that there can be on its clocks, 720,012 reports, beside `standing` of the same journals."""
+    supply = [1] * 6
+    with tempfile.TemporaryDirectory() as name:
+        folder = Path(name)
+        text = auction(supply)
+        (folder / "auction.toml").write_bytes(text)
+        digest = hashlib.sha256(text).digest()
+        for clock in range(BIDDERS + 1):
+            (folder / f"clock-{clock:02}.ahj").write_bytes(journal(clock, digest, supply, 1, TOTAL))
+        size = sum(file.stat().st_size for file in folder.iterdir())
+        judged = min(used([str(PROGRAM), "judge", "auction.toml", ".", "2"], folder) for _ in range(3))
+        stood = min(used([str(PROGRAM), "standing", "auction.toml", "."], folder) for _ in range(3))
+        print(
+            f"judge over {size / 1e6:.0f} MB: {judged[0]:.2f} s, {judged[1]:.0f} MiB; standing: {stood[0]:.2f} s, {stood[1]:.0f} MiB,"
+            f" so {judged[0] / max(stood[0], 0.01):.1f} times  {judged[2]}; {stood[2]}"
+        )
+
+
 def main():
+    if "--judge" in sys.argv:
+        judging()
+        return
     if "--no-build" not in sys.argv:
         build = ["rt", "run", "--", "fold", "1", "2", "5", "data/two-bidders.log"]
         subprocess.run(build, cwd=CRATE, check=True, capture_output=True)
