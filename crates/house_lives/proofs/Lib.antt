@@ -16,3 +16,4 @@ pub mod Through
 pub mod Readings
 pub mod Leading
 pub mod Moving
+pub mod Again
