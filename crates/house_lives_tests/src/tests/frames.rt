@@ -19,6 +19,9 @@ pub(super) const TAKEN_1: &[u8] = b"\x00\x00\x00\x05\x13\x01\x00\x00\x00\x01";
 /// A report to the clock of all was taken before, in round 1.
 pub(super) const AGAIN_0: &[u8] = b"\x00\x00\x00\x05\x14\x00\x00\x00\x00\x01";
 
+/// The same of a report to the clock without ada.
+pub(super) const AGAIN_1: &[u8] = b"\x00\x00\x00\x05\x14\x01\x00\x00\x00\x01";
+
 /// The same of a report to the clock without bob.
 pub(super) const AGAIN_2: &[u8] = b"\x00\x00\x00\x05\x14\x02\x00\x00\x00\x01";
 

@@ -41,7 +41,13 @@ fn fate_of(first: Option<&[u8]>, second: Option<&[u8]>) -> Fate {
 /// Nothing, here and below, where there is no memory.
 fn fate_at(rt: &(impl Threads + Wait + Sync + Clock), alloc: Global, call: u64) -> Option<Fate> {
     let journals = no_journals(alloc)?;
-    let first = life(rt, alloc, &journals, Some(Kill { clock: 2, call }), &[ADA])?;
+    let first = life(
+        rt,
+        alloc,
+        &journals,
+        Some(Kill { journal: 2, call }),
+        &[ADA],
+    )?;
     let second = life(rt, alloc, &first.journals, None, &[ADA])?;
     Some(fate_of(first.reply(0, SECOND), second.reply(0, SECOND)))
 }

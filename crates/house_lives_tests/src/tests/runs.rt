@@ -15,6 +15,13 @@ const SERVE: &[&str] = &["serve", "a", "j", "house:1", "--doors=1", "--sessions=
 
 const SETTLE: &[&str] = &["settle", "a", "j"];
 
+/// The same under the newer file.
+const SERVE_ON: &[&str] = &["serve", "b", "t", "house:1", "--doors=1", "--sessions=2"];
+
+const SETTLE_ON: &[&str] = &["settle", "b", "t"];
+
+const MIGRATE: &[&str] = &["migrate", "a", "j", "b", "t"];
+
 /// Copies of these words. Nothing, here and below, where there is no memory.
 fn words_of(alloc: Global, words: &[&str]) -> Option<Vec<String>> {
     let mut copies = Vec::new(alloc);
@@ -106,7 +113,7 @@ fn replies_in(alloc: Global, net: &SureNet) -> Option<Vec<Vec<u8>>> {
 pub(super) struct Lived {
     /// The bytes that went over each link, in the order of the sessions.
     replies: Vec<Vec<u8>>,
-    /// By clock.
+    /// Those by clock, and then those under the newer file.
     pub journals: Vec<Vec<u8>>,
 }
 
@@ -124,7 +131,22 @@ fn shown(alloc: Global, shelf: &ListShelf, net: &SureNet) -> Option<Lived> {
     Some(Lived { replies, journals })
 }
 
-/// A life on these journals, with a session for each of these lists of frames.
+/// A life of these words on these journals, with a session for each of these lists of frames.
+fn life_of(
+    rt: &(impl Threads + Wait + Sync + Clock),
+    alloc: Global,
+    words: &[&str],
+    journals: &[Vec<u8>],
+    kill: Option<Kill>,
+    sessions: &[&[&[u8]]],
+) -> Option<Lived> {
+    let mut shelf = shelf(alloc, journals, kill)?;
+    let mut net = net(alloc, sessions)?;
+    answer_of(rt, alloc, words, &mut shelf, &mut net)?;
+    shown(alloc, &shelf, &net)
+}
+
+/// A life under the first file.
 pub(super) fn life(
     rt: &(impl Threads + Wait + Sync + Clock),
     alloc: Global,
@@ -132,19 +154,71 @@ pub(super) fn life(
     kill: Option<Kill>,
     sessions: &[&[&[u8]]],
 ) -> Option<Lived> {
-    let mut shelf = shelf(alloc, journals, kill)?;
-    let mut net = net(alloc, sessions)?;
-    answer_of(rt, alloc, SERVE, &mut shelf, &mut net)?;
-    shown(alloc, &shelf, &net)
+    life_of(rt, alloc, SERVE, journals, kill, sessions)
 }
 
-/// The status and the text of `settle` on these journals.
+/// A life under the newer file.
+pub(super) fn life_on(
+    rt: &(impl Threads + Wait + Sync + Clock),
+    alloc: Global,
+    journals: &[Vec<u8>],
+    sessions: &[&[&[u8]]],
+) -> Option<Lived> {
+    life_of(rt, alloc, SERVE_ON, journals, None, sessions)
+}
+
+/// The status and the text of these words on these journals, where nothing fails and nobody comes.
+fn told(
+    rt: &(impl Threads + Wait + Sync + Clock),
+    alloc: Global,
+    words: &[&str],
+    journals: &[Vec<u8>],
+) -> Option<(u8, Vec<u8>)> {
+    let mut shelf = shelf(alloc, journals, None)?;
+    let mut net = no_net(alloc)?;
+    answer_of(rt, alloc, words, &mut shelf, &mut net)
+}
+
+/// The status and the text of `settle` under the first file.
 pub(super) fn settled(
     rt: &(impl Threads + Wait + Sync + Clock),
     alloc: Global,
     journals: &[Vec<u8>],
 ) -> Option<(u8, Vec<u8>)> {
-    let mut shelf = shelf(alloc, journals, None)?;
+    told(rt, alloc, SETTLE, journals)
+}
+
+/// The same under the newer file.
+pub(super) fn settled_on(
+    rt: &(impl Threads + Wait + Sync + Clock),
+    alloc: Global,
+    journals: &[Vec<u8>],
+) -> Option<(u8, Vec<u8>)> {
+    told(rt, alloc, SETTLE_ON, journals)
+}
+
+/// What became of a migration: its status and its text, and what a read gives of the journals.
+#[derive(Drop)]
+pub(super) struct Moved {
+    pub status: u8,
+    pub text: Vec<u8>,
+    pub journals: Vec<Vec<u8>>,
+}
+
+/// A migration of these journals to the newer file.
+pub(super) fn moved(
+    rt: &(impl Threads + Wait + Sync + Clock),
+    alloc: Global,
+    journals: &[Vec<u8>],
+    kill: Option<Kill>,
+) -> Option<Moved> {
+    let mut shelf = shelf(alloc, journals, kill)?;
     let mut net = no_net(alloc)?;
-    answer_of(rt, alloc, SETTLE, &mut shelf, &mut net)
+    let (status, text) = answer_of(rt, alloc, MIGRATE, &mut shelf, &mut net)?;
+    let journals = journals_in(alloc, &shelf)?;
+    Some(Moved {
+        status,
+        text,
+        journals,
+    })
 }

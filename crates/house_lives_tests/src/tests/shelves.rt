@@ -1,11 +1,10 @@
-//! A shelf with an auction file and the journals of its three clocks, of which one may fail.
+//! A shelf with an auction file, the journals of its three clocks, and what these are moved to. One of the journals may fail.
+use super::frames::joined;
 use house_io::{ListFile, ListShelf};
 use std::alloc::Global;
 
 /// One unit of one good for ada, whose token is `abc`, and bob, whose token is `hello`.
-const AUCTION: &str = r#"version = 1
-ceiling = 10
-
+const AUCTION: &str = r#"
 [[goods]]
 name = "oil"
 supply = 1
@@ -19,8 +18,21 @@ name = "bob"
 token = "2cf24dba5fb0a30e26e83b2ac5b9e29e1b161e5c1fa7425e73043362938b9824"
 "#;
 
-/// The names of the journals, by clock.
-const JOURNALS: &[&str] = &["j/clock-00.ahj", "j/clock-01.ahj", "j/clock-02.ahj"];
+/// The heads of its file, and of the newer one to which it is carried.
+const HEADS: &[(&str, &str)] = &[
+    ("a", "version = 1\nceiling = 10\n"),
+    ("b", "version = 2\nceiling = 10\n"),
+];
+
+/// The names of the journals by clock, and then of those under the newer file.
+const JOURNALS: &[&str] = &[
+    "j/clock-00.ahj",
+    "j/clock-01.ahj",
+    "j/clock-02.ahj",
+    "t/clock-00.ahj",
+    "t/clock-01.ahj",
+    "t/clock-02.ahj",
+];
 
 /// The room of a disk, in bytes and in calls.
 const DISK_ROOM: u32 = 2_000;
@@ -28,12 +40,11 @@ const DISK_ROOM: u32 = 2_000;
 /// How many calls fail behind a kill: more than a life makes.
 const CALLS_BEHIND: u64 = 100;
 
-/// Where a life is killed: at the first of these calls on the journal of this clock. It is read as one in which that call and all behind it
-/// fail.
+/// Where a run is killed: at the first of these calls on this journal. It is read as one in which that call and all behind it fail.
 #[derive(Clone, Copy)]
 pub(super) struct Kill {
-    /// Whose journal it is.
-    pub clock: usize,
+    /// The number of the journal: that of its clock, and 3 more under the newer file.
+    pub journal: usize,
     /// The number of the call, from 0.
     pub call: u64,
 }
@@ -47,10 +58,10 @@ fn calls_behind(alloc: Global, kill: Kill) -> Option<Vec<u64>> {
     Some(calls)
 }
 
-/// The calls that fail on the journal of a clock: none but on the one that is killed.
-fn failing_at(alloc: Global, clock: usize, kill: Option<Kill>) -> Option<Vec<u64>> {
+/// The calls that fail on the journal of this number: none but on the one that is killed.
+fn failing_at(alloc: Global, journal: usize, kill: Option<Kill>) -> Option<Vec<u64>> {
     match kill {
-        Some(kill) if kill.clock == clock => calls_behind(alloc, kill),
+        Some(kill) if kill.journal == journal => calls_behind(alloc, kill),
         _ => Some(Vec::new(alloc)),
     }
 }
@@ -66,14 +77,27 @@ fn file(alloc: Global, name: &str, bytes: &[u8], failing: Vec<u64>) -> Option<Li
     })
 }
 
-/// The auction file and these journals.
-fn files(alloc: Global, journals: &[Vec<u8>], kill: Option<Kill>) -> Option<Vec<ListFile>> {
+/// The auction's file of this name, with this head.
+fn auction_file(alloc: Global, name: &str, head: &str) -> Option<ListFile> {
+    let bytes = joined(alloc, &[head.as_bytes(), AUCTION.as_bytes()])?;
+    file(alloc, name, &bytes, Vec::new(alloc))
+}
+
+/// Both files of the auction.
+fn auction_files(alloc: Global) -> Option<Vec<ListFile>> {
     let mut all = Vec::new(alloc);
-    all.push(file(alloc, "a", AUCTION.as_bytes(), Vec::new(alloc))?)
-        .ok()?;
-    for (clock, bytes) in journals.iter().enumerate() {
-        let failing = failing_at(alloc, clock, kill)?;
-        all.push(file(alloc, JOURNALS.get(clock)?, bytes, failing)?)
+    for (name, head) in HEADS {
+        all.push(auction_file(alloc, name, head)?).ok()?;
+    }
+    Some(all)
+}
+
+/// These files and these journals.
+fn files(alloc: Global, journals: &[Vec<u8>], kill: Option<Kill>) -> Option<Vec<ListFile>> {
+    let mut all = auction_files(alloc)?;
+    for (number, bytes) in journals.iter().enumerate() {
+        let failing = failing_at(alloc, number, kill)?;
+        all.push(file(alloc, JOURNALS.get(number)?, bytes, failing)?)
             .ok()?;
     }
     Some(all)
@@ -85,7 +109,7 @@ pub(super) fn shelf(alloc: Global, journals: &[Vec<u8>], kill: Option<Kill>) -> 
     ListShelf::new(alloc, files, DISK_ROOM, Vec::new(alloc)).ok()
 }
 
-/// Three journals without a byte.
+/// Journals without a byte.
 pub(super) fn no_journals(alloc: Global) -> Option<Vec<Vec<u8>>> {
     let mut journals = Vec::new(alloc);
     for _ in JOURNALS {

@@ -9,7 +9,7 @@ use std::time::Clock;
 use worked_auctions::talks::{TAKEN_0, TAKEN_2};
 
 /// What the text of the settlement begins with.
-const SETTLED: &str = "settled goods 1 bidders 2
+pub(super) const SETTLED: &str = "settled goods 1 bidders 2
 prices 0
 bidder 1 award 1 debit 0 credit 0 pays 0
 bidder 2 award 0 debit 0 credit 0 pays 0
@@ -25,16 +25,16 @@ const MOST_CALLS: u64 = 20;
 /// How many bytes bob's record takes behind its gate: its length, its payload and the next gate.
 const BEHIND: usize = 17;
 
-/// The call on the journal of a clock that writes the record of a bidder's second report: the first at which a kill makes a fault of it.
+/// The call on a journal that writes the record of a bidder's second report: the first at which a kill makes a fault of it.
 fn record_call(
     rt: &(impl Threads + Wait + Sync + Clock),
     alloc: Global,
     journals: &[Vec<u8>],
-    clock: usize,
+    journal: usize,
     sessions: &[&[&[u8]]],
 ) -> Option<u64> {
     for call in 0..MOST_CALLS {
-        let lived = life(rt, alloc, journals, Some(Kill { clock, call }), sessions)?;
+        let lived = life(rt, alloc, journals, Some(Kill { journal, call }), sessions)?;
         if lived.reply(0, SECOND) == Some(FAILED) {
             return Some(call);
         }
@@ -46,7 +46,13 @@ fn record_call(
 fn first(rt: &(impl Threads + Wait + Sync + Clock), alloc: Global) -> Option<Lived> {
     let journals = no_journals(alloc)?;
     let call = record_call(rt, alloc, &journals, 2, &[ADA])?.saturating_add(TO_GATE);
-    life(rt, alloc, &journals, Some(Kill { clock: 2, call }), &[ADA])
+    life(
+        rt,
+        alloc,
+        &journals,
+        Some(Kill { journal: 2, call }),
+        &[ADA],
+    )
 }
 
 /// In its second life the power went as it wrote bob's second report: one was acknowledged.
@@ -56,7 +62,7 @@ fn second(
     journals: &[Vec<u8>],
 ) -> Option<Lived> {
     let call = record_call(rt, alloc, journals, 1, &[BOB])?;
-    life(rt, alloc, journals, Some(Kill { clock: 1, call }), &[BOB])
+    life(rt, alloc, journals, Some(Kill { journal: 1, call }), &[BOB])
 }
 
 /// What the power left of the journal: these bytes in the range of the write.
@@ -69,7 +75,7 @@ fn torn(mut journals: Vec<Vec<u8>>, fill: u8) -> Option<Vec<Vec<u8>>> {
 }
 
 /// Whether a session of a life was answered so to its two reports.
-fn was_answered(lived: &Lived, session: usize, replies: (&[u8], &[u8])) -> bool {
+pub(super) fn was_answered(lived: &Lived, session: usize, replies: (&[u8], &[u8])) -> bool {
     lived.reply(session, FIRST) == Some(replies.0)
         && lived.reply(session, SECOND) == Some(replies.1)
 }
@@ -84,32 +90,41 @@ fn do_settle(
     Some(status == 0 && text.as_slice().starts_with(SETTLED.as_bytes()))
 }
 
-/// In its third life both came back: whether what was acknowledged was there, the rest was taken, and all of it settles.
-fn ends_well(
-    rt: &(impl Threads + Wait + Sync + Clock),
-    alloc: Global,
-    journals: &[Vec<u8>],
-) -> Option<bool> {
-    let third = life(rt, alloc, journals, None, &[ADA, BOB])?;
-    let told = was_answered(&third, 0, (AGAIN_0, TAKEN_2))
-        && was_answered(&third, 1, (AGAIN_0, TAKEN_1));
-    Some(told && do_settle(rt, alloc, &third.journals)?)
+/// In its third life both came back: what was acknowledged was there, and the rest was taken.
+fn was_kept(third: &Lived) -> bool {
+    was_answered(third, 0, (AGAIN_0, TAKEN_2)) && was_answered(third, 1, (AGAIN_0, TAKEN_1))
 }
 
-/// Whether the three lives go so, with these bytes where the power went.
-fn go_well(rt: &(impl Threads + Wait + Sync + Clock), alloc: Global, fill: u8) -> Option<bool> {
+/// The journals behind the three lives, with these bytes where the power went, and whether they go so.
+pub(super) fn lived(
+    rt: &(impl Threads + Wait + Sync + Clock),
+    alloc: Global,
+    fill: u8,
+) -> Option<(bool, Vec<Vec<u8>>)> {
     let first = first(rt, alloc)?;
     let second = second(rt, alloc, &first.journals)?;
     let told = was_answered(&first, 0, (TAKEN_0, FAILED))
         && was_answered(&second, 0, (TAKEN_0, FAILED));
     let Lived { journals, .. } = second;
     let journals = torn(journals, fill)?;
-    Some(told && ends_well(rt, alloc, &journals)?)
+    let third = life(rt, alloc, &journals, None, &[ADA, BOB])?;
+    let kept = was_kept(&third);
+    let Lived { journals, .. } = third;
+    Some((told && kept, journals))
 }
+
+/// Whether the three lives go so, and settle.
+fn go_well(rt: &(impl Threads + Wait + Sync + Clock), alloc: Global, fill: u8) -> Option<bool> {
+    let (told, journals) = lived(rt, alloc, fill)?;
+    Some(told && do_settle(rt, alloc, &journals)?)
+}
+
+/// The bytes that are tried where the power went.
+pub(super) const FILLS: &[u8] = &[0x00, 0xa5, 0xff];
 
 #[test]
 fn what_was_acknowledged_in_three_lives_settles(rt: HostRuntime) {
-    for fill in [0x00, 0xa5, 0xff] {
-        assert_eq!(rt; go_well(&rt, rt.alloc(), fill), Some(true), "{fill}");
+    for fill in FILLS {
+        assert_eq!(rt; go_well(&rt, rt.alloc(), *fill), Some(true), "{fill}");
     }
 }
