@@ -8,13 +8,15 @@ use Rattle.auction_file.specs.Listing.{listing_of}
 use Rattle.auction_file.specs.declared.listing.Auction.{Auction}
 use Rattle.clock.specs.Reports.{ClockHistory}
 use Rattle.settlement.specs.declared.outcome.Settlement.TheVariants.{Settled}
-use Rattle.command_line.specs.Commands.{Command, Settle, Spells, Standing}
+use Rattle.command_line.specs.Commands.{Command, Explain, Judge, Settle, Spells, Standing}
 use Rattle.command_line.proofs.Once.{spelled-once}
 use Rattle.house_run.specs.Causes.{line_of}
 use Rattle.house_run.specs.Commands.{IsDone, needs_of}
 use Rattle.house_run.specs.Ends.{CommandEnds, CommandFrame, OtherEnds, RunEnds, Wrote, WroteLine, as_seen}
+use Rattle.house_run.specs.ExplainCommand.{ExplainDone}
 use Rattle.house_run.specs.Frame.{KeepsAll, KeepsContents}
 use Rattle.house_run.specs.Journals.{AreFromJournals, AreHistories, IsTermsOf}
+use Rattle.house_run.specs.JudgeCommand.{IsJudgedText, JudgeDone}
 use Rattle.house_run.specs.Needs.{IsJournal}
 use Rattle.house_run.specs.NetEnds.{Ends}
 use Rattle.house_run.specs.Nets.{NetSeen}
@@ -27,7 +29,7 @@ use Rattle.house_run.specs.declared.ends.Ended.TheVariants as how
 use Rattle.house_run.proofs.Framing.{content-same}
 use Rattle.house_run.proofs.GoodJournals.{listed-once, says-told}
 use Rattle.house_run.proofs.Rereading.{journals-reads}
-use Rattle.house_lives.specs.Readings.{IsDoneRun, SettlesHistories, TellsHistories}
+use Rattle.house_lives.specs.Readings.{ExplainsHistories, IsDoneRun, JudgesHistories, SettlesHistories, TellsHistories}
 
 -- a run that is done, whatever its command
 
@@ -125,4 +127,26 @@ standing-law value auction journals last after words seen net sink is =
       histories = tells.histories;
       from_journals = there.from_journals;
       written = subst (λ text. IfTold sink.written_before sink.written (λ before now. now ≡ before ++ text)) tells.text_is was.written;
+    }
+
+pub explain-law : (value : Auction) (auction journals : List ℕ) (last after : List NamedFile) (words : List (List ℕ)) (seen : Outside) (net : NetSeen) (sink : SinkSeen)
+    → IsDoneRun (Explain auction journals) value auction last after words seen net sink → ExplainsHistories value journals last sink
+explain-law value auction journals last after words seen net sink is =
+    let was = was-done (Explain auction journals) words seen net sink is.spelled is.ends in
+    let explains : ExplainDone auction journals seen.shelf was.text = was.done in
+    let there = were-there value auction journals last after seen is.told_before is.told is.says explains.terms explains.histories was.frame.files explains.are in
+    record { histories = explains.histories; from_journals = there.from_journals; text = was.text; told = explains.told; written = was.written }
+
+pub judge-law : (value : Auction) (auction journals : List ℕ) (bidder : ℕ) (last after : List NamedFile) (words : List (List ℕ)) (seen : Outside) (net : NetSeen) (sink : SinkSeen)
+    → IsDoneRun (Judge auction journals bidder) value auction last after words seen net sink → JudgesHistories value journals bidder last sink
+judge-law value auction journals bidder last after words seen net sink is =
+    let was = was-done (Judge auction journals bidder) words seen net sink is.spelled is.ends in
+    let judges : JudgeDone auction journals bidder seen.shelf was.text = was.done in
+    let there = were-there value auction journals last after seen is.told_before is.told is.says judges.terms judges.histories was.frame.files judges.are in
+    record {
+      histories = judges.histories;
+      from_journals = there.from_journals;
+      text = was.text;
+      told = subst (λ t. IsJudgedText t judges.histories bidder was.text) there.terms_are judges.told;
+      written = was.written;
     }

@@ -1,4 +1,4 @@
--- What runs of `settle` and of `standing` tell on the last files, once they are done.
+-- What runs of `settle`, `standing`, `explain` and `judge` tell on the last files, once they are done.
 use Rattle.std.specs.Prelude.{◌≡◌, ◌+◌, ◌++◌, ℕ, Bool, List, Some, Ok}
 use Rattle.std.specs.List.{flat_map}
 use Rattle.house_io.specs.Shelves.{NamedFile}
@@ -9,9 +9,11 @@ use Rattle.auction_file.specs.declared.listing.Auction.{Auction}
 use Rattle.clock.specs.Reports.{ClockHistory}
 use Rattle.settlement.specs.declared.outcome.Outcome.{Outcome}
 use Rattle.settlement.specs.declared.outcome.Settlement.TheVariants.{Settled}
-use Rattle.command_line.specs.Commands.{Command, Settle, Spells, Standing}
+use Rattle.command_line.specs.Commands.{Command, Explain, Judge, Settle, Spells, Standing}
 use Rattle.house_run.specs.Ends.{RunEnds}
+use Rattle.house_run.specs.ExplainCommand.{IsExplainedText}
 use Rattle.house_run.specs.Journals.{AreFromJournals}
+use Rattle.house_run.specs.JudgeCommand.{IsJudgedText}
 use Rattle.house_run.specs.Nets.{NetSeen}
 use Rattle.house_run.specs.Outcomes.{IsSettlement, text_of_outcome}
 use Rattle.house_run.specs.Seen.{Outside, SinkSeen, content}
@@ -41,6 +43,22 @@ pub record TellsHistories (value : Auction) (journals : List ℕ) (last : List N
   pub from_journals : AreFromJournals (Some last) value.terms value.digest journals (value.terms.bidders + 1) histories
   pub written : IfTold sink.written_before sink.written (λ before after. after ≡ before ++ flat_map standing_of histories)
 
+-- A text was written that tells what each clock has come to whose history its journal has.
+pub record ExplainsHistories (value : Auction) (journals : List ℕ) (last : List NamedFile) (sink : SinkSeen) : Type 0 where
+  pub histories : List ClockHistory
+  pub from_journals : AreFromJournals (Some last) value.terms value.digest journals (value.terms.bidders + 1) histories
+  pub text : List ℕ
+  pub told : IsExplainedText histories text
+  pub written : IfTold sink.written_before sink.written (λ before after. after ≡ before ++ text)
+
+-- A text was written that tells a decision of all observations of the bidder in the histories that the journals have.
+pub record JudgesHistories (value : Auction) (journals : List ℕ) (bidder : ℕ) (last : List NamedFile) (sink : SinkSeen) : Type 0 where
+  pub histories : List ClockHistory
+  pub from_journals : AreFromJournals (Some last) value.terms value.digest journals (value.terms.bidders + 1) histories
+  pub text : List ℕ
+  pub told : IsJudgedText value.terms histories bidder text
+  pub written : IfTold sink.written_before sink.written (λ before after. after ≡ before ++ text)
+
 -- what a `settle` that is done has written
 abbrev pub SettleLaw : Type 0
 SettleLaw = (value : Auction) (auction journals : List ℕ) (json : Bool) (last after : List NamedFile) (words : List (List ℕ)) (seen : Outside) (net : NetSeen) (sink : SinkSeen)
@@ -50,3 +68,13 @@ SettleLaw = (value : Auction) (auction journals : List ℕ) (json : Bool) (last 
 abbrev pub StandingLaw : Type 0
 StandingLaw = (value : Auction) (auction journals : List ℕ) (last after : List NamedFile) (words : List (List ℕ)) (seen : Outside) (net : NetSeen) (sink : SinkSeen)
     → IsDoneRun (Standing auction journals) value auction last after words seen net sink → TellsHistories value journals last sink
+
+-- what an `explain` that is done has written
+abbrev pub ExplainLaw : Type 0
+ExplainLaw = (value : Auction) (auction journals : List ℕ) (last after : List NamedFile) (words : List (List ℕ)) (seen : Outside) (net : NetSeen) (sink : SinkSeen)
+    → IsDoneRun (Explain auction journals) value auction last after words seen net sink → ExplainsHistories value journals last sink
+
+-- what a `judge` that is done has written
+abbrev pub JudgeLaw : Type 0
+JudgeLaw = (value : Auction) (auction journals : List ℕ) (bidder : ℕ) (last after : List NamedFile) (words : List (List ℕ)) (seen : Outside) (net : NetSeen) (sink : SinkSeen)
+    → IsDoneRun (Judge auction journals bidder) value auction last after words seen net sink → JudgesHistories value journals bidder last sink

@@ -1,18 +1,21 @@
 //! Laws of lives.
 ghost use Rattle.house_lives.specs.Crashes.{DeathLaw, KilledLaw, PowerLaw, SeveralLaw};
-ghost use Rattle.house_lives.specs.Headline.{SettledLivesLaw, StandingLivesLaw};
+ghost use Rattle.house_lives.specs.Headline.{ExplainedLivesLaw, JudgedLivesLaw, SettledLivesLaw, StandingLivesLaw};
 ghost use Rattle.house_lives.specs.Kept.{LivesLaw};
 ghost use Rattle.house_lives.specs.Moved.{MovedLivesLaw, MovedSettleLaw, MovedStandingLaw};
 ghost use Rattle.house_lives.specs.Others.{MoveLaw, OtherLaw};
-ghost use Rattle.house_lives.specs.Readings.{SettleLaw, StandingLaw};
+ghost use Rattle.house_lives.specs.Readings.{ExplainLaw, JudgeLaw, SettleLaw, StandingLaw};
 
 /// Serve an auction as often as it takes, on one folder: each time the house may be ended, be killed, or lose its power, and other
 /// commands may be run between. Then let `settle` be done. What it writes is the outcome of histories, one of each clock, in which each
 /// report stands that was ever acknowledged to its bidder, in its round and with its demand. No report stands there that was not there
-/// at first and that its bidder did not send, and none twice. `standing` tells how these same histories stand.
+/// at first and that its bidder did not send, and none twice. `standing` tells how these same histories stand, `explain` what their clocks
+/// have come to, and `judge` decides on what a bidder reported in them.
 pub fn headline_law()
     ensures settled { SettledLivesLaw }
     ensures standing { StandingLivesLaw }
+    ensures explained { ExplainedLivesLaw }
+    ensures judged { JudgedLivesLaw }
 {}
 
 /// What the journals have at the end of any list of lives, whichever command reads them then. Each report that was acknowledged in one
@@ -46,9 +49,12 @@ pub fn moved_law()
     ensures standing { MovedStandingLaw }
 {}
 
-/// What the two commands read that tell of an auction. A `settle` that is done has written the outcome in which the histories settle
-/// that the journals had when it began, and a `standing` that is done has written how these stand.
+/// What the four commands read that tell of an auction. A `settle` that is done has written the outcome in which the histories settle
+/// that the journals had when it began. A `standing` that is done has written how these stand, and an `explain` that is done what their
+/// clocks have come to. A `judge` that is done has written a decision of all that a bidder reported in them.
 pub fn readings_law()
     ensures settle { SettleLaw }
     ensures standing { StandingLaw }
+    ensures explain { ExplainLaw }
+    ensures judge { JudgeLaw }
 {}
