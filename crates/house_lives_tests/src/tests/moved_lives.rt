@@ -1,6 +1,6 @@
 //! The house of three lives is carried to a newer auction file, and lives once more under it. Then it is settled by that file.
 use super::frames::{ADA, AGAIN_0, AGAIN_1, AGAIN_2, BOB};
-use super::runs::{Lived, Moved, life_on, moved, settled, settled_on};
+use super::runs::{Lived, Moved, life_on, migrated, settled, settled_on};
 use super::shelves::Kill;
 use super::three_lives::{FILLS, SETTLED, lived, was_answered};
 use std::alloc::Global;
@@ -9,7 +9,7 @@ use std::thread::Threads;
 use std::time::Clock;
 
 /// What a migration tells that is done.
-const MOVED: &str = "migrated clock 0 reports 2
+const DONE: &str = "migrated clock 0 reports 2
 migrated clock 1 reports 1
 migrated clock 2 reports 1
 ";
@@ -57,7 +57,7 @@ fn was_carried(life: &Lived) -> bool {
 
 /// Whether a migration is done.
 fn is_done(moved: &Moved) -> bool {
-    moved.status == 0 && moved.text.as_slice() == MOVED.as_bytes()
+    moved.status == 0 && moved.text.as_slice() == DONE.as_bytes()
 }
 
 /// Whether the journals are moved, the house lives on under the newer file, and it settles.
@@ -66,7 +66,7 @@ fn ends_well(
     alloc: Global,
     journals: &[Vec<u8>],
 ) -> Option<bool> {
-    let moved = moved(rt, alloc, journals, None)?;
+    let moved = migrated(rt, alloc, journals, None)?;
     let life = life_on(rt, alloc, &moved.journals, &[ADA, BOB])?;
     Some(is_done(&moved) && was_carried(&life) && settle_alike(rt, alloc, &life.journals)?)
 }
@@ -92,8 +92,8 @@ fn outlives(
     wanted: &[Vec<u8>],
     kill: Kill,
 ) -> Option<(bool, bool)> {
-    let first = moved(rt, alloc, journals, Some(kill))?;
-    let second = moved(rt, alloc, &first.journals, None)?;
+    let first = migrated(rt, alloc, journals, Some(kill))?;
+    let second = migrated(rt, alloc, &first.journals, None)?;
     Some((
         first.status != 0,
         is_done(&second) && second.journals.as_slice() == wanted,
@@ -106,7 +106,7 @@ fn outlives_each(
     alloc: Global,
     journals: &[Vec<u8>],
 ) -> Option<bool> {
-    let wanted = moved(rt, alloc, journals, None)?.journals;
+    let wanted = migrated(rt, alloc, journals, None)?.journals;
     for call in 0..CALLS {
         let kill = Kill {
             journal: TARGET,

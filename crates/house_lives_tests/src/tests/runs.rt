@@ -206,7 +206,7 @@ pub(super) struct Moved {
 }
 
 /// A migration of these journals to the newer file.
-pub(super) fn moved(
+pub(super) fn migrated(
     rt: &(impl Threads + Wait + Sync + Clock),
     alloc: Global,
     journals: &[Vec<u8>],
