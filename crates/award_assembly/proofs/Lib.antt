@@ -4,5 +4,6 @@ pub mod Picks
 pub mod Places
 pub mod Reaching
 pub mod Walking
-pub mod Marking
+pub mod Carrying
+pub mod Writing
 pub mod Searching

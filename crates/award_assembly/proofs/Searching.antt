@@ -1,5 +1,5 @@
 -- A table of the totals from which a demand and those behind can clear, bundle by bundle of the demand.
-use Rattle.std.proofs.Common.{◌≡◌, ◌≤◌, ◌<◌, ◌⊎◌, inl, inr, ℕ, zero, suc, ◌+◌, ◌-◌, Bool, true, false, ◌&&◌, ◌||◌, cond, List, [], ◌∷◌, length, take, drop, replicate, Some, None, is_some, refl, sym, ◌∙◌, ap, subst, arith, slice_index_or}
+use Rattle.std.proofs.Common.{◌≡◌, ◌≤◌, ◌<◌, ◌⊎◌, inl, inr, ℕ, zero, suc, ◌+◌, Bool, true, false, ◌&&◌, ◌||◌, nat_eq, cond, List, [], ◌∷◌, sum, length, take, drop, replicate, Some, None, is_some, refl, sym, ◌∙◌, ap, arith, slice_index, slice_index_or}
 use Rattle.std.specs.Prelude.{find, slice_get}
 use Rattle.std.specs.List.{AllByRecursion}
 use Rattle.std.proofs.lemmas.List.{get_or-drop, get_or-replicate, length-drop, length-replicate, take_all}
@@ -7,11 +7,12 @@ use Rattle.std.proofs.lemmas.Bool.{cases_lt}
 use Rattle.lot_base.specs.Goods.{plus, is_within, box_size, AtMost}
 use Rattle.lot_base.specs.Box.{index_of, bundle_at}
 use Rattle.lot_base.proofs.Within.{within-at_most}
-use Rattle.lot_base.proofs.Index.{index_of-small, index_of-bundle_at, length-bundle_at}
+use Rattle.lot_base.proofs.Index.{index_of-small, index_of-bundle_at, bundle_at-index_of, length-bundle_at}
 use Rattle.lot_base.proofs.Vec.{length-below}
 use Rattle.award_assembly.specs.Remaining.{IsReach, IsWith, AreAllTrue, has_total}
-use Rattle.award_assembly.specs.Columns.{Fits, IsJoined}
+use Rattle.award_assembly.specs.Units.{AreUnits, AreKeys, IsJoined, key_of}
 use Rattle.award_assembly.proofs.Adding.{index_of-plus}
+use Rattle.award_assembly.proofs.Carrying.{units-test, test-other}
 use Rattle.award_assembly.proofs.Reaching.{can-more}
 
 -- the search through a front of a list
@@ -86,35 +87,58 @@ or-false : (b : Bool) → b ≡ (b || false)
 or-false true = refl
 or-false false = refl
 
--- the totals with a bundle more, from the marks of those with which it fits and the table shifted by its place
-pub joined-with : (s x : List ℕ) (table marks before after : List Bool) → length table ≡ box_size s → AtMost x s → Fits s x marks → length marks ≡ length (drop (index_of s x) table) → IsJoined marks (drop (index_of s x) table) before after → IsWith s table x before after
-joined-with s x table marks before after sized box fits marked joined = record { size = joined.size; each = λ place below. by place below (is_within s (plus (bundle_at s place) x)) refl }
+-- a key beside the units of a total with a bundle more
+key-test : (s x : List ℕ) (table : List Bool) (place key units : ℕ) → AtMost x s → place + index_of s x < box_size s → units ≡ sum (bundle_at s place) + sum x → units < 65535
+    → key ≡ key_of (slice_index_or table (place + index_of s x) false) (sum (bundle_at s (place + index_of s x))) → nat_eq key units ≡ has_total s table (plus (bundle_at s place) x)
+key-test s x table place key units within below units_is few key_is =
+    (λ i. nat_eq (key_is i) (units_is i)) ∙ by (slice_index_or table (place + index_of s x) false) refl (is_within s (plus (bundle_at s place) x)) refl
   where
-    total : ℕ → List ℕ
-    total place = plus (bundle_at s place) x
+    there : index_of s (plus (bundle_at s place) x) ≡ place + index_of s x
+    there = index_of-plus s (bundle_at s place) x (length-bundle_at s place) (length-below x s within) ∙ ap (λ (n : ℕ). n + index_of s x) (index_of-bundle_at s place (omega arith))
 
-    there : (place : ℕ) → place < box_size s → index_of s (total place) ≡ place + index_of s x
-    there place below = index_of-plus s (bundle_at s place) x (length-bundle_at s place) (length-below x s box) ∙ ap (λ (n : ℕ). n + index_of s x) (index_of-bundle_at s place below)
+    total : (w t : Bool) → is_within s (plus (bundle_at s place) x) ≡ w → slice_index_or table (place + index_of s x) false ≡ t → has_total s table (plus (bundle_at s place) x) ≡ (w && t)
+    total w t e f = let g = ap (λ (n : ℕ). slice_index_or table n false) there ∙ f in λ i. e i && g i
 
-    inside : (place : ℕ) (w : Bool) → is_within s (total place) ≡ w → place < length (drop (index_of s x) table) → slice_index_or after place false ≡ (slice_index_or before place false || (w && slice_index_or (drop (index_of s x) table) place false))
-    inside place w e short =
-        let z = length-drop (index_of s x) table in
-        joined.each place short
-        ∙ ap (λ m. slice_index_or before place false || (m && slice_index_or (drop (index_of s x) table) place false)) (fits.each place (omega (arith, short, marked)) ∙ e)
+    by : (t : Bool) → slice_index_or table (place + index_of s x) false ≡ t → (w : Bool) → is_within s (plus (bundle_at s place) x) ≡ w
+        → nat_eq (key_of t (sum (bundle_at s (place + index_of s x)))) (sum (bundle_at s place) + sum x) ≡ has_total s table (plus (bundle_at s place) x)
+    by true f true e = units-test s x place within below ∙ e ∙ sym (total true true e f)
+    by true f false e = units-test s x place within below ∙ e ∙ sym (total false true e f)
+    by false f true e = test-other 65535 (sum (bundle_at s place) + sum x) (omega (arith, few, units_is)) ∙ sym (total true false e f)
+    by false f false e = test-other 65535 (sum (bundle_at s place) + sum x) (omega (arith, few, units_is)) ∙ sym (total false false e f)
 
-    outside : (place : ℕ) → (place < length (drop (index_of s x) table)) ⊎ (length (drop (index_of s x) table) ≤ place) → is_within s (total place) ≡ false → slice_index_or after place false ≡ (slice_index_or before place false || false)
-    outside place (inl short) e = inside place false e short
-    outside place (inr long) e = joined.rest place long ∙ or-false (slice_index_or before place false)
+-- the totals with a bundle more, from the keys of the table shifted by its place
+pub joined-with : (s x : List ℕ) (table : List Bool) (units keys : List ℕ) (more : ℕ) (before after : List Bool) → AtMost x s → AreUnits s units → length keys ≡ box_size s → AreKeys units table keys → more ≡ sum x
+    → IsJoined (drop (index_of s x) keys) units more before after → IsWith s table x before after
+joined-with s x table units keys more before after within are sized keyed more_is joined = record { size = joined.size; each = λ place below. by place below (cases_lt (place + index_of s x) (box_size s)) }
+  where
+    left : length (drop (index_of s x) keys) + index_of s x ≡ box_size s
+    left = let z = length-drop (index_of s x) keys in let i = index_of-small s x within in omega arith
 
-    by : (place : ℕ) → place < box_size s → (w : Bool) → is_within s (total place) ≡ w → slice_index_or after place false ≡ (slice_index_or before place false || has_total s table (total place))
-    by place below true e =
-        let small = index_of-small s (total place) (within-at_most s (total place) e) in
-        let i = there place below in
-        let z = length-drop (index_of s x) table in
-        let short : place < length (drop (index_of s x) table) = omega arith in
-        let swapped : place + index_of s x ≡ index_of s x + place = omega arith in
-        inside place true e short
-        ∙ ap (λ v. slice_index_or before place false || v) (get_or-drop (index_of s x) table place false ∙ ap (λ (n : ℕ). slice_index_or table n false) (sym swapped ∙ sym i) ∙ sym (ap (λ b. b && slice_index_or table (index_of s (total place)) false) e))
-    by place below false e =
-        outside place (cases_lt place (length (drop (index_of s x) table))) e
-        ∙ ap (λ v. slice_index_or before place false || v) (sym (ap (λ b. b && slice_index_or table (index_of s (total place)) false) e))
+    fits : (place : ℕ) → place < box_size s → slice_index units place + more < 65535
+    fits place below =
+        let at = index_of-small s x within in
+        let e : slice_index units (index_of s x) ≡ more = are.each (index_of s x) at ∙ ap sum (bundle_at-index_of s x within) ∙ sym more_is in
+        omega (arith, e, are.few place below, are.few (index_of s x) at)
+
+    inside : (place : ℕ) → place + index_of s x < box_size s → nat_eq (slice_index (drop (index_of s x) keys) place) (slice_index units place + more) ≡ has_total s table (plus (bundle_at s place) x)
+    inside place short =
+        key-test s x table place (slice_index (drop (index_of s x) keys) place) (slice_index units place + more) within short (λ i. are.each place (omega arith) i + more_is i) (fits place (omega arith))
+        (get_or-drop (index_of s x) keys place 0
+        ∙ ap (λ (n : ℕ). slice_index keys n) (let e : index_of s x + place ≡ place + index_of s x = omega arith in e)
+        ∙ keyed.each (place + index_of s x) (let z = keyed.size in omega arith)
+        ∙ ap (key_of (slice_index_or table (place + index_of s x) false)) (are.each (place + index_of s x) short))
+
+    outside : (place : ℕ) → place < box_size s → box_size s ≤ place + index_of s x → (w : Bool) → is_within s (plus (bundle_at s place) x) ≡ w → w ≡ false
+    outside place below long true e =
+        absurd (let i = index_of-small s (plus (bundle_at s place) x) (within-at_most s (plus (bundle_at s place) x) e) in
+        let p = index_of-plus s (bundle_at s place) x (length-bundle_at s place) (length-below x s within) in
+        let q = index_of-bundle_at s place below in
+        omega arith)
+    outside place below long false e = refl
+
+    by : (place : ℕ) → place < box_size s → (place + index_of s x < box_size s) ⊎ (box_size s ≤ place + index_of s x) → slice_index_or after place false ≡ (slice_index_or before place false || has_total s table (plus (bundle_at s place) x))
+    by place below (inl short) = joined.each place (let l = left in omega arith) ∙ ap (λ b. slice_index_or before place false || b) (inside place short)
+    by place below (inr long) =
+        joined.rest place (let l = left in omega arith)
+        ∙ or-false (slice_index_or before place false)
+        ∙ ap (λ b. slice_index_or before place false || (b && slice_index_or table (index_of s (plus (bundle_at s place) x)) false)) (sym (outside place below long (is_within s (plus (bundle_at s place) x)) refl))

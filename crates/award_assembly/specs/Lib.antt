@@ -1,3 +1,3 @@
 pub mod Remaining
 pub mod Assembled
-pub mod Columns
+pub mod Units

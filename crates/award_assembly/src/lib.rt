@@ -8,10 +8,10 @@ ghost use Rattle.lot_base.specs.Demands.{IsDemand};
 ghost use Rattle.award_assembly.specs.Assembled.{IsAssembly, choice_in};
 
 pub mod assembly;
-mod columns;
 pub mod laws;
 mod reach;
 mod search;
+mod units;
 
 pub use assembly::{Assembly, Choice};
 use demand_set::Demand;

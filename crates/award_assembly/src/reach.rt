@@ -1,17 +1,20 @@
 //! What the demands behind can still make clear.
-ghost use Rattle.std.specs.Prelude.{◌≡◌, ◌<◌, ◌≤◌, ℕ, List, [], ◌∷◌, true, false, find, length, slice_index_or, IfOk};
+ghost use Rattle.std.specs.Prelude.{◌≡◌, ◌<◌, ◌≤◌, ℕ, ◌+◌, ◌^◌, Bool, List, [], ◌∷◌, true, false, find, length, slice_index, slice_index_or, IfOk};
 ghost use Rattle.lot_base.specs.Goods.{plus, is_within, box_size, AtMost};
 ghost use Rattle.lot_base.specs.Box.{bundle_at, index_of};
 ghost use Rattle.lot_base.specs.Choices.{clears};
 ghost use Rattle.lot_base.specs.Demands.{IsDemand};
-ghost use Rattle.award_assembly.specs.Columns.{AreColumns, IsJoined};
+ghost use Rattle.award_assembly.specs.Units.{AreUnits, AreKeys, IsJoined, key_of};
 ghost use Rattle.award_assembly.specs.Remaining.{IsWith, AreAllTrue};
 
-use crate::columns::{Column, mark_fitting};
+use crate::units::Units;
 use demand_set::Demand;
 use lot_base::{Bundle, Goods, Prices};
 use std::alloc::{AllocError, Global};
 use std::marker::Model;
+
+/// The key of a total that is not true: two bundles of the box have 4,094 units at most.
+const NO_TOTAL: u16 = u16::MAX;
 
 /// A truth value for each bundle of the box, at the bundle's place: whether the demands behind can make a choice that
 /// clears where the bundle is taken already.
@@ -54,48 +57,39 @@ impl Reach {
         &self,
         alloc: Global,
         goods: &Goods,
-        columns: &[Column],
+        units: &Units,
         demand: &Demand,
     ) -> Result<Reach, AllocError>
         requires size { length self.now ≡ box_size goods.now }
-        requires columns { AreColumns goods.now columns.now }
+        requires units { AreUnits goods.now units.now }
         requires demand { IsDemand goods.now demand.now }
         ensures { (opening p : List ℕ) (behind : List (List (List ℕ))) → IsReach goods.now opening p behind self.now →
             IfOk result (IsReach goods.now opening p (demand.now ∷ behind)) }
     {
-        let size = goods.box_size() as usize;
-        let mut totals = vec![in alloc; false; size]?;
-        let mut marks = vec![in alloc; false; size]?;
+        let keys = self.keys(alloc, units)?;
+        let mut totals = vec![in alloc; false; goods.box_size() as usize]?;
         let mut all = false;
         for number in 0..demand.len() {
             if !all {
-                self.join(goods, columns, &demand.get(number), &mut totals, &mut marks);
+                join(goods, units, &keys, &demand.get(number), &mut totals);
                 all = are_all_true(&totals);
             }
         }
         Ok(Reach { totals })
     }
 
-    /// Makes true the totals that are true here with a bundle more.
-    fn join(
-        &self,
-        goods: &Goods,
-        columns: &[Column],
-        bundle: &Bundle,
-        totals: &mut [bool],
-        marks: &mut [bool],
-    )
-        requires size { (length self.now ≡ box_size goods.now) × (length totals.old ≡ box_size goods.now)
-            × (length marks.old ≡ box_size goods.now) }
-        requires columns { AreColumns goods.now columns.now }
-        requires bundle { AtMost bundle.now goods.now }
-        ensures totals { IsWith goods.now self.now bundle.now totals.old totals.new }
-        ensures marks { length marks.new ≡ length marks.old }
+    /// The key of each total, at its place: the units of its bundle where it is true.
+    fn keys(&self, alloc: Global, units: &Units) -> Result<Vec<u16>, AllocError>
+        requires { length units.now ≡ length self.now }
+        ensures { IfOk result (λ keys. AreKeys units.now self.now keys.items) }
     {
-        let further = self.totals.split_at(goods.index(bundle) as usize).1;
-        let fitting = &mut marks[..further.len()];
-        mark_fitting(goods, columns, bundle, fitting);
-        join_marked(totals, fitting, further);
+        let totals = self.totals.as_slice();
+        let units = units.as_slice();
+        let mut keys = Vec::with_capacity(alloc, totals.len())?;
+        for place in 0..totals.len() {
+            keys.push(key_of(totals[place], units[place]))?;
+        }
+        Ok(keys)
     }
 
     /// The first bundle of a demand that makes a true total with what is taken.
@@ -140,15 +134,36 @@ fn are_all_true(totals: &[bool]) -> bool
     totals.iter().all(|total| *total)
 }
 
-/// Joins further truth values to the totals, where they are marked.
-fn join_marked(totals: &mut [bool], marks: &[bool], further: &[bool])
-    requires marks { length marks.now ≡ length further.now }
-    requires further { length further.now ≤ length totals.old }
-    ensures { IsJoined marks.now further.now totals.old totals.new }
+/// Makes true the totals that are true with a bundle more in the table that has these keys.
+fn join(goods: &Goods, units: &Units, keys: &[u16], bundle: &Bundle, totals: &mut [bool])
+    requires size { (length keys.now ≡ box_size goods.now) × (length totals.old ≡ box_size goods.now) }
+    requires units { AreUnits goods.now units.now }
+    requires bundle { AtMost bundle.now goods.now }
+    ensures { (table : List Bool) → AreKeys units.now table keys.now → IsWith goods.now table bundle.now totals.old totals.new }
 {
-    for place in 0..further.len() {
-        totals[place] = totals[place] | (marks[place] & further[place]);
+    let place = goods.index(bundle) as usize;
+    let units = units.as_slice();
+    let further = keys.split_at(place).1;
+    join_matching(totals, further, units, units[place]);
+}
+
+/// Makes true those of the first totals whose key is their units and so many more.
+fn join_matching(totals: &mut [bool], keys: &[u16], units: &[u16], more: u16)
+    requires totals { length keys.now ≤ length totals.old }
+    requires units { length keys.now ≤ length units.now }
+    requires fit { (place : ℕ) → place < length keys.now → slice_index units.now place + more < 2 ^ 16 }
+    ensures { IsJoined keys.now units.now more totals.old totals.new }
+{
+    for place in 0..keys.len() {
+        totals[place] = totals[place] | (keys[place] == units[place] + more);
     }
+}
+
+/// The units of a total that is true, and else `NO_TOTAL`.
+fn key_of(total: bool, units: u16) -> u16
+    ensures { result ≡ key_of total units }
+{
+    if total { units } else { NO_TOTAL }
 }
 
 /// Whether the two bundles together are within the supply.

@@ -7,8 +7,8 @@ ghost use Rattle.lot_base.specs.Demands.{IsDemand};
 ghost use Rattle.award_assembly.specs.Remaining.{AreReaches};
 
 use crate::assembly::Choice;
-use crate::columns::columns_of;
 use crate::reach::{Reach, sum_of};
+use crate::units::Units;
 use demand_set::Demand;
 use lot_base::{Goods, Prices};
 use std::alloc::{AllocError, Global};
@@ -58,12 +58,12 @@ fn reaches(
     requires demands { AllByRecursion (λ d. IsDemand goods.now d) demands.now }
     ensures { IfOk result (λ v. AreReaches goods.now opening.now prices.now demands.now (length demands.now) v.items) }
 {
-    let columns = columns_of(alloc, goods)?;
+    let units = Units::new(alloc, goods)?;
     let mut reaches = Vec::new(alloc);
     reaches.push(Reach::last(alloc, goods, opening, prices)?)?;
     for done in 0..demands.len() {
         let demand = &demands[demands.len() - 1 - done];
-        let reach = reaches[done].before(alloc, goods, &columns, demand)?;
+        let reach = reaches[done].before(alloc, goods, &units, demand)?;
         reaches.push(reach)?;
     }
     Ok(reaches)

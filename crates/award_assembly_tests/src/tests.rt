@@ -100,21 +100,61 @@ fn awards_the_first_choice_that_clears(rt: HostRuntime) -> Result<(), Fail> {
     Ok(())
 }
 
+/// Whether the first gets its one bundle and the second the wanted one, where all goods open at 0.
+fn second_gets(
+    rt: &impl Abort,
+    alloc: Global,
+    supply: &[u16],
+    prices: &[u32],
+    demands: [&[u16]; 2],
+    wanted: &[u16],
+) -> Result<bool, Fail> {
+    let opening = vec![in alloc; 0; supply.len()]?;
+    let choice = choice_of(rt, alloc, supply, &opening, prices, demands)?.ok_or("no choice")?;
+    let bundles = choice.into_vec();
+    assert_eq!(rt; bundles.len(), 2);
+    Ok(is_bundle(&bundles[0], demands[0])? && is_bundle(&bundles[1], wanted)?)
+}
+
+// The first bundle of each second demand is more than is left of a good, and yet its place and that of the first demand's
+// bundle add up to the place of a bundle that would clear.
 #[test]
 fn keeps_the_goods_apart(rt: HostRuntime) -> Result<(), Fail> {
-    // (0,2) and (0,1) are three units of good 1, of which there are two; as places they add up to that of (1,0).
-    let choice = choice_of(
-        &rt,
-        rt.alloc(),
-        &[1, 2],
-        &[0, 0],
-        &[1, 0],
-        [&[0, 2], &[0, 1, 1, 0]],
-    )?;
-    let bundles = choice.ok_or("no choice")?.into_vec();
-    assert_eq!(rt; bundles.len(), 2);
-    assert!(rt; is_bundle(&bundles[0], &[0, 2])?);
-    assert!(rt; is_bundle(&bundles[1], &[1, 0])?);
+    for (supply, prices, demands, wanted) in [
+        // Three units of good 1 as one of good 0.
+        (
+            [1, 2].as_slice(),
+            [1, 0].as_slice(),
+            [[0, 2].as_slice(), &[0, 1, 1, 0]],
+            [1, 0].as_slice(),
+        ),
+        // Two units of good 2 as one of good 1, and so two of that as one of good 0.
+        (
+            &[1, 1, 1],
+            &[1, 0, 0],
+            [&[0, 1, 1], &[0, 0, 1, 1, 0, 0]],
+            &[1, 0, 0],
+        ),
+        // Two of good 1 as one of good 0, which is hidden: the two of good 2 are one of good 1 again.
+        (
+            &[1, 1, 1],
+            &[1, 1, 0],
+            [&[0, 1, 1], &[0, 1, 1, 1, 0, 0]],
+            &[1, 0, 0],
+        ),
+        // Through six goods.
+        (
+            &[3, 3, 3, 3, 3, 1],
+            &[1, 0, 0, 0, 0, 0],
+            [&[2, 3, 3, 3, 3, 1], &[0, 0, 0, 0, 0, 1, 1, 0, 0, 0, 0, 0]],
+            &[1, 0, 0, 0, 0, 0],
+        ),
+    ] {
+        assert!(rt;
+            second_gets(&rt, rt.alloc(), supply, prices, demands, wanted)?,
+            "at {prices:?}"
+        );
+    }
     Ok(())
 }
 
@@ -132,6 +172,9 @@ fn finds_no_choice(rt: HostRuntime) -> Result<(), Fail> {
     assert!(rt; none.is_none());
     // Two units each of two.
     let none = choice_of(&rt, rt.alloc(), &[2], &[0], &[0], [&[2], &[2]])?;
+    assert!(rt; none.is_none());
+    // One unit more than there are, at the end of the box.
+    let none = choice_of(&rt, rt.alloc(), &[2047], &[0], &[0], [&[2000], &[48]])?;
     assert!(rt; none.is_none());
     Ok(())
 }

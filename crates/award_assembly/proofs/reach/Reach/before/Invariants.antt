@@ -1,5 +1,4 @@
-use Rattle.std.proofs.Common.{true, ◌≡◌, length}
-use Rattle.lot_base.specs.Goods.{box_size}
+use Rattle.std.proofs.Common.{true, ◌≡◌}
 use Rattle.award_assembly.specs.Remaining.{AreAllTrue}
 use Rattle.award_assembly.proofs.Searching.{IsSearched}
 use Rattle.award_assembly.proofs.reach.Reach.before.Given as goal
@@ -7,6 +6,5 @@ use Rattle.award_assembly.proofs.reach.Reach.before.Given as goal
 abbrev pub invariant-loop-number : goal.invariant-loop-number
 invariant-loop-number l = record {
   searched : IsSearched l.goods l.self l.demand l.number l.totals.items;
-  marks : length l.marks.items ≡ box_size l.goods;
   all : l.all ≡ true → AreAllTrue l.totals.items;
 }
