@@ -1,4 +1,4 @@
--- Where a round that was told has led, and the surpluses that follow the prices.
+-- Where a round that was told has led, and the members who are followed.
 use Rattle.std.proofs.Common.{◌≡◌, ◌≢◌, ◌<◌, ◌≤◌, ◌⊎◌, inl, inr, ℕ, suc, ◌+◌, ◌^◌, true, false, ◌&&◌, nat_eq, cond, List, [], ◌∷◌, length, get_or, Some, refl, sym, ◌∙◌, ap, arith, subst}
 use Rattle.std.specs.Prelude.{find, option_map, unwrap_or, ℤ}
 use Rattle.std.specs.List.{AllByRecursion}
@@ -10,7 +10,7 @@ use Rattle.lot_base.specs.Economy.{demand}
 use Rattle.lot_base.specs.declared.auction_terms.Terms.{Terms}
 use Rattle.lot_base.specs.declared.phases.Phase.TheVariants.{Running}
 use Rattle.demand_set.specs.declared.reports.Report.{Report}
-use Rattle.valuation.specs.Carried.{Carried, Carries, IsColumn, raised_by}
+use Rattle.valuation.specs.Carried.{IsColumn, raised_by}
 use Rattle.valuation.specs.declared.columns.Column.{Column}
 use Rattle.clock.specs.Reports.{ClockHistory, is_named, demands_in, is_full, members_of}
 use Rattle.clock.specs.Standing.{steps_of, last_round, prices_of, prices_after, phase_of, step_set_after}
@@ -18,7 +18,8 @@ use Rattle.clock.proofs.Append.{absent-beyond}
 use Rattle.clock.proofs.Repeated.{step-same}
 use Rattle.clock.proofs.Path.{step-below}
 use Rattle.trial.specs.Trials.{true_report, round_reports, trial_reports}
-use Rattle.trial.specs.Rounds.{IsFresh, told, IsTurned, IsLed, IsCarried, AreCarried, IsStepped, AreStepped, surplus_at}
+use Rattle.trial.specs.Following.{Followed, Follows}
+use Rattle.trial.specs.Rounds.{IsFresh, told, IsTurned, IsLed, IsFollowed, AreFollowed, AreReady, AreOn, AreStepped, follower_at}
 use Rattle.trial.proofs.Finding.{find-after}
 use Rattle.trial.proofs.Telling.{fresh-past, get-same}
 use Rattle.trial.proofs.Turning.{told-reports, never-full}
@@ -91,36 +92,40 @@ led-on u c now fresh is some goods more =
 pub has-members : (c : ClockHistory) → phase_of c ≡ Running → members_of c ≢ []
 has-members c runs none = never-full c (ap (λ ms. is_full ms c.reports (steps_of c + 1)) none) runs
 
--- the surpluses after so many steps
-carried-one : (goods : List ℕ) (v : List ℕ → ℤ) (steps most times set : ℕ) (before now : List ℕ) (old new : Carried) → IsCarried goods v steps before old → IsStepped set times old new
-    → length before ≡ length goods → raised_by times set before ≡ now → steps + times ≤ most → IsCarried goods v most now new
-carried-one goods v steps most times set before now old new is step long rose few =
-    let C : List ℕ → Type 0 = Carries new v in
-    record {
-      over = step.goods ∙ is.over;
-      few = (let a = is.few in let b = step.steps in omega (arith, a, b, few));
-      carries = subst C rose (step.carries v before (long ∙ ap length (sym is.over)) is.carries);
-    }
-
-pub carried-on : (terms : Terms) (u : ℕ → List ℕ → ℤ) (steps most times set : ℕ) (before now : List ℕ) (old new : List Carried) → AreCarried terms u steps before old → AreStepped set times old new
-    → length before ≡ length terms.goods → raised_by times set before ≡ now → steps + times ≤ most → AreCarried terms u most now new
-carried-on terms u steps most times set before now old new are stepped long rose few = record {
-  count = stepped.count ∙ are.count;
-  each = λ place inside. carried-one terms.goods (u (place + 1)) steps most times set before now (surplus_at old place) (surplus_at new place) (are.each place inside)
-      (stepped.each place (let c = are.count in omega (arith, c, inside))) long rose few;
+-- the members after so many steps
+pub followed-on : (terms : Terms) (u : ℕ → List ℕ → ℤ) (number times set : ℕ) (before now : List ℕ) (old ready on new : List Followed) → AreFollowed terms u number before old → AreReady number set old ready → AreOn number set ready on → AreStepped number times on new
+    → length before ≡ length terms.goods → raised_by times set before ≡ now → AreFollowed terms u number now new
+followed-on terms u number times set before now old ready on new are caught turned stepped long rose = record {
+  count = stepped.count ∙ turned.count ∙ caught.count ∙ are.count;
+  each = λ place inside member.
+      let here : place < length old = (let k = are.count in omega (arith, k, inside)) in
+      let middle : place < length ready = (let k = caught.count in omega (arith, k, here)) in
+      let there : place < length on = (let k = turned.count in omega (arith, k, middle)) in
+      let is = are.each place inside member in
+      let r = caught.each place here member in
+      let o = turned.each place middle member in
+      let s = stepped.each place there member in
+      let a : length before ≡ length (follower_at old place).supply = long ∙ ap length (sym is.over) in
+      let b : length before ≡ length (follower_at ready place).supply = a ∙ ap length (sym r.goods) in
+      let d : length before ≡ length (follower_at on place).supply = b ∙ ap length (sym o.goods) in
+      let F : List ℕ → Type 0 = Follows (follower_at new place) (u (place + 1)) in
+      record {
+        over = s.goods ∙ o.goods ∙ r.goods ∙ is.over;
+        follows = subst F (ap (λ k. raised_by times k before) o.on ∙ rose) (s.follows (u (place + 1)) before d (o.follows (u (place + 1)) before b (r.follows (u (place + 1)) before a is.follows)));
+      };
 }
 
--- the surpluses at a place that is there
-pub carried-here : (terms : Terms) (u : ℕ → List ℕ → ℤ) (steps : ℕ) (prices : List ℕ) (surpluses : List Carried) (s : Carried) (place : ℕ) → AreCarried terms u steps prices surpluses → place < terms.bidders → s ≡ get_or surpluses place s
-    → IsCarried terms.goods (u (place + 1)) steps prices s
-carried-here terms u steps prices surpluses s place are inside is =
-    let C : Carried → Type 0 = IsCarried terms.goods (u (place + 1)) steps prices in
-    subst C (get-same surpluses place _ s (let c = are.count in omega (arith, c)) ∙ sym is) (are.each place inside)
+-- the follower at a place that is there
+pub followed-here : (terms : Terms) (u : ℕ → List ℕ → ℤ) (number : ℕ) (prices : List ℕ) (followers : List Followed) (f : Followed) (place : ℕ) → AreFollowed terms u number prices followers → place < terms.bidders → place + 1 ≢ number → f ≡ get_or followers place f
+    → IsFollowed terms.goods (u (place + 1)) prices f
+followed-here terms u number prices followers f place are inside member is =
+    let C : Followed → Type 0 = IsFollowed terms.goods (u (place + 1)) prices in
+    subst C (get-same followers place _ f (let c = are.count in omega (arith, c, inside)) ∙ sym is) (are.each place inside member)
 
--- the report that these surpluses give is the true one
-pub report-here : (terms : Terms) (c : ClockHistory) (u : ℕ → List ℕ → ℤ) (steps place round : ℕ) (s : Carried) (d : List (List ℕ)) → c.terms ≡ terms → IsCarried terms.goods (u (place + 1)) steps (prices_of c) s → round ≡ last_round c
+-- the report that this follower gives is the true one
+pub report-here : (terms : Terms) (c : ClockHistory) (u : ℕ → List ℕ → ℤ) (place round : ℕ) (s : Followed) (d : List (List ℕ)) → c.terms ≡ terms → IsFollowed terms.goods (u (place + 1)) (prices_of c) s → round ≡ last_round c
     → d ≡ demand s.supply (u (place + 1)) (prices_of c) → record { bidder = place + 1; round = round; demand = d } ≡ true_report c.terms u (last_round c) (prices_of c) (place + 1)
-report-here terms c u steps place round s d same is r e =
+report-here terms c u place round s d same is r e =
     let f : d ≡ demand c.terms.goods (u (place + 1)) (prices_of c) = e ∙ ap (λ g. demand g (u (place + 1)) (prices_of c)) (is.over ∙ ap (λ (k : Terms). k.goods) (sym same)) in
     λ i. record { bidder = place + 1; round = r i; demand = f i }
 
@@ -133,15 +138,6 @@ pub rose-on : (u : ℕ → List ℕ → ℤ) (before after : List ℕ) (c : Cloc
 rose-on u before after c found l now all =
     let L : ℕ → Type 0 = λ n. set_told u before c < 2 ^ n in
     all (set_told u before c) (subst L (sym l.each_good) (step-below c.terms.goods (members_of c) (λ j. demand c.terms.goods (u j) before))) (now ∙ l.rose)
-
--- surpluses after no more than fewer steps, at the same prices
-pub carried-more : (terms : Terms) (u : ℕ → List ℕ → ℤ) (steps most : ℕ) (before now : List ℕ) (surpluses : List Carried) → AreCarried terms u steps before surpluses → before ≡ now → steps ≤ most → AreCarried terms u most now surpluses
-carried-more terms u steps most before now surpluses are same few =
-    let A : List ℕ → Type 0 = λ p. AreCarried terms u most p surpluses in
-    subst A same (record {
-      count = are.count;
-      each = λ place inside. (let s = are.each place inside in let f = s.few in record { over = s.over; few = omega (arith, f, few); carries = s.carries });
-    })
 
 -- a round that was told and after which the clock is running
 pub led-running : (u : ℕ → List ℕ → ℤ) (c now : ClockHistory) (before : List ℕ) → IsFresh u c → now ≡ told u c → IsTurned c now → phase_of now ≡ Running → before ≡ prices_of c → length before ≡ length c.terms.goods → IsLed u before now
@@ -157,9 +153,28 @@ set-inside u before c terms found same is =
     let S : ℕ → Type 0 = λ n. n < 2 ^ length c.terms.goods in
     subst L same (subst S (sym is) (step-below c.terms.goods (members_of c) (λ j. demand c.terms.goods (u j) before)))
 
-pub column-here : (terms : Terms) (u : ℕ → List ℕ → ℤ) (steps : ℕ) (p : List ℕ) (surpluses : List Carried) (column : Column) (set place : ℕ) → IsColumn terms.goods set column.units.items → AreCarried terms u steps p surpluses → place < length surpluses
-    → IsColumn (surplus_at surpluses place).supply set column.units.items
-column-here terms u steps p surpluses column set place is are here =
-    let G : List ℕ → Type 0 = λ g. IsColumn g set column.units.items in
-    let over = (are.each place (let k = are.count in omega (arith, k, here))).over in
-    subst G (sym over) is
+-- what the members need for steps on the set
+pub record AreFor (goods : List ℕ) (set number : ℕ) (column : Column) (followers : List Followed) : Type 0 where
+  pub column_is : (place : ℕ) → place < length followers → place + 1 ≢ number → IsColumn (follower_at followers place).supply set column.units.items
+  pub within : (place : ℕ) → place < length followers → place + 1 ≢ number → set < 2 ^ length (follower_at followers place).supply
+
+pub supply-here : (terms : Terms) (u : ℕ → List ℕ → ℤ) (number : ℕ) (p : List ℕ) (followers : List Followed) (place : ℕ) → AreFollowed terms u number p followers → place < length followers → place + 1 ≢ number → (follower_at followers place).supply ≡ terms.goods
+supply-here terms u number p followers place are here member = (are.each place (let k = are.count in omega (arith, k, here)) member).over
+
+pub for-ready : (terms : Terms) (u : ℕ → List ℕ → ℤ) (number set : ℕ) (p : List ℕ) (old ready : List Followed) (column : Column) → AreFollowed terms u number p old → AreReady number set old ready → IsColumn terms.goods set column.units.items → set < 2 ^ length terms.goods → AreFor terms.goods set number column ready
+for-ready terms u number set p old ready column are caught is within = record {
+  column_is = λ place here member. subst (λ g. IsColumn g set column.units.items) (sym (goods place here member)) is;
+  within = λ place here member. subst (λ g. set < 2 ^ length g) (sym (goods place here member)) within;
+}
+  where
+    goods : (place : ℕ) → place < length ready → place + 1 ≢ number → (follower_at ready place).supply ≡ terms.goods
+    goods place here member =
+        let before : place < length old = (let k = caught.count in omega (arith, k, here)) in
+        (caught.each place before member).goods ∙ supply-here terms u number p old place are before member
+
+pub column-on : (goods : List ℕ) (set number place : ℕ) (column : Column) (ready on : List Followed) → AreFor goods set number column ready → AreOn number set ready on → place < length on → place + 1 ≢ number
+    → IsColumn (follower_at on place).supply (follower_at on place).set column.units.items
+column-on goods set number place column ready on fits turned here member =
+    let before : place < length ready = (let k = turned.count in omega (arith, k, here)) in
+    let o = turned.each place before member in
+    subst (λ k. IsColumn (follower_at on place).supply k column.units.items) (sym o.on) (subst (λ g. IsColumn g set column.units.items) (sym o.goods) (fits.column_is place before member))

@@ -9,7 +9,7 @@ use Rattle.lot_base.specs.Economy.{demand, without}
 use Rattle.lot_base.proofs.Within.{both}
 use Rattle.demand_set.specs.declared.reports.Report.{Report}
 use Rattle.lot_base.specs.declared.auction_terms.Terms.{Terms}
-use Rattle.valuation.specs.Carried.{Carried, Carries, raised_by}
+use Rattle.valuation.specs.Carried.{raised_by}
 use Rattle.valuation.proofs.Carrying.{length-raised_by}
 use Rattle.clock.specs.Reports.{ClockHistory, demands_in, is_full, members, members_of}
 use Rattle.clock.specs.Standing.{steps_of, last_round, prices_of, is_full_after, step_set_after, good_at_ceiling}
@@ -17,9 +17,10 @@ use Rattle.clock.specs.Repeats.{again_by, with_round, repeated}
 use Rattle.clock.proofs.Path.{has_steps, compare-or}
 use Rattle.clock.proofs.Repeated.{step-same}
 use Rattle.trial.specs.Trials.{true_report, round_reports}
-use Rattle.trial.specs.Rounds.{IsFresh, told, IsLed, HasGone, AreCarried, IsSteady, surplus_at}
+use Rattle.trial.specs.Following.{Followed}
+use Rattle.trial.specs.Rounds.{IsFresh, told, IsLed, HasGone, AreFollowed, AreReady, AreOn, AreSteady, follower_at}
 use Rattle.trial.proofs.Finding.{all-both, all-more, open-beyond}
-use Rattle.trial.proofs.Telling.{fresh-past, get-same}
+use Rattle.trial.proofs.Telling.{fresh-past}
 use Rattle.trial.proofs.Prices.{leads-early}
 use Rattle.trial.proofs.Leading.{led-on, set_told}
 
@@ -192,45 +193,33 @@ left-range P number last a (suc n) low high f = by (cases_eq a number) (left-ran
 pub all-members : (P : ℕ → Type 0) (number bidders : ℕ) → ((place : ℕ) → place < bidders → place + 1 ≢ number → P (place + 1)) → AllByRecursion P (members bidders number)
 all-members P number bidders f = left-range P number bidders 1 bidders (omega arith) (omega arith) f
 
--- the surpluses of one place more are steady
-abbrev pub SteadyTo : ℕ → ℕ → ℕ → ℕ → List Carried → Type 0
-SteadyTo set without place least surpluses = (other n : ℕ) → other < place → other + 1 ≢ without → n ≤ least → IsSteady set n (surplus_at surpluses other)
-
-pub steady-next : (set without place old new : ℕ) (surpluses : List Carried) → SteadyTo set without place old surpluses → new ≤ old
-    → ((n : ℕ) → place + 1 ≢ without → n ≤ new → IsSteady set n (surplus_at surpluses place)) → SteadyTo set without (place + 1) new surpluses
-steady-next set without place old new surpluses before low here other n below apart few = by (compare-or other place)
-  where
-    by : (other < place) ⊎ ((place < other) ⊎ (other ≡ place)) → IsSteady set n (surplus_at surpluses other)
-    by (inl less) = before other n less apart (omega (arith, few, low))
-    by (inr (inl more)) = absurd (omega (arith, more, below))
-    by (inr (inr same)) =
-        let S : ℕ → Type 0 = λ k. IsSteady set n (surplus_at surpluses k) in
-        subst S (sym same) (here n (λ e. apart (ap (λ k. k + 1) same ∙ e)) few)
-
-pub steady-here : (set place least n : ℕ) (surpluses : List Carried) (s : Carried) → place < length surpluses → s ≡ get_or surpluses place s
-    → ((v : List ℕ → ℤ) (p : List ℕ) → length p ≡ length s.supply → Carries s v p → (m : ℕ) → m ≤ least → demand s.supply v (raised_by m set p) ≡ demand s.supply v p) → n ≤ least → IsSteady set n (surplus_at surpluses place)
-steady-here set place least n surpluses s inside is all few =
-    let S : Carried → Type 0 = IsSteady set n in
-    subst S (is ∙ get-same surpluses place s _ inside) (record { same = λ v p long carries. all v p long carries n few })
-
--- members whose surpluses are steady demand the same
-pub all-steady : (terms : Terms) (u : ℕ → List ℕ → ℤ) (steps set n : ℕ) (p : List ℕ) (surpluses : List Carried) (c : ClockHistory) → c.terms ≡ terms → AreCarried terms u steps p surpluses → length p ≡ length terms.goods
-    → ((place : ℕ) → place < length surpluses → place + 1 ≢ c.number → IsSteady set n (surplus_at surpluses place)) → StaySame u p set n c
-all-steady terms u steps set n p surpluses c same are long steady =
+-- members who stay demand the same
+pub all-steady : (terms : Terms) (u : ℕ → List ℕ → ℤ) (set n least : ℕ) (p : List ℕ) (old ready on : List Followed) (c : ClockHistory) → c.terms ≡ terms → AreFollowed terms u c.number p old → AreReady c.number set old ready → AreOn c.number set ready on → AreSteady c.number set least on → n ≤ least
+    → length p ≡ length terms.goods → StaySame u p set n c
+all-steady terms u set n least p old ready on c same are caught turned steady few long =
     let T : Terms → Type 0 = λ t. AllByRecursion (λ j. demand t.goods (u j) (raised_by n set p) ≡ demand t.goods (u j) p) (members t.bidders c.number) in
-    subst T (sym same) (all-members (λ j. demand terms.goods (u j) (raised_by n set p) ≡ demand terms.goods (u j) p) c.number terms.bidders
-    (λ place inside other.
-    let is = are.each place inside in
-    let s = steady place (let k = are.count in omega (arith, k, inside)) other in
-    let D : List ℕ → Type 0 = λ g. demand g (u (place + 1)) (raised_by n set p) ≡ demand g (u (place + 1)) p in
-    subst D is.over (s.same (u (place + 1)) p (long ∙ ap length (sym is.over)) is.carries)))
+    subst T (sym same) (all-members (λ j. demand terms.goods (u j) (raised_by n set p) ≡ demand terms.goods (u j) p) c.number terms.bidders each)
+  where
+    each : (place : ℕ) → place < terms.bidders → place + 1 ≢ c.number → demand terms.goods (u (place + 1)) (raised_by n set p) ≡ demand terms.goods (u (place + 1)) p
+    each place inside member =
+        let here : place < length old = (let k = are.count in omega (arith, k, inside)) in
+        let middle : place < length ready = (let k = caught.count in omega (arith, k, here)) in
+        let there : place < length on = (let k = turned.count in omega (arith, k, middle)) in
+        let is = are.each place inside member in
+        let r = caught.each place here member in
+        let o = turned.each place middle member in
+        let a : length p ≡ length (follower_at old place).supply = long ∙ ap length (sym is.over) in
+        let b : length p ≡ length (follower_at ready place).supply = a ∙ ap length (sym r.goods) in
+        let d : length p ≡ length (follower_at on place).supply = b ∙ ap length (sym o.goods) in
+        let D : List ℕ → Type 0 = λ g. demand g (u (place + 1)) (raised_by n set p) ≡ demand g (u (place + 1)) p in
+        subst D (o.goods ∙ r.goods ∙ is.over) ((steady.each place n there member few).same (u (place + 1)) p d (o.follows (u (place + 1)) p b (r.follows (u (place + 1)) p a is.follows)))
 
--- a clock that was led on and then repeated rounds in which all members' surpluses are steady
-pub gone-on : (u : ℕ → List ℕ → ℤ) (terms : Terms) (before : List ℕ) (set least added steps : ℕ) (surpluses : List Carried) (old new : ClockHistory) → IsLed u before old → old.terms ≡ terms → AreCarried terms u steps before surpluses → set ≡ set_told u before old
-    → ((place n : ℕ) → place < length surpluses → place + 1 ≢ old.number → n ≤ least → IsSteady set n (surplus_at surpluses place)) → new ≡ repeated added old → added ≤ least → steps_of new ≡ steps_of old + added → HasRepeated u before set least added new
-gone-on u terms before set least added steps surpluses old new led same are is steady repeated-is few more =
+-- a clock that was led on and then repeated rounds in which all members stay
+pub gone-on : (u : ℕ → List ℕ → ℤ) (terms : Terms) (before : List ℕ) (set least added : ℕ) (followers ready on : List Followed) (old new : ClockHistory) → IsLed u before old → old.terms ≡ terms → AreFollowed terms u old.number before followers → set ≡ set_told u before old
+    → AreReady old.number set followers ready → AreOn old.number set ready on → AreSteady old.number set least on → new ≡ repeated added old → added ≤ least → steps_of new ≡ steps_of old + added → HasRepeated u before set least added new
+gone-on u terms before set least added followers ready on old new led same are is caught turned steady repeated-is few more =
     let H : ClockHistory → Type 0 = HasRepeated u before set least added in
-    let stay = λ (n : ℕ) (low : n ≤ least). all-steady terms u steps set n before surpluses old same are (led.each_good ∙ ap (λ (t : Terms). length t.goods) same) (λ place inside other. steady place n inside other low) in
+    let stay = λ (n : ℕ) (low : n ≤ least). all-steady terms u set n least before followers ready on old same are caught turned steady low (led.each_good ∙ ap (λ (t : Terms). length t.goods) same) in
     subst H (sym repeated-is) (repeats u before set least added old (none-repeated u before set least old led is stay) few (ap steps_of (sym repeated-is) ∙ more))
 
 pub has-gone : (u : ℕ → List ℕ → ℤ) (before : List ℕ) (set least added : ℕ) (old new : ClockHistory) → HasRepeated u before set least added new → new ≡ repeated added old → steps_of new ≡ steps_of old + added → HasGone u old new
@@ -240,10 +229,3 @@ has-gone u before set least added old new at is more = record {
   fresh = at.fresh;
   steps = omega (arith, more);
 }
-
--- there are few steps in all
-pub few-more : (terms : Terms) (u : ℕ → List ℕ → ℤ) (old new added place : ℕ) (p : List ℕ) (surpluses : List Carried) → AreCarried terms u (old - 1) p surpluses → 1 ≤ old → new ≡ old + added → new ≤ 60000 → place < length surpluses
-    → (surplus_at surpluses place).steps + (added + 1) < 4294967296
-few-more terms u old new added place p surpluses are some more few inside =
-    let s = (are.each place (let k = are.count in omega (arith, k, inside))).few in
-    omega (arith, s, some, more, few)

@@ -1,4 +1,5 @@
 pub mod Finding
+pub mod Followed
 pub mod Telling
 pub mod Turning
 pub mod Prices
@@ -10,5 +11,6 @@ pub mod Made
 pub mod Risen
 pub mod Leading
 pub mod Leaping
+pub mod Members
 pub mod Truths
 pub mod MadeStrong

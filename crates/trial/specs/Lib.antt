@@ -1,4 +1,5 @@
 pub mod Bidding
+pub mod Following
 pub mod Trials
 pub mod Rounds
 pub mod Refusals

@@ -6,10 +6,11 @@ use Rattle.lot_base.specs.declared.phases.Phase.TheVariants.{Running}
 use Rattle.lot_base.specs.Economy.{demand}
 use Rattle.lot_base.specs.Goods.{raised}
 use Rattle.lot_base.specs.Steps.{step_set}
-use Rattle.valuation.specs.Carried.{Carried, Carries, IsColumn, raised_by}
+use Rattle.valuation.specs.Carried.{IsColumn}
 use Rattle.valuation.specs.declared.columns.Column.{Column}
 use Rattle.clock.specs.Reports.{ClockHistory, members, members_of, demands_in}
 use Rattle.clock.specs.Standing.{prices_of, steps_of, last_round, phase_of}
+use Rattle.trial.specs.Following.{Followed, Follows, IsReady, IsOn, IsStepped, IsSteady}
 use Rattle.trial.specs.Trials.{round_reports, trial_reports, IsTrialHistory}
 
 -- all rounds before the present one were reported, and nothing of the present one
@@ -37,35 +38,38 @@ pub record IsLed (u : ℕ → List ℕ → ℤ) (before : List ℕ) (c : ClockHi
   pub demands : AllByRecursion (λ j. demands_in c.reports (steps_of c) j ≡ demand c.terms.goods (u j) before) (members_of c)
   pub rose : prices_of c ≡ raised before (step_set c.terms.goods (λ j. demand c.terms.goods (u j) before) (members_of c))
 
--- the surpluses of a bidder at these prices, after no more than so many steps
-pub record IsCarried (goods : List ℕ) (v : List ℕ → ℤ) (steps : ℕ) (prices : List ℕ) (s : Carried) : Type 0 where
-  pub over : s.supply ≡ goods
-  pub few : s.steps ≤ steps
-  pub carries : Carries s v prices
+-- a bidder is followed at these prices
+pub record IsFollowed (goods : List ℕ) (v : List ℕ → ℤ) (prices : List ℕ) (f : Followed) : Type 0 where
+  pub over : f.supply ≡ goods
+  pub follows : Follows f v prices
 
--- the surpluses at a place of a list
-abbrev pub surplus_at : List Carried → ℕ → Carried
-surplus_at surpluses place = slice_index_or surpluses place (record { supply = []; steps = 0; worth = [] })
+-- the one at a place of a list
+abbrev pub follower_at : List Followed → ℕ → Followed
+follower_at followers place = slice_index_or followers place (record { supply = []; worth = []; set = 0; owed = 0 })
 
--- those of all bidders, from bidder 1 on
-pub record AreCarried (terms : Terms) (u : ℕ → List ℕ → ℤ) (steps : ℕ) (prices : List ℕ) (surpluses : List Carried) : Type 0 where
-  pub count : length surpluses ≡ terms.bidders
-  pub each : (place : ℕ) → place < terms.bidders → IsCarried terms.goods (u (place + 1)) steps prices (surplus_at surpluses place)
+-- all bidders but the one whom the clock is without, from bidder 1 on
+pub record AreFollowed (terms : Terms) (u : ℕ → List ℕ → ℤ) (number : ℕ) (prices : List ℕ) (followers : List Followed) : Type 0 where
+  pub count : length followers ≡ terms.bidders
+  pub each : (place : ℕ) → place < terms.bidders → place + 1 ≢ number → IsFollowed terms.goods (u (place + 1)) prices (follower_at followers place)
 
--- the prices of the surpluses rose by one on each good of a set, so many times
-pub record IsStepped (set times : ℕ) (old new : Carried) : Type 0 where
-  pub goods : new.supply ≡ old.supply
-  pub steps : new.steps ≡ old.steps + times
-  pub carries : (v : List ℕ → ℤ) (p : List ℕ) → length p ≡ length old.supply → Carries old v p → Carries new v (raised_by times set p)
-
--- each of a list is so
-pub record AreStepped (set times : ℕ) (old new : List Carried) : Type 0 where
+-- none of them owes steps on another set
+pub record AreReady (number set : ℕ) (old new : List Followed) : Type 0 where
   pub count : length new ≡ length old
-  pub each : (place : ℕ) → place < length old → IsStepped set times (surplus_at old place) (surplus_at new place)
+  pub each : (place : ℕ) → place < length old → place + 1 ≢ number → IsReady set (follower_at old place) (follower_at new place)
 
--- after so many steps on a set whoever has these surpluses demands the same
-pub record IsSteady (set steps : ℕ) (s : Carried) : Type 0 where
-  pub same : (v : List ℕ → ℤ) (p : List ℕ) → length p ≡ length s.supply → Carries s v p → demand s.supply v (raised_by steps set p) ≡ demand s.supply v p
+-- each of them is for steps on the set
+pub record AreOn (number set : ℕ) (old new : List Followed) : Type 0 where
+  pub count : length new ≡ length old
+  pub each : (place : ℕ) → place < length old → place + 1 ≢ number → IsOn set (follower_at old place) (follower_at new place)
+
+-- each of them stays for so many steps on the set
+pub record AreSteady (number set steps : ℕ) (followers : List Followed) : Type 0 where
+  pub each : (place n : ℕ) → place < length followers → place + 1 ≢ number → n ≤ steps → IsSteady set n (follower_at followers place)
+
+-- each of them is so many steps further
+pub record AreStepped (number times : ℕ) (old new : List Followed) : Type 0 where
+  pub count : length new ≡ length old
+  pub each : (place : ℕ) → place < length old → place + 1 ≢ number → IsStepped times (follower_at old place) (follower_at new place)
 
 -- the column of each set of the goods, at the number of the set
 pub record AreColumns (goods : List ℕ) (columns : List (Option Column)) : Type 0 where

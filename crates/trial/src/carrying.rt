@@ -1,35 +1,39 @@
-//! The surpluses of all bidders, carried along while the prices of a clock rise.
-ghost use Rattle.std.specs.Prelude.{◌≡◌, ◌≢◌, ◌<◌, ◌≤◌, ◌+◌, ◌-◌, ◌^◌, ℕ, length, slice_set, Some, IfOk, IfSome, OnOk};
+//! The demands of all bidders, followed while the prices of a clock rise.
+ghost use Rattle.std.specs.Prelude.{◌≡◌, ◌≢◌, ◌<◌, ◌≤◌, ◌+◌, ◌^◌, ℕ, length, slice_set, Some, IfOk, IfSome, OnOk};
+ghost use Rattle.lot_base.specs.declared.limits.TheConstants.{MOST_STEPS};
 ghost use Rattle.lot_base.specs.Goods.{raised};
 ghost use Rattle.valuation.specs.Carried.{IsColumn};
-ghost use Rattle.clock.specs.Standing.{steps_of, prices_of};
+ghost use Rattle.clock.specs.Standing.{prices_of};
 ghost use Rattle.trial.specs.Bidding.{bidders_of};
-ghost use Rattle.trial.specs.Rounds.{AreCarried, AreColumns, AreStepped, HasGone, IsLed, IsSteady, surplus_at};
+ghost use Rattle.trial.specs.Following.{IsReady};
+ghost use Rattle.trial.specs.Rounds.{AreColumns, AreFollowed, AreOn, AreReady, AreSteady, AreStepped, HasGone, IsLed, follower_at};
 
+use crate::following::Follower;
 use clock::Clock;
 use lot_base::limits::MOST_STEPS;
 use lot_base::{GoodSet, Goods, NoMemory, Prices, Terms};
 use std::alloc::Global;
-use valuation::{Column, Surplus, Valuation, column_of};
+use valuation::{Column, Valuation, column_of};
 
-/// The surpluses of all bidders at these prices, in the order of their numbers.
-pub(crate) fn surpluses_at(
+/// The followers of all bidders at these prices, in the order of their numbers.
+pub(crate) fn followers_at(
     alloc: Global,
     terms: &Terms,
     valuations: &[Valuation],
     prices: &Prices,
-) -> Result<Vec<Surplus>, NoMemory>
+) -> Result<Vec<Follower>, NoMemory>
     requires { length valuations.now ≡ terms.now.bidders }
-    ensures { IfOk result (λ surpluses. AreCarried terms.now (bidders_of terms.now.goods valuations.now) 0 prices.now surpluses.items) }
+    ensures { IfOk result (λ followers. (number : ℕ)
+        → AreFollowed terms.now (bidders_of terms.now.goods valuations.now) number prices.now followers.items) }
 {
-    let mut surpluses = Vec::new(alloc);
+    let mut followers = Vec::new(alloc);
     for place in 0..valuations.len() {
-        match Surplus::new(alloc, &terms.goods, &valuations[place], prices) {
-            Ok(surplus) => surpluses.push(surplus)?,
+        match Follower::new(alloc, &terms.goods, &valuations[place], prices) {
+            Ok(follower) => followers.push(follower)?,
             Err(NoMemory) => return Err(NoMemory),
         }
     }
-    Ok(surpluses)
+    Ok(followers)
 }
 
 /// A place for the column of each set of the goods, at the number of the set. A column is made when prices first rise on its set.
@@ -67,7 +71,7 @@ fn put_back(columns: &mut Vec<Option<Column>>, set: GoodSet, column: Column)
     columns[set.0 as usize] = Some(column);
 }
 
-/// Carries the surpluses on from the prices of the round before to the present ones. The rounds in which each member demands what it
+/// Follows the members on from the prices of the round before to the present ones. The rounds in which each of them demands what it
 /// demanded then are repeated at once.
 pub(crate) fn lead(
     alloc: Global,
@@ -75,28 +79,28 @@ pub(crate) fn lead(
     terms: &Terms,
     valuations: &[Valuation],
     columns: &mut Vec<Option<Column>>,
-    surpluses: &mut [Surplus],
+    followers: &mut [Follower],
     before: &Prices,
 ) -> Result<(), NoMemory>
     requires terms { clock.old.history.terms ≡ terms.now }
     requires columns { AreColumns terms.now.goods columns.old.items }
     requires led { IsLed (bidders_of terms.now.goods valuations.now) before.now clock.old.history }
-    requires carried { AreCarried terms.now (bidders_of terms.now.goods valuations.now) (steps_of clock.old.history - 1) before.now
-        surpluses.old }
+    requires followed { AreFollowed terms.now (bidders_of terms.now.goods valuations.now) clock.old.history.number before.now
+        followers.old }
     ensures gone { OnOk result (HasGone (bidders_of terms.now.goods valuations.now) clock.old.history clock.new.history) }
-    ensures carried { OnOk result (AreCarried terms.now (bidders_of terms.now.goods valuations.now) (steps_of clock.new.history)
-        (prices_of clock.new.history) surpluses.new) }
+    ensures followed { OnOk result (AreFollowed terms.now (bidders_of terms.now.goods valuations.now) clock.new.history.number
+        (prices_of clock.new.history) followers.new) }
     ensures columns { AreColumns terms.now.goods columns.new.items }
 {
     let number = clock.number();
     let set = raised_between(before, &clock.look().prices);
+    catch_up_all(alloc, &terms.goods, columns, followers, number, set)?;
     let slot = columns[set.0 as usize].take();
     let column = column_for(alloc, &terms.goods, set, slot)?;
-    let steady = least_steady(surpluses, number, set, &column);
-    match clock.repeat(alloc, steady) {
+    let left = least_left(followers, number, set, &column);
+    match clock.repeat(alloc, left) {
         Ok(added) => {
-            let _steps = clock.steps();
-            step_all(surpluses, set, &column, added + 1);
+            step_all(followers, number, &column, added + 1);
             put_back(columns, set, column);
             Ok(())
         }
@@ -104,30 +108,86 @@ pub(crate) fn lead(
     }
 }
 
-/// For how many steps on the set every bidder but one demands what it demands now.
-fn least_steady(surpluses: &[Surplus], without: u8, set: GoodSet, column: &Column) -> u32
-    requires { (place : ℕ) → place < length surpluses.now → IsColumn (surplus_at surpluses.now place).supply set.0 column.now.units.items }
-    ensures { (place n : ℕ) → place < length surpluses.now → place + 1 ≢ without → n ≤ result
-        → IsSteady set.0 n (surplus_at surpluses.now place) }
+/// Brings each member up to date that owes steps on another set.
+fn catch_up_all(
+    alloc: Global,
+    goods: &Goods,
+    columns: &mut Vec<Option<Column>>,
+    followers: &mut [Follower],
+    without: u8,
+    set: GoodSet,
+) -> Result<(), NoMemory>
+    requires columns { AreColumns goods.now columns.old.items }
+    requires goods { (place : ℕ) → place < length followers.old → place + 1 ≢ without
+        → (follower_at followers.old place).supply ≡ goods.now }
+    ensures columns { AreColumns goods.now columns.new.items }
+    ensures ready { OnOk result (AreReady without set.0 followers.old followers.new) }
+{
+    for place in 0..followers.len() {
+        if place + 1 != without as usize {
+            catch_up(alloc, goods, columns, &mut followers[place], set)?;
+        }
+    }
+    Ok(())
+}
+
+/// Brings a member up to date, if it owes steps on another set.
+fn catch_up(
+    alloc: Global,
+    goods: &Goods,
+    columns: &mut Vec<Option<Column>>,
+    follower: &mut Follower,
+    set: GoodSet,
+) -> Result<(), NoMemory>
+    requires columns { AreColumns goods.now columns.old.items }
+    requires goods { follower.old.supply ≡ goods.now }
+    ensures columns { AreColumns goods.now columns.new.items }
+    ensures ready { OnOk result (IsReady set.0 follower.old follower.new) }
+{
+    match follower.owes_on() {
+        Some(before) if before != set => {
+            let slot = columns[before.0 as usize].take();
+            let column = column_for(alloc, goods, before, slot)?;
+            follower.catch_up(&column);
+            put_back(columns, before, column);
+            Ok(())
+        }
+        _ => Ok(()),
+    }
+}
+
+/// For how many steps on the set every member demands what it demands now.
+fn least_left(followers: &mut [Follower], without: u8, set: GoodSet, column: &Column) -> u32
+    requires column { (place : ℕ) → place < length followers.old → place + 1 ≢ without
+        → IsColumn (follower_at followers.old place).supply set.0 column.now.units.items }
+    requires within { (place : ℕ) → place < length followers.old → place + 1 ≢ without
+        → set.0 < 2 ^ length (follower_at followers.old place).supply }
+    requires same { (place : ℕ) → place < length followers.old → place + 1 ≢ without
+        → (follower_at followers.old place).owed ≢ 0 → (follower_at followers.old place).set ≡ set.0 }
+    ensures few { result ≤ MOST_STEPS }
+    ensures on { AreOn without set.0 followers.old followers.new }
+    ensures steady { AreSteady without set.0 result followers.new }
 {
     let mut least = MOST_STEPS;
-    for place in 0..surpluses.len() {
+    for place in 0..followers.len() {
         if place + 1 != without as usize {
-            least = least.min(surpluses[place].steady(set, column));
+            least = least.min(followers[place].left(set, column));
         }
     }
     least
 }
 
 /// The prices rose by one on each good of the set, so many times.
-pub(crate) fn step_all(surpluses: &mut [Surplus], set: GoodSet, column: &Column, times: u32)
-    requires column { (place : ℕ) → place < length surpluses.old
-        → IsColumn (surplus_at surpluses.old place).supply set.0 column.now.units.items }
-    requires few { (place : ℕ) → place < length surpluses.old → (surplus_at surpluses.old place).steps + times < 2 ^ 32 }
-    ensures { AreStepped set.0 times surpluses.old surpluses.new }
+fn step_all(followers: &mut [Follower], without: u8, column: &Column, times: u32)
+    requires column { (place : ℕ) → place < length followers.old → place + 1 ≢ without
+        → IsColumn (follower_at followers.old place).supply (follower_at followers.old place).set column.now.units.items }
+    requires few { times ≤ MOST_STEPS + 1 }
+    ensures { AreStepped without times followers.old followers.new }
 {
-    for place in 0..surpluses.len() {
-        surpluses[place].step(set, column, times);
+    for place in 0..followers.len() {
+        if place + 1 != without as usize {
+            followers[place].step(column, times);
+        }
     }
 }
 

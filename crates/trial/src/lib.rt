@@ -13,6 +13,7 @@ ghost use Rattle.trial.specs.Refusals.{IsRefusal};
 
 mod carrying;
 pub mod faults;
+pub mod following;
 pub mod laws;
 pub mod making;
 mod rounds;
@@ -20,6 +21,7 @@ mod workers;
 
 use clock::Clock;
 pub use faults::TrialFault;
+pub use following::Follower;
 use lot_base::{NoMemory, Terms};
 pub use making::make;
 use settlement::{Settlement, settle_found};

@@ -2,17 +2,18 @@
 ghost use Rattle.std.specs.Prelude.{◌≡◌, ◌≢◌, ◌≤◌, ◌<◌, ◌+◌, length, IfOk, OnOk};
 ghost use Rattle.std.specs.List.{AllByRecursion};
 ghost use Rattle.clock.specs.Judging.{IsLegal};
-ghost use Rattle.clock.specs.Standing.{steps_of, prices_of};
+ghost use Rattle.clock.specs.Standing.{prices_of};
 ghost use Rattle.settlement.specs.Clocks.{is_running};
 ghost use Rattle.trial.specs.Bidding.{bidders_of};
-ghost use Rattle.trial.specs.Rounds.{AreCarried, AreColumns, IsFresh, IsTrialOf, IsTurned, told};
+ghost use Rattle.trial.specs.Rounds.{AreColumns, AreFollowed, IsFresh, IsTrialOf, IsTurned, told};
 
-use crate::carrying::{lead, surpluses_at};
+use crate::carrying::{followers_at, lead};
+use crate::following::Follower;
 use clock::Clock;
 use demand_set::Report;
 use lot_base::{NoMemory, Phase, Terms};
 use std::alloc::Global;
-use valuation::{Column, Surplus, Valuation};
+use valuation::{Column, Valuation};
 
 /// More rounds than a clock has.
 const MORE_ROUNDS: u32 = 60_002;
@@ -36,13 +37,13 @@ pub(crate) fn run_clock(
         Err(NoMemory) => return Err(NoMemory),
     };
     let opening = clock.look().prices;
-    let mut surpluses = match surpluses_at(alloc, terms, valuations, &opening) {
-        Ok(surpluses) => surpluses,
+    let mut followers = match followers_at(alloc, terms, valuations, &opening) {
+        Ok(followers) => followers,
         Err(NoMemory) => return Err(NoMemory),
     };
     for turn in 0..MORE_ROUNDS {
         let before = clock.look().prices;
-        match tell_round(alloc, &mut clock, terms, valuations, &surpluses) {
+        match tell_round(alloc, &mut clock, terms, valuations, &followers) {
             Ok(()) => {}
             Err(NoMemory) => return Err(NoMemory),
         }
@@ -55,7 +56,7 @@ pub(crate) fn run_clock(
             terms,
             valuations,
             columns,
-            &mut surpluses,
+            &mut followers,
             &before,
         ) {
             Ok(()) => {}
@@ -78,18 +79,18 @@ fn is_running(clock: &Clock) -> bool
     }
 }
 
-/// Tells the clock what each of its members demands at the prices of the present round, by its surpluses, the smallest member first.
+/// Tells the clock what each of its members demands at the prices of the present round, by its follower, the smallest member first.
 fn tell_round(
     alloc: Global,
     clock: &mut Clock,
     terms: &Terms,
     valuations: &[Valuation],
-    surpluses: &[Surplus],
+    followers: &[Follower],
 ) -> Result<(), NoMemory>
     requires terms { clock.old.history.terms ≡ terms.now }
     requires fresh { IsFresh (bidders_of terms.now.goods valuations.now) clock.old.history }
-    requires carried { AreCarried terms.now (bidders_of terms.now.goods valuations.now) (steps_of clock.old.history)
-        (prices_of clock.old.history) surpluses.now }
+    requires followed { AreFollowed terms.now (bidders_of terms.now.goods valuations.now) clock.old.history.number
+        (prices_of clock.old.history) followers.now }
     ensures told { OnOk result (clock.new.history ≡ told (bidders_of terms.now.goods valuations.now) clock.old.history) }
     ensures turned { OnOk result (IsTurned clock.old.history clock.new.history) }
 {
@@ -98,7 +99,7 @@ fn tell_round(
     for place in 0..terms.bidders {
         let bidder = place + 1;
         if bidder != number {
-            let demand = match surpluses[place as usize].demand(alloc) {
+            let demand = match followers[place as usize].demand(alloc) {
                 Ok(demand) => demand,
                 Err(NoMemory) => return Err(NoMemory),
             };

@@ -1,9 +1,9 @@
--- The greatest of some numbers, and the bundles that reach it, one after another.
-use Rattle.std.proofs.Common.{◌≡◌, ◌<◌, ◌≤◌, ℕ, zero, suc, ◌+◌, Bool, true, false, nat_eq, cond, List, [], ◌∷◌, ◌++◌, length, slice_index, take, max, inl, inr, arith, ap, refl, sym, ◌∙◌, append-nil, Result, Ok, Err, subst}
+-- The bundles whose number is the greatest, one after another.
+use Rattle.std.proofs.Common.{◌≡◌, ◌<◌, ◌≤◌, ℕ, zero, suc, ◌+◌, Bool, true, false, nat_eq, cond, List, [], ◌∷◌, ◌++◌, length, slice_index, take, arith, ap, refl, sym, ◌∙◌, append-nil, Result, Ok, Err, subst}
 use Rattle.std.specs.Prelude.{filter, ◌==◌, slice_get, Some, IfOk, ℤ, pos, ◌-ℤ◌, ◌+ℤ◌, ◌^◌}
 use Rattle.std.specs.List.{concat, AllByRecursion}
 use Rattle.std.proofs.lemmas.Int.{ints}
-use Rattle.std.proofs.lemmas.Bool.{cases_lt}
+use Rattle.std.proofs.lemmas.Bool.Decides.{nat_tests}
 use Rattle.std.proofs.lemmas.List.Folds.{concat-append}
 use Rattle.lot_base.specs.Goods.{AtMost, IsSupply}
 use Rattle.lot_base.specs.Box.{box, index_of, bundle_at}
@@ -14,37 +14,7 @@ use Rattle.lot_base.proofs.Vec.{length-below}
 use Rattle.demand_set.specs.Reading.{bundles_of, demand_of}
 use Rattle.demand_set.specs.declared.reading.DemandFault.{DemandFault}
 use Rattle.demand_set.proofs.Joined.{IsWritten, written-length}
-use Rattle.valuation.specs.Carried.{CarriesAt}
-
--- no number so far is greater, and it is one of them; at the start it is the first
-pub record IsGreatestSoFar (values : List ℕ) (count best : ℕ) : Type 0 where
-  pub bound : (i : ℕ) → i < count → slice_index values i ≤ best
-  pub place : ℕ
-  pub below : place < length values
-  pub reached : slice_index values place ≡ best
-
-pub greatest-next : (values : List ℕ) (count best : ℕ) → count < length values → IsGreatestSoFar values count best →
-    IsGreatestSoFar values (count + 1) (max best (slice_index values count))
-greatest-next values count best inside g = elim (cases_lt best (slice_index values count)) [
-  | inl more ↦ record {
-    bound = λ i below. elim (cases_lt i count) [
-      | inl old ↦ (let b = g.bound i old in omega (arith, b, more))
-      | inr new ↦ (let e : i ≡ count = omega arith in let f = ap (slice_index values) e in omega (arith, f))
-    ];
-    place = count;
-    below = inside;
-    reached = omega (arith, more);
-  }
-  | inr less ↦ record {
-    bound = λ i below. elim (cases_lt i count) [
-      | inl old ↦ (let b = g.bound i old in omega (arith, b, less))
-      | inr new ↦ (let e : i ≡ count = omega arith in let f = ap (slice_index values) e in omega (arith, f, less))
-    ];
-    place = g.place;
-    below = g.below;
-    reached = (let r = g.reached in omega (arith, r, less));
-  }
-]
+use Rattle.valuation.specs.Carried.{CarriesAt, cut, best_before}
 
 -- one element more of a list that is filtered
 cond-append : (b : Bool) (y : List ℕ) (f l : List (List ℕ)) → cond b (y ∷ (f ++ l)) (f ++ l) ≡ cond b (y ∷ f) f ++ l
@@ -90,15 +60,30 @@ pub one-length : (s : List ℕ) (bundles : List (List ℕ)) → AllByRecursion (
 one-length s [] all = tt
 one-length s (x ∷ bundles) all = (length-below x s all.0, one-length s bundles all.1)
 
+-- bundles of which none is one of the best change nothing
+pub collect-none : (s worth : List ℕ) (best first count : ℕ) → first + count ≤ box_size s → ((i : ℕ) → first ≤ i → i < first + count → slice_index worth i ≡ best → ⊥) →
+    best_before s worth best (first + count) ≡ best_before s worth best first
+collect-none s worth best first zero within none = ap (best_before s worth best) (omega arith)
+collect-none s worth best first (suc count) within none =
+    let before = collect-none s worth best first count (omega arith) (λ i low below. none i low (omega arith)) in
+    let one : first + suc count ≡ first + count + 1 = omega arith in
+    let other : nat_eq (slice_index worth (first + count)) best ≡ false = is-other _ _ (none (first + count) (omega arith) (omega arith)) in
+    let next = collect-next s worth best (first + count) (best_before s worth best (first + count)) (best_before s worth best (first + count)) (omega arith) refl
+    (sym (append-nil _) ∙ ap (λ b. best_before s worth best (first + count) ++ cond b (bundle_at s (first + count)) []) (sym other)) in
+    ap (best_before s worth best) one ∙ sym next ∙ before
+  where
+    is-other : (a b : ℕ) → (a ≡ b → ⊥) → nat_eq a b ≡ false
+    is-other a b h = grind (arith, nat_tests)
+
 -- numbers are the surpluses of some valuation at some prices
 abbrev pub itself : List ℕ → List ℕ → List ℕ → ℤ
-itself supply worth x = pos (slice_index worth (index_of supply x)) -ℤ pos (2 ^ 60)
+itself supply worth x = pos (slice_index worth (index_of supply x)) -ℤ pos 1
 
 pub itself-carried : (supply worth : List ℕ) → CarriesAt supply worth (itself supply worth) []
-itself-carried supply worth x within = back (slice_index worth (index_of supply x)) (2 ^ 60)
+itself-carried supply worth x within = ap cut (back (slice_index worth (index_of supply x)))
   where
-    back : (w n : ℕ) → pos w ≡ ((pos w -ℤ pos n) -ℤ pos 0) +ℤ pos n
-    back w n = omega (arith, ints)
+    back : (w : ℕ) → pos w ≡ ((pos w -ℤ pos 1) -ℤ pos 0) +ℤ pos 1
+    back w = omega (arith, ints)
 
 -- the quantities of a demand are those of its bundles
 pub written-demand : (s : List ℕ) (bundles : List (List ℕ)) (count : ℕ) (quantities : List ℕ) → IsSupply s → count ≡ length s → IsDemand s bundles → quantities ≡ concat bundles → IsWritten bundles count quantities

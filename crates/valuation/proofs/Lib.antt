@@ -2,6 +2,7 @@ pub mod Capped
 pub mod Carrying
 pub mod Collected
 pub mod FileRead
+pub mod Greatest
 pub mod Long
 pub mod Mapped
 pub mod Marginal

@@ -10,8 +10,10 @@ use Rattle.lot_base.specs.Goods.{box_size, cost}
 use Rattle.lot_base.specs.Box.{index_of, bundle_at}
 use Rattle.lot_base.proofs.Index.{box_size-above_0, index_of-small, bundle_at-index_of}
 use Rattle.lot_base.proofs.Sums.{box_of_drop}
-use Rattle.valuation.specs.Values.{valuation_of}
-use Rattle.valuation.specs.Carried.{AreCosts, IsSpread, IsLifted, CarriesAt, AllAbove}
+use Rattle.valuation.specs.Values.{AreValues, valuation_of}
+use Rattle.valuation.specs.Carried.{AreCosts, IsSpread, IsLeft, CarriesAt}
+use Rattle.valuation.proofs.Carrying.{cut-less, empty-costs}
+use Rattle.std.specs.Prelude.{ℤ, pos, ◌+ℤ◌, ◌-ℤ◌}
 
 -- the number at a place, by those of the first bundles
 abbrev pub spread_at : List ℕ → ℕ → ℕ → ℕ → ℕ
@@ -136,20 +138,25 @@ costs-all s p costs few from = record {
 }
 
 -- each value less the cost of its bundle is its surplus
-pub lifted-carries : (s p values costs worth : List ℕ) → AreCosts s p costs → IsLifted values costs worth → CarriesAt s worth (valuation_of s values) p
-lifted-carries s p values costs worth priced lifted x within =
+pub left-carries : (s p values costs worth : List ℕ) → AreCosts s p costs → IsLeft values costs worth → CarriesAt s worth (valuation_of s values) p
+left-carries s p values costs worth priced left x within =
     let i = index_of-small s x within in
     let whole = priced.whole in
-    let e = lifted.each (index_of s x) (omega (arith, i, whole)) in
+    let v = slice_index values (index_of s x) in
+    let e = left.each (index_of s x) (omega (arith, i, whole)) in
     let c = priced.each (index_of s x) i ∙ ap (cost p) (bundle_at-index_of s x within) in
-    omega (arith, ints)
+    let same : (pos v -ℤ pos (cost p x)) +ℤ pos 1 ≡ pos (v + 1) -ℤ pos (cost p x) = omega (arith, ints) in
+    let less = cut-less (pos (v + 1)) ((pos v -ℤ pos (cost p x)) +ℤ pos 1) (cost p x) same in
+    e ∙ ap (λ n. v + 1 - n) c ∙ sym less
 
-pub lifted-above : (values costs worth : List ℕ) → ((i : ℕ) → slice_index costs i ≤ 2 ^ 50) → IsLifted values costs worth → AllAbove (2 ^ 50) worth
-lifted-above values costs worth small lifted i inside =
-    let w = lifted.whole in
-    let e = lifted.each i (omega (arith, inside, w)) in
-    let s = small i in
-    omega (arith, e, s)
+pub left-empty : (s p values costs worth : List ℕ) → AreCosts s p costs → AreValues values → IsLeft values costs worth → slice_index worth 0 ≡ 1
+left-empty s p values costs worth priced are left =
+    let b = box_size-above_0 s in
+    let whole = priced.whole in
+    let e = left.each 0 (omega (arith, b, whole)) in
+    let c = empty-costs s p costs priced in
+    let v = are.empty in
+    omega (arith, e, c, v)
 
 -- of no goods there is one bundle, which costs nothing
 pub costs-start : (s p costs : List ℕ) (k : ℕ) → k ≡ length s → costs ≡ 0 ∷ [] → AreCostsFrom s p k costs

@@ -1,11 +1,12 @@
 -- Columns of units, and for how many steps the best bundles stay the same.
-use Rattle.std.proofs.Common.{◌≡◌, ◌<◌, ◌≤◌, ℕ, zero, suc, ◌+◌, ◌-◌, ◌*◌, ◌/◌, ◌%◌, nat_eq, cond, List, [], ◌∷◌, length, slice_index, inl, inr, arith, ap, subst, mul-le-mul_left}
-use Rattle.std.proofs.lemmas.Bool.{cases_lt}
-use Rattle.std.proofs.Math.Nat.{mul-div-le}
+use Rattle.std.proofs.Common.{◌≡◌, ◌<◌, ◌≤◌, ◌⊎◌, ℕ, zero, suc, ◌+◌, ◌-◌, ◌*◌, ◌/◌, ◌%◌, Bool, true, false, not, ◌&&◌, ◌||◌, nat_eq, nat_le, cond, min, List, [], ◌∷◌, length, slice_index, inl, inr, arith, ap, refl, sym, ◌∙◌, subst, mul-le-mul_left}
+use Rattle.std.proofs.lemmas.Bool.{cases_lt, cases_eq}
+use Rattle.std.proofs.lemmas.Bool.Decides.{nat_tests}
+use Rattle.std.proofs.Math.Nat.{mul-div-le, mul-le-mul}
 use Rattle.lot_base.specs.Goods.{quantity_in, box_size, AtMost}
 use Rattle.lot_base.specs.Box.{bundle_at}
 use Rattle.lot_base.proofs.Index.{bundle_at-within}
-use Rattle.valuation.specs.Carried.{IsColumn, StaysApart, IsSteadyAt}
+use Rattle.valuation.specs.Carried.{IsColumn, StaysApart, IsSteadyAt, AreSteady}
 use Rattle.valuation.proofs.Spread.{index-behind}
 
 -- a bundle within a supply has fewer units of a set than the box has bundles
@@ -81,14 +82,96 @@ stays-quotient gap units least n less some few =
     stays-for gap units least n ((gap - 1) / (least - units)) less few (omega (arith, k, some))
 
 -- the last bundle that was looked at
-pub steady-next : (best least limit now count : ℕ) (worth units : List ℕ) → now ≤ limit →
-    ((i n : ℕ) → i < count → n ≤ limit → IsSteadyAt best least n (slice_index worth i) (slice_index units i)) →
-    ((n : ℕ) → n ≤ now → IsSteadyAt best least n (slice_index worth count) (slice_index units count)) →
-    (i n : ℕ) → i < count + 1 → n ≤ now → IsSteadyAt best least n (slice_index worth i) (slice_index units i)
-steady-next best least limit now count worth units fewer old new i n inside few = elim (cases_lt i count) [
-  | inl before ↦ old i n before (omega (arith, few, fewer))
-  | inr last ↦
-      let e : count ≡ i = omega (arith, inside, last) in
-      let P : ℕ → Type 0 = λ k. IsSteadyAt best least n (slice_index worth k) (slice_index units k) in
-      subst P e (new n few)
+pub steady-next : (worth units : List ℕ) (best least first count limit now : ℕ) → now ≤ limit → AreSteady worth units best least first count limit →
+    ((n : ℕ) → n ≤ now → IsSteadyAt best least n (slice_index worth count) (slice_index units count)) → AreSteady worth units best least first (count + 1) now
+steady-next worth units best least first count limit now fewer old new = record { each = each }
+  where
+    each : (i n : ℕ) → first ≤ i → i < count + 1 → n ≤ now → IsSteadyAt best least n (slice_index worth i) (slice_index units i)
+    each i n low inside few = elim (cases_lt i count) [
+      | inl before ↦ old.each i n low before (omega (arith, few, fewer))
+      | inr last ↦
+          let e : count ≡ i = omega (arith, inside, last) in
+          let P : ℕ → Type 0 = λ k. IsSteadyAt best least n (slice_index worth k) (slice_index units k) in
+          subst P e (new n few)
+    ]
+
+-- none yet
+pub steady-none : (worth units : List ℕ) (best least first last limit : ℕ) → last ≤ first → AreSteady worth units best least first last limit
+steady-none worth units best least first last limit none = record { each = λ i n low below few. absurd (omega (arith, low, below, none)) }
+
+-- fewer steps, and bundles of two parts
+pub steady-both : (worth units : List ℕ) (best least first middle last limit now : ℕ) → now ≤ limit → AreSteady worth units best least first middle limit →
+    AreSteady worth units best least middle last now → AreSteady worth units best least first last now
+steady-both worth units best least first middle last limit now fewer old new = record { each = each }
+  where
+    each : (i n : ℕ) → first ≤ i → i < last → n ≤ now → IsSteadyAt best least n (slice_index worth i) (slice_index units i)
+    each i n low inside few = elim (cases_lt i middle) [ inl before ↦ old.each i n low before (omega (arith, few, fewer)) | inr behind ↦ new.each i n behind inside few ]
+
+-- a product with a smaller number fits too
+pub fits-less : (least units limit : ℕ) → least * limit < 65536 → (least - units) * limit < 65536
+fits-less least units limit fits =
+    let m : (least - units) * limit ≤ least * limit = mul-le-mul (let a : least - units ≤ least = omega arith in a) (let b : limit ≤ limit = omega arith in b) in
+    omega (arith, m, fits)
+
+pub fits-fewer : (least limit now : ℕ) → now ≤ limit → least * limit < 65536 → least * now < 65536
+fits-fewer least limit now fewer fits = let m : least * now ≤ least * limit = mul-le-mul_left least fewer in omega (arith, m, fits)
+
+-- a bundle that is not near
+pub stays-far : (gap units least limit n : ℕ) → (units ≡ least) ⊎ ((least - units) * limit < gap) → n ≤ limit → StaysApart gap units least n
+stays-far gap units least limit n (inl same) few = stays-more gap units least n (λ e. same) (omega (arith, same))
+stays-far gap units least limit n (inr far) few = elim (cases_lt units least) [
+  | inl less ↦ stays-for gap units least n limit less few far
+  | inr more ↦ stays-more gap units least n (λ none. absurd (omega (arith, none, far))) more
 ]
+
+pub near-off : (units least gap product n : ℕ) → product ≡ n → not (nat_eq units least) && nat_le gap product ≡ false → (units ≡ least) ⊎ (n < gap)
+near-off units least gap product n is off = elim (cases_eq units least) [
+  | inl same ↦ inl same
+  | inr other ↦ elim (cases_lt product gap) [ inl less ↦ inr (omega (arith, less, is)) | inr more ↦ absurd (contrary units least gap product other more off) ]
+]
+  where
+    contrary : (units least gap product : ℕ) → (units ≡ least → ⊥) → gap ≤ product → not (nat_eq units least) && nat_le gap product ≡ false → ⊥
+    contrary units least gap product other more off = grind (arith, nat_tests)
+
+pub both-off : (a b : Bool) → a || b ≡ false → (a ≡ false) × (b ≡ false)
+both-off true b off = absurd (cc)
+both-off false b off = (refl, off)
+
+-- the fewest units of the best of the first bundles
+pub record FewestTo (most : ℕ) (units worth : List ℕ) (best count fewest : ℕ) : Type 0 where
+  pub bound : (i : ℕ) → i < count → slice_index worth i ≡ best → fewest ≤ slice_index units i
+  pub reached : (n : ℕ) → n ≤ most → ((i : ℕ) → i < count → slice_index worth i ≡ best → n ≤ slice_index units i) → n ≤ fewest
+
+pub fewest-next : (most : ℕ) (units worth : List ℕ) (best count fewest this now : ℕ) → FewestTo most units worth best count fewest → this ≡ cond (nat_eq (slice_index worth count) best) (slice_index units count) most → now ≡ min fewest this →
+    FewestTo most units worth best (count + 1) now
+fewest-next most units worth best count fewest this now so_far this-is is = by (cases_eq (slice_index worth count) best)
+  where
+    low : (now ≤ fewest) × (now ≤ this)
+    low = (omega (arith, is), omega (arith, is))
+
+    by : (slice_index worth count ≡ best) ⊎ (slice_index worth count ≡ best → ⊥) → FewestTo most units worth best (count + 1) now
+    by (inl same) =
+        let e : nat_eq (slice_index worth count) best ≡ true = grind (arith, nat_tests) in
+        let t : this ≡ slice_index units count = this-is ∙ ap (λ b. cond b (slice_index units count) most) e in
+        record {
+          bound = λ i below at. elim (cases_lt i count) [
+            | inl before ↦ (let b = so_far.bound i before at in let l = low.0 in omega (arith, b, l))
+            | inr last ↦ (let here : count ≡ i = omega (arith, below, last) in let u = ap (slice_index units) here in let l = low.1 in omega (arith, u, l, t))
+          ];
+          reached = λ n few each.
+              let r = so_far.reached n few (λ i below at. each i (omega (arith, below)) at) in
+              let h = each count (omega arith) same in
+              omega (arith, r, h, t, is);
+        }
+    by (inr other) =
+        let e : nat_eq (slice_index worth count) best ≡ false = grind (arith, nat_tests) in
+        let t : this ≡ most = this-is ∙ ap (λ b. cond b (slice_index units count) most) e in
+        record {
+          bound = λ i below at. elim (cases_lt i count) [
+            | inl before ↦ (let b = so_far.bound i before at in let l = low.0 in omega (arith, b, l))
+            | inr last ↦ (let here : i ≡ count = omega (arith, below, last) in absurd (other (ap (slice_index worth) (sym here) ∙ at)))
+          ];
+          reached = λ n few each.
+              let r = so_far.reached n few (λ i below at. each i (omega (arith, below)) at) in
+              omega (arith, r, few, t, is);
+        }

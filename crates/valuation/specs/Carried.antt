@@ -1,20 +1,25 @@
--- Surpluses that are carried along while prices rise: the surplus of each bundle of a box, in order of index. Each is kept 2^60
--- above, so that none is below 0.
-use Rattle.std.specs.Prelude.{◌≡◌, ◌<◌, ◌≤◌, ◌+◌, ◌*◌, ◌/◌, ◌%◌, ◌^◌, ℕ, zero, suc, List, length, slice_index, ℤ, pos, ◌+ℤ◌}
+-- Surpluses that are carried along while prices rise: one more than the surplus of each bundle of a box, in order of index, or 0
+-- where the surplus is below 0. The empty bundle is worth 0 at any prices, so its number is 1, and nothing that is cut off is best.
+use Rattle.std.specs.Prelude.{◌≡◌, ◌<◌, ◌≤◌, ◌+◌, ◌-◌, ◌*◌, ◌/◌, ◌%◌, ◌^◌, ℕ, zero, suc, max, filter, take, ◌==◌, List, length, slice_index, ℤ, pos, negsuc, ◌+ℤ◌}
+use Rattle.std.specs.List.{fold, concat}
 use Rattle.lot_base.specs.declared.limits.TheConstants.{MOST_UNITS}
 use Rattle.lot_base.specs.Goods.{box_size, quantity_in, raised, cost, AtMost}
-use Rattle.lot_base.specs.Box.{bundle_at, index_of}
+use Rattle.lot_base.specs.Box.{box, bundle_at, index_of}
 use Rattle.lot_base.specs.Economy.{surplus}
 
--- surpluses of the bundles of a supply, after so many steps
+-- surpluses of the bundles of a supply
 pub record Carried : Type 0 where
   pub supply : List ℕ
-  pub steps : ℕ
   pub worth : List ℕ
 
--- the list has the surplus of each bundle of the box at the prices
+-- a number, 0 where it is below 0
+abbrev pub cut : ℤ → ℕ
+cut (pos n) = n
+cut (negsuc n) = 0
+
+-- the list has of each bundle of the box one more than its surplus at the prices, 0 where that is below 0
 abbrev pub CarriesAt : List ℕ → List ℕ → (List ℕ → ℤ) → List ℕ → Type 0
-CarriesAt supply worth u p = (x : List ℕ) → AtMost x supply → pos (slice_index worth (index_of supply x)) ≡ surplus u p x +ℤ pos (2 ^ 60)
+CarriesAt supply worth u p = (x : List ℕ) → AtMost x supply → slice_index worth (index_of supply x) ≡ cut (surplus u p x +ℤ pos 1)
 
 abbrev pub Carries : Carried → (List ℕ → ℤ) → List ℕ → Type 0
 Carries carried u p = CarriesAt carried.supply carried.worth u p
@@ -41,25 +46,28 @@ pub record IsColumn (supply : List ℕ) (set : ℕ) (units : List ℕ) : Type 0 
   pub each : (i : ℕ) → i < box_size supply → slice_index units i ≡ quantity_in (bundle_at supply i) set
   pub small : (i : ℕ) → slice_index units i ≤ MOST_UNITS
 
--- each value less its cost, kept 2^60 above
-pub record IsLifted (values costs worth : List ℕ) : Type 0 where
+-- one more than each value less its cost, 0 where that is below 0
+pub record IsLeft (values costs worth : List ℕ) : Type 0 where
   pub whole : length worth ≡ length costs
-  pub each : (i : ℕ) → i < length costs → slice_index worth i + slice_index costs i ≡ slice_index values i + 2 ^ 60
+  pub each : (i : ℕ) → i < length costs → slice_index worth i ≡ (slice_index values i + 1) - slice_index costs i
 
--- so many times the units were taken from each
+-- so many times the units were taken from each, down to 0
 pub record IsPaid (times : ℕ) (units old new : List ℕ) : Type 0 where
   pub whole : length new ≡ length old
-  pub each : (i : ℕ) → i < length old → slice_index new i + times * slice_index units i ≡ slice_index old i
+  pub each : (i : ℕ) → i < length old → slice_index new i ≡ slice_index old i - times * slice_index units i
 
--- no number is further below 2^60
-abbrev pub AllAbove : ℕ → List ℕ → Type 0
-AllAbove low values = (i : ℕ) → i < length values → 2 ^ 60 ≤ slice_index values i + low
+-- the greatest of some numbers, 0 of none
+abbrev pub greatest : List ℕ → ℕ
+greatest values = fold max 0 values
 
-pub record IsGreatest (values : List ℕ) (best : ℕ) : Type 0 where
-  pub bound : (i : ℕ) → i < length values → slice_index values i ≤ best
-  pub place : ℕ
-  pub below : place < length values
-  pub reached : slice_index values place ≡ best
+-- the quantities of those of the first bundles of the box whose number is the best, one bundle after another
+abbrev pub best_before : List ℕ → List ℕ → ℕ → ℕ → List ℕ
+best_before supply worth best count = concat (filter (λ x. slice_index worth (index_of supply x) == best) (take count (box supply)))
+
+-- the fewest units that a bundle of the best has, no more than this
+pub record IsFewest (most : ℕ) (units worth : List ℕ) (best fewest : ℕ) : Type 0 where
+  pub bound : (i : ℕ) → i < length worth → slice_index worth i ≡ best → fewest ≤ slice_index units i
+  pub reached : (n : ℕ) → n ≤ most → ((i : ℕ) → i < length worth → slice_index worth i ≡ best → n ≤ slice_index units i) → n ≤ fewest
 
 -- after n steps a bundle, so far below the best and of so many units, is as it was: of the best, which have the same units, or
 -- not of them
@@ -70,3 +78,7 @@ pub record StaysApart (gap units least n : ℕ) : Type 0 where
 pub record IsSteadyAt (best least n worth units : ℕ) : Type 0 where
   pub same : worth ≡ best → 0 < n → units ≡ least
   pub apart : worth < best → n * least + worth < best + n * units
+
+-- so is each bundle from the first place to the last, after so many steps and after fewer
+pub record AreSteady (worth units : List ℕ) (best least first last steps : ℕ) : Type 0 where
+  pub each : (i n : ℕ) → first ≤ i → i < last → n ≤ steps → IsSteadyAt best least n (slice_index worth i) (slice_index units i)

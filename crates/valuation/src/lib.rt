@@ -1,6 +1,7 @@
 //! What bundles are worth to bidders, and what bidders with these values demand.
 #![tactic(auto)]
 
+mod collecting;
 pub mod columns;
 mod costs;
 mod document;
@@ -9,7 +10,9 @@ mod forms;
 pub mod laws;
 mod making;
 mod numbers;
+mod paying;
 pub mod reader;
+mod steadiness;
 pub mod surpluses;
 pub mod values;
 

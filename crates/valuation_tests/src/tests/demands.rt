@@ -35,7 +35,7 @@ fn demands(
 /// For how many steps on good 1 the demand at price 0 stays the same, and the demand after so many.
 fn after_steps(
     rt: &(impl AllocGlobal + Abort),
-    times: u32,
+    times: u8,
     quantities: &[u16],
 ) -> Result<(u32, bool), NoMemory> {
     let goods = goods(rt);
@@ -43,7 +43,7 @@ fn after_steps(
     let set = GoodSet(2);
     let column = column_of(rt.alloc(), &goods, set)?;
     let steady = surplus.steady(set, &column);
-    surplus.step(set, &column, times);
+    surplus.step(set, &column, u32::from(times));
     let demand = surplus.demand(rt.alloc())?;
     Ok((steady, demand.quantities() == quantities))
 }

@@ -1,11 +1,12 @@
-use Rattle.std.proofs.Common.{◌∙◌, ◌-◌, ◌+◌, ◌≡◌, sym, ap, arith, List, subst, length}
+use Rattle.std.proofs.Common.{◌∙◌, ◌-◌, ◌+◌, ◌≡◌, sym, ap, arith, List, ℕ, subst, length}
 use Rattle.std.proofs.lemmas.List.{take_at}
-use Rattle.valuation.specs.Carried.{Carried}
+use Rattle.clock.specs.Reports.{ClockHistory}
 use Rattle.clock.specs.Standing.{steps_of, prices_of, phase_of}
 use Rattle.trial.specs.Bidding.{bidders_of}
-use Rattle.trial.specs.Rounds.{AreCarried}
+use Rattle.trial.specs.Following.{Followed}
+use Rattle.trial.specs.Rounds.{AreFollowed}
 use Rattle.trial.proofs.Turning.{fresh-new, whole-after, on-after, on-gone, yes-running}
-use Rattle.trial.proofs.Leading.{carried-more, led-running}
+use Rattle.trial.proofs.Leading.{led-running}
 use Rattle.trial.proofs.rounds.run_clock.Goals as goal
 
 pub loop-turn-init : goal.loop-turn-init
@@ -20,7 +21,9 @@ loop-turn-init c =
         steps = omega arith;
       };
       columns = c.requires.columns;
-      carried = carried-more terms u 0 (steps_of c.in-Ok.clock.history) c.look-opening.result.prices (prices_of c.in-Ok.clock.history) c.in-Ok-surpluses_at.surpluses.items c.in-Ok-surpluses_at.ensures c.look-opening.ensures.prices (omega arith);
+      followed =
+          (let A : List ℕ → Type 0 = λ p. AreFollowed terms u c.in-Ok.clock.history.number p c.in-Ok-followers_at.followers.items in
+          subst A c.look-opening.ensures.prices (c.in-Ok-followers_at.ensures c.in-Ok.clock.history.number));
     }
 
 pub tell_round-requires-clause-terms : goal.tell_round-requires-clause-terms
@@ -29,13 +32,13 @@ tell_round-requires-clause-terms c = c.loop-turn.invariant.on.terms_are
 pub tell_round-requires-clause-fresh : goal.tell_round-requires-clause-fresh
 tell_round-requires-clause-fresh c = c.loop-turn.invariant.on.fresh
 
-pub tell_round-requires-clause-carried : goal.tell_round-requires-clause-carried
-tell_round-requires-clause-carried c =
+pub tell_round-requires-clause-followed : goal.tell_round-requires-clause-followed
+tell_round-requires-clause-followed c =
     let terms = c.args.terms.now in
     let u = bidders_of terms.goods c.args.valuations.now in
     let h = c.loop-turn.clock.history in
-    let A : List Carried → Type 0 = AreCarried terms u (steps_of h) (prices_of h) in
-    subst A (sym c.deref.ensures.value) c.loop-turn.invariant.carried
+    let A : List Followed → Type 0 = AreFollowed terms u h.number (prices_of h) in
+    subst A (sym c.deref.ensures.value) c.loop-turn.invariant.followed
 
 pub lead-requires-clause-led : goal.lead-requires-clause-led
 lead-requires-clause-led c =
@@ -43,15 +46,16 @@ lead-requires-clause-led c =
     let running = yes-running (phase_of c.tell_round.new.clock.history) (sym c.is_running.ensures.value ∙ c.if-not-is_running.false) in
     led-running u c.loop-turn.clock.history c.tell_round.new.clock.history c.look-before.result.prices c.loop-turn.invariant.on.fresh c.in-Ok-tell_round.ensures.told c.in-Ok-tell_round.ensures.turned running c.look-before.ensures.prices c.look-before.ensures.goods
 
-pub lead-requires-clause-carried : goal.lead-requires-clause-carried
-lead-requires-clause-carried c =
+pub lead-requires-clause-followed : goal.lead-requires-clause-followed
+lead-requires-clause-followed c =
     let terms = c.args.terms.now in
     let u = bidders_of terms.goods c.args.valuations.now in
     let h = c.loop-turn.clock.history in
-    let running = yes-running (phase_of c.tell_round.new.clock.history) (sym c.is_running.ensures.value ∙ c.if-not-is_running.false) in
-    let more = c.in-Ok-tell_round.ensures.turned.goes running in
-    let A : List Carried → Type 0 = AreCarried terms u (steps_of c.tell_round.new.clock.history - 1) c.look-before.result.prices in
-    subst A (sym c.deref_mut.ensures.value) (carried-more terms u (steps_of h) (steps_of c.tell_round.new.clock.history - 1) (prices_of h) c.look-before.result.prices c.loop-turn.surpluses.items c.loop-turn.invariant.carried (sym c.look-before.ensures.prices) (omega (arith, more)))
+    let same : h.number ≡ c.tell_round.new.clock.history.number = ap (λ (k : ClockHistory). k.number) (sym c.in-Ok-tell_round.ensures.told) in
+    let A : List Followed → Type 0 = AreFollowed terms u c.tell_round.new.clock.history.number c.look-before.result.prices in
+    let P : List ℕ → Type 0 = λ p. AreFollowed terms u c.tell_round.new.clock.history.number p c.loop-turn.followers.items in
+    let N : ℕ → Type 0 = λ n. AreFollowed terms u n (prices_of h) c.loop-turn.followers.items in
+    subst A (sym c.deref_mut.ensures.value) (subst P (sym c.look-before.ensures.prices) (subst N same c.loop-turn.invariant.followed))
 
 pub returns-then-not-is_running : goal.returns-then-not-is_running
 returns-then-not-is_running c =
@@ -69,14 +73,14 @@ loop-turn-preserved c =
     let u = bidders_of terms.goods c.args.valuations.now in
     let told = c.tell_round.new.clock.history in
     let now = c.lead.new.clock.history in
-    let A : List Carried → Type 0 = AreCarried terms u (steps_of now) (prices_of now) in
-    let carried = c.in-Ok-lead.ensures.carried in
-    let many : length c.lead.new.surpluses ≡ c.loop-turn.surpluses.len = carried.count ∙ sym c.loop-turn.invariant.carried.count ∙ ap length (sym c.deref_mut.ensures.value) ∙ c.deref_mut.ensures.len in
+    let A : List Followed → Type 0 = AreFollowed terms u now.number (prices_of now) in
+    let followed = c.in-Ok-lead.ensures.followed in
+    let many : length c.lead.new.followers ≡ c.loop-turn.followers.len = followed.count ∙ sym c.loop-turn.invariant.followed.count ∙ ap length (sym c.deref_mut.ensures.value) ∙ c.deref_mut.ensures.len in
     let on = on-after terms c.args.number u c.loop-turn.turn c.loop-turn.clock.history told c.loop-turn.invariant.on c.in-Ok-tell_round.ensures.told c.in-Ok-tell_round.ensures.turned (sym c.is_running.ensures.value ∙ c.if-not-is_running.false) in
     record {
       on = on-gone terms c.args.number u (c.loop-turn.turn + 1) told now on c.in-Ok-lead.ensures.gone;
       columns = c.lead.ensures.columns;
-      carried = subst A (sym (take_at c.lead.new.surpluses _ c.loop-turn.surpluses.len many)) carried;
+      followed = subst A (sym (take_at c.lead.new.followers _ c.loop-turn.followers.len many)) followed;
     }
 
 pub returns : goal.returns

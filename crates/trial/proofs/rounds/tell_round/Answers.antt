@@ -7,7 +7,7 @@ use Rattle.clock.specs.Judging.{judgement_of}
 use Rattle.clock.proofs.Growing.{grows}
 use Rattle.trial.specs.Bidding.{bidders_of}
 use Rattle.trial.specs.Rounds.{told_up_to}
-use Rattle.trial.proofs.Leading.{carried-here, report-here}
+use Rattle.trial.proofs.Leading.{followed-here, report-here}
 use Rattle.trial.proofs.Telling.{takes-next, told-with, told-without}
 use Rattle.trial.proofs.Turning.{turned}
 use Rattle.trial.proofs.rounds.tell_round.Goals as goal
@@ -18,8 +18,8 @@ apply-requires-clause-take c =
     let old = c.args.clock.now.history in
     let terms = c.args.terms.now in
     let u = bidders_of terms.goods c.args.valuations.now in
-    let here = carried-here terms u (steps_of old) (prices_of old) c.args.surpluses.now c.index-surpluses-place.result c.loop-place.place c.requires.carried c.loop-place-test.true c.index-surpluses-place.is in
-    let same = report-here terms old u (steps_of old) c.loop-place.place c.look-round.result.round c.index-surpluses-place.result c.in-Ok.demand c.requires.terms here c.look-round.ensures.round (c.in-Ok.ensures (u (c.loop-place.place + 1)) (prices_of old) here.carries) in
+    let here = followed-here terms u old.number (prices_of old) c.args.followers.now c.index-followers-place.result c.loop-place.place c.requires.followed c.loop-place-test.true (λ e. c.if-bidder-number.true (e ∙ sym c.number-number.ensures.value)) c.index-followers-place.is in
+    let same = report-here terms old u c.loop-place.place c.look-round.result.round c.index-followers-place.result c.in-Ok.demand c.requires.terms here c.look-round.ensures.round (c.in-Ok.ensures (u (c.loop-place.place + 1)) (prices_of old) here.follows) in
     let bidders = ap (λ t. t.bidders) c.requires.terms in
     ap (judgement_of c.loop-place.clock.history) same
     ∙ takes-next u old c.loop-place.clock.history c.loop-place.place c.requires.fresh c.loop-place.invariant.told c.loop-place.invariant.grown (omega (arith, bidders, c.loop-place-test.true)) (λ e. c.if-bidder-number.true (e ∙ sym c.number-number.ensures.value))
@@ -29,12 +29,12 @@ apply-requires-clause-fits c =
     let old = c.args.clock.now.history in
     let terms = c.args.terms.now in
     let u = bidders_of terms.goods c.args.valuations.now in
-    let here = carried-here terms u (steps_of old) (prices_of old) c.args.surpluses.now c.index-surpluses-place.result c.loop-place.place c.requires.carried c.loop-place-test.true c.index-surpluses-place.is in
-    let is = c.in-Ok.ensures (u (c.loop-place.place + 1)) (prices_of old) here.carries in
-    let goods : c.index-surpluses-place.result.supply ≡ c.loop-place.clock.history.terms.goods = here.over ∙ ap (λ t. t.goods) (sym c.requires.terms) ∙ ap (λ (k : ClockHistory). k.terms.goods) (sym c.loop-place.invariant.told) in
+    let here = followed-here terms u old.number (prices_of old) c.args.followers.now c.index-followers-place.result c.loop-place.place c.requires.followed c.loop-place-test.true (λ e. c.if-bidder-number.true (e ∙ sym c.number-number.ensures.value)) c.index-followers-place.is in
+    let is = c.in-Ok.ensures (u (c.loop-place.place + 1)) (prices_of old) here.follows in
+    let goods : c.index-followers-place.result.supply ≡ c.loop-place.clock.history.terms.goods = here.over ∙ ap (λ t. t.goods) (sym c.requires.terms) ∙ ap (λ (k : ClockHistory). k.terms.goods) (sym c.loop-place.invariant.told) in
     let G : List ℕ → Type 0 = λ g. IsDemand g c.in-Ok.demand in
-    let D : List (List ℕ) → Type 0 = IsDemand c.index-surpluses-place.result.supply in
-    subst G goods (subst D (sym is) (IsDemand-demand c.index-surpluses-place.result.supply (u (c.loop-place.place + 1)) (prices_of old)))
+    let D : List (List ℕ) → Type 0 = IsDemand c.index-followers-place.result.supply in
+    subst G goods (subst D (sym is) (IsDemand-demand c.index-followers-place.result.supply (u (c.loop-place.place + 1)) (prices_of old)))
 
 pub loop-place-preserved : goal.loop-place-preserved
 loop-place-preserved c =
@@ -43,8 +43,8 @@ loop-place-preserved c =
     let u = bidders_of terms.goods c.args.valuations.now in
     elim c.if-bidder-number.branch [
       | then-bidder-number+in-Ok+in-Ok-apply w ↦
-          let here = carried-here terms u (steps_of old) (prices_of old) c.args.surpluses.now w.index-surpluses-place.result c.loop-place.place c.requires.carried c.loop-place-test.true w.index-surpluses-place.is in
-          let same = report-here terms old u (steps_of old) c.loop-place.place c.look-round.result.round w.index-surpluses-place.result w.in-Ok.demand c.requires.terms here c.look-round.ensures.round (w.in-Ok.ensures (u (c.loop-place.place + 1)) (prices_of old) here.carries) in
+          let here = followed-here terms u old.number (prices_of old) c.args.followers.now w.index-followers-place.result c.loop-place.place c.requires.followed c.loop-place-test.true (λ e. w.if-bidder-number.true (e ∙ sym c.number-number.ensures.value)) w.index-followers-place.is in
+          let same = report-here terms old u c.loop-place.place c.look-round.result.round w.index-followers-place.result w.in-Ok.demand c.requires.terms here c.look-round.ensures.round (w.in-Ok.ensures (u (c.loop-place.place + 1)) (prices_of old) here.follows) in
           let number = λ (e : c.loop-place.place + 1 ≡ old.number). w.if-bidder-number.true (e ∙ sym c.number-number.ensures.value) in
           let bidders = ap (λ t. t.bidders) c.requires.terms in
           let take = takes-next u old c.loop-place.clock.history c.loop-place.place c.requires.fresh c.loop-place.invariant.told c.loop-place.invariant.grown (omega (arith, bidders, c.loop-place-test.true)) number in

@@ -1,0 +1,108 @@
+//! The best bundles of a box.
+ghost use Rattle.std.specs.Prelude.{◌≡◌, ◌≢◌, ◌<◌, ◌≤◌, ◌+◌, ◌==◌, ◌++◌, ℕ, [], length, slice_index, filter, false, IfOk, OnOk, if◌then◌else◌};
+ghost use Rattle.std.specs.List.{concat};
+ghost use Rattle.lot_base.specs.Goods.{box_size};
+ghost use Rattle.lot_base.specs.Box.{box, index_of, bundle_at};
+ghost use Rattle.valuation.specs.Carried.{best_before};
+
+use crate::steadiness::GROUP;
+use lot_base::{Goods, NoMemory};
+use std::alloc::Global;
+
+/// The quantities of the bundles with this number, one bundle after another.
+pub(crate) fn collect(
+    alloc: Global,
+    goods: &Goods,
+    worth: &[u16],
+    best: u16,
+) -> Result<Vec<u16>, NoMemory>
+    requires { length worth.now ≡ box_size goods.now }
+    ensures { IfOk result (λ found. found.items ≡ concat
+        (filter (λ x. slice_index worth.now (index_of goods.now x) == best) (box goods.now))) }
+{
+    let mut found = Vec::new(alloc);
+    let groups = worth.len() / GROUP;
+    for group in 0..groups {
+        match collect_group(&mut found, goods, worth, best, group * GROUP) {
+            Ok(()) => {}
+            Err(NoMemory) => return Err(NoMemory),
+        }
+    }
+    match collect_within(&mut found, goods, worth, best, groups * GROUP, worth.len()) {
+        Ok(()) => Ok(found),
+        Err(NoMemory) => Err(NoMemory),
+    }
+}
+
+/// Adds the quantities of those of a group.
+fn collect_group(
+    found: &mut Vec<u16>,
+    goods: &Goods,
+    worth: &[u16],
+    best: u16,
+    first: usize,
+) -> Result<(), NoMemory>
+    requires whole { length worth.now ≡ box_size goods.now }
+    requires within { first + 32 ≤ length worth.now }
+    requires from { found.old.items ≡ best_before goods.now worth.now best first }
+    ensures { OnOk result (found.new.items ≡ best_before goods.now worth.now best (first + 32)) }
+{
+    if is_any_best(worth, best, first) {
+        collect_within(found, goods, worth, best, first, first + GROUP)
+    } else {
+        Ok(())
+    }
+}
+
+/// Whether a bundle of a group has this number.
+#[inline(always)]
+fn is_any_best(worth: &[u16], best: u16, first: usize) -> bool
+    requires { first + 32 ≤ length worth.now }
+    ensures { result ≡ false → (i : ℕ) → first ≤ i → i < first + 32 → slice_index worth.now i ≢ best }
+{
+    let mut found = false;
+    for place in first..first + GROUP {
+        found = found | (worth[place] == best);
+    }
+    found
+}
+
+/// Adds the quantities of those from the first place to the last.
+fn collect_within(
+    found: &mut Vec<u16>,
+    goods: &Goods,
+    worth: &[u16],
+    best: u16,
+    first: usize,
+    last: usize,
+) -> Result<(), NoMemory>
+    requires whole { length worth.now ≡ box_size goods.now }
+    requires order { first ≤ last }
+    requires within { last ≤ length worth.now }
+    requires from { found.old.items ≡ best_before goods.now worth.now best first }
+    ensures { OnOk result (found.new.items ≡ best_before goods.now worth.now best last) }
+{
+    let _count = goods.count();
+    for place in first..last {
+        match keep(found, goods, place as u32, worth[place] == best) {
+            Ok(()) => {}
+            Err(NoMemory) => return Err(NoMemory),
+        }
+    }
+    Ok(())
+}
+
+/// Adds the quantities of the bundle at a place, if it is one of the best.
+fn keep(found: &mut Vec<u16>, goods: &Goods, place: u32, is_best: bool) -> Result<(), NoMemory>
+    requires { place < box_size goods.now }
+    ensures { OnOk result (found.new.items ≡ found.old.items ++ (if is_best then bundle_at goods.now place else [])) }
+{
+    if is_best {
+        match found.extend_from_slice(goods.bundle(place).as_slice()) {
+            Ok(()) => Ok(()),
+            Err(_) => Err(NoMemory),
+        }
+    } else {
+        Ok(())
+    }
+}
