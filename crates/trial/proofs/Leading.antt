@@ -26,11 +26,11 @@ use Rattle.trial.proofs.Turning.{told-reports, never-full}
 use Rattle.trial.proofs.Prices.{prices-early, round-later}
 
 -- the reports of a round by some bidders, found by name
-abbrev Among : ℕ → List ℕ → Type 0
+abbrev pub Among : ℕ → List ℕ → Type 0
 Among j [] = ⊥
 Among j (k ∷ ks) = (j ≡ k) ⊎ Among j ks
 
-find-told : (terms : Terms) (u : ℕ → List ℕ → ℤ) (t : ℕ) (p js : List ℕ) (j : ℕ) → Among j js → find (is_named t j) (round_reports terms u t p js) ≡ Some (true_report terms u t p j)
+pub find-told : (terms : Terms) (u : ℕ → List ℕ → ℤ) (t : ℕ) (p js : List ℕ) (j : ℕ) → Among j js → find (is_named t j) (round_reports terms u t p js) ≡ Some (true_report terms u t p j)
 find-told terms u t p [] j among = absurd among
 find-told terms u t p (k ∷ js) j among = by (cases_eq k j) among (find-told terms u t p js j)
   where
@@ -49,7 +49,7 @@ find-told terms u t p (k ∷ js) j among = by (cases_eq k j) among (find-told te
         let e : nat_eq k j ≡ false = grind (arith, nat_tests) in
         (λ i. cond (this i && e i) (Some (true_report terms u t p k)) (find (is_named t j) rest)) ∙ later w
 
-all-among : (P : ℕ → Type 0) (js ks : List ℕ) → ((j : ℕ) → Among j ks → Among j js) → ((j : ℕ) → Among j js → P j) → AllByRecursion P ks
+pub all-among : (P : ℕ → Type 0) (js ks : List ℕ) → ((j : ℕ) → Among j ks → Among j js) → ((j : ℕ) → Among j js → P j) → AllByRecursion P ks
 all-among P js [] inside each = tt
 all-among P js (k ∷ ks) inside each = (each k (inside k (inl refl)), all-among P js ks (λ j w. inside j (inr w)) each)
 

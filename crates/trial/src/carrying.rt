@@ -37,7 +37,7 @@ pub(crate) fn followers_at(
 }
 
 /// A place for the column of each set of the goods, at the number of the set. A column is made when prices first rise on its set.
-pub(crate) fn no_columns(alloc: Global, goods: &Goods) -> Result<Vec<Option<Column>>, NoMemory>
+pub fn no_columns(alloc: Global, goods: &Goods) -> Result<Vec<Option<Column>>, NoMemory>
     ensures { IfOk result (λ columns. AreColumns goods.now columns.items) }
 {
     let mut columns = Vec::new(alloc);
@@ -48,7 +48,7 @@ pub(crate) fn no_columns(alloc: Global, goods: &Goods) -> Result<Vec<Option<Colu
 }
 
 /// The column of a set: the one that stands at its place, or else a new one.
-fn column_for(
+pub fn column_for(
     alloc: Global,
     goods: &Goods,
     set: GoodSet,
@@ -64,7 +64,7 @@ fn column_for(
 }
 
 /// Puts a column back at its place.
-fn put_back(columns: &mut Vec<Option<Column>>, set: GoodSet, column: Column)
+pub fn put_back(columns: &mut Vec<Option<Column>>, set: GoodSet, column: Column)
     requires { set.0 < length columns.old.items }
     ensures { columns.new.items ≡ slice_set columns.old.items set.0 (Some column) }
 {
@@ -132,7 +132,7 @@ fn catch_up_all(
 }
 
 /// Brings a member up to date, if it owes steps on another set.
-fn catch_up(
+pub fn catch_up(
     alloc: Global,
     goods: &Goods,
     columns: &mut Vec<Option<Column>>,

@@ -11,7 +11,7 @@ ghost use Rattle.trial.specs.Bidding.{bidders_of};
 ghost use Rattle.trial.specs.Trials.{IsTrial, IsTried, AreValuationsOf};
 ghost use Rattle.trial.specs.Refusals.{IsRefusal};
 
-mod carrying;
+pub mod carrying;
 pub mod faults;
 pub mod following;
 pub mod laws;
