@@ -103,7 +103,7 @@ ends h n full none = (by (good_at_ceiling h n), λ i. full i && (not (nat_eq (no
 halts : (h : TwoWayHistory) (n k : ℕ) → is_full_after h n ≡ true → set_after h n ≢ 0 → good_at_ceiling h n ≡ Some k → (phase_after h n ≡ Halted k) × (leads_on h n ≡ false)
 halts h n k full some good = let f = some-set (set_after h n) some in (λ i. phase_by (full i) (f i) (good i), λ i. full i && (not (f i) && is_none (good i)))
 
-take-longer : (begin : ℕ) (reports : List Report) (r : Report) → begin ≤ length reports → take begin (reports ++ r ∷ []) ≡ take begin reports
+pub take-longer : (begin : ℕ) (reports : List Report) (r : Report) → begin ≤ length reports → take begin (reports ++ r ∷ []) ≡ take begin reports
 take-longer zero reports r up = refl
 take-longer (suc n) [] r up = absurd (omega arith)
 take-longer (suc n) (x ∷ reports) r up = ap (λ xs. x ∷ xs) (take-longer n reports r (omega arith))
@@ -112,7 +112,7 @@ take-whole : (reports : List Report) → take (length reports) reports ≡ repor
 take-whole [] = refl
 take-whole (x ∷ reports) = ap (λ xs. x ∷ xs) (take-whole reports)
 
-longer : (reports : List Report) (r : Report) → length reports ≤ length (reports ++ r ∷ [])
+pub longer : (reports : List Report) (r : Report) → length reports ≤ length (reports ++ r ∷ [])
 longer [] r = omega arith
 longer (x ∷ reports) r = let l = longer reports r in omega arith
 
@@ -450,10 +450,10 @@ kept-goods h now begin s k same =
     ap length k.stands.come.prices_are ∙ w.goods ∙ ap (λ (g : TwoWayHistory). length g.terms.goods) same
 
 -- the reports of the present round alone say what all say of it
-same-demands : (begin steps : ℕ) (reports present : List Report) → AllByRecursion (λ (r : Report). r.round ≤ steps) (take begin reports) → present ≡ drop begin reports → demands_in present (steps + 1) ≡ demands_in reports (steps + 1)
+pub same-demands : (begin steps : ℕ) (reports present : List Report) → AllByRecursion (λ (r : Report). r.round ≤ steps) (take begin reports) → present ≡ drop begin reports → demands_in present (steps + 1) ≡ demands_in reports (steps + 1)
 same-demands begin steps reports present past e = λ i j. unwrap_or (demand-current begin steps j reports present past e i) []
 
-same-full : (begin steps : ℕ) (reports present : List Report) (js : List ℕ) → AllByRecursion (λ (r : Report). r.round ≤ steps) (take begin reports) → present ≡ drop begin reports → is_full js present (steps + 1) ≡ is_full js reports (steps + 1)
+pub same-full : (begin steps : ℕ) (reports present : List Report) (js : List ℕ) → AllByRecursion (λ (r : Report). r.round ≤ steps) (take begin reports) → present ≡ drop begin reports → is_full js present (steps + 1) ≡ is_full js reports (steps + 1)
 same-full begin steps reports present js past e = λ i. list_all (λ j. is_some (demand-current begin steps j reports present past e i)) js
 
 pub applied-fit : (h : TwoWayHistory) (r : Report) (begin : ℕ) (s : Standing) (present : List Report) → IsKept h begin s → judgement_of h r ≡ Take → IsDemand h.terms.goods r.demand → present ≡ drop begin (told h r).reports

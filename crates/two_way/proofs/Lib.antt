@@ -13,3 +13,7 @@ pub mod Copying
 pub mod Telling
 pub mod Bidders
 pub mod Inside
+pub mod Pasts
+pub mod Again
+pub mod Saying
+pub mod Moving

@@ -39,11 +39,11 @@ float-past terms number start u (suc n) =
     let before = float_reports terms number start u n in
     all-both (λ (r : Report). r.round ≤ suc n) before _ (all-more (λ (r : Report). r.round ≤ n) (λ (r : Report). r.round ≤ suc n) before (λ r low. omega arith) (float-past terms number start u n)) (round-past terms u (suc n) _ _)
 
-fresh-past : (u : ℕ → List ℕ → ℤ) (h : TwoWayHistory) → IsFresh u h → AllByRecursion (λ (r : Report). r.round ≤ steps_of h) h.reports
+pub fresh-past : (u : ℕ → List ℕ → ℤ) (h : TwoWayHistory) → IsFresh u h → AllByRecursion (λ (r : Report). r.round ≤ steps_of h) h.reports
 fresh-past u h fresh = let P : List Report → Type 0 = AllByRecursion (λ (r : Report). r.round ≤ steps_of h) in subst P (sym fresh) (float-past h.terms h.number h.start u (steps_of h))
 
 -- nobody after these has reported in the round
-not-yet : (u : ℕ → List ℕ → ℤ) (h : TwoWayHistory) (last b : ℕ) → IsFresh u h → last < b → demand_in (round_told_to u last h).reports (last_round h) b ≡ None
+pub not-yet : (u : ℕ → List ℕ → ℤ) (h : TwoWayHistory) (last b : ℕ) → IsFresh u h → last < b → demand_in (round_told_to u last h).reports (last_round h) b ≡ None
 not-yet u h last b fresh behind =
     let p = prices_of h in
     let js = members last h.number in

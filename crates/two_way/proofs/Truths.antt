@@ -55,7 +55,7 @@ later round j n (y ∷ ys) up all =
     let other : nat_eq y.round round ≡ false = grind (arith, nat_tests) in
     (ap (λ b. b && nat_eq y.bidder j) other, later round j n ys up all.1)
 
-behind-alike : (xs ys : List Report) (n : ℕ) → AllByRecursion (λ (r : Report). n < r.round) ys → Alike (xs ++ ys) xs n
+pub behind-alike : (xs ys : List Report) (n : ℕ) → AllByRecursion (λ (r : Report). n < r.round) ys → Alike (xs ++ ys) xs n
 behind-alike xs ys n all round j up = ap (option_map (λ (r : Report). r.demand)) (find-alone (is_named round j) xs ys (later round j n ys up all))
 
 module _ (terms : Terms) (number : ℕ) (start : List ℕ) (u : ℕ → List ℕ → ℤ) where
@@ -65,7 +65,7 @@ module _ (terms : Terms) (number : ℕ) (start : List ℕ) (u : ℕ → List ℕ
   abbrev rounds : ℕ → List Report
   rounds n = float_reports terms number start u n
 
-  block-after : (n m : ℕ) (p js : List ℕ) → n < m → AllByRecursion (λ (r : Report). n < r.round) (round_reports terms u m p js)
+  pub block-after : (n m : ℕ) (p js : List ℕ) → n < m → AllByRecursion (λ (r : Report). n < r.round) (round_reports terms u m p js)
   block-after n m p [] below = tt
   block-after n m p (j ∷ js) below = (below, block-after n m p js below)
 

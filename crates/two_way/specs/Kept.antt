@@ -1,5 +1,5 @@
 -- What a two-way clock keeps beside its reports.
-use Rattle.std.specs.Prelude.{◌≡◌, ◌≤◌, ◌<◌, ℕ, zero, suc, ◌+◌, Bool, true, false, length, take, drop, ◌-ℤ◌}
+use Rattle.std.specs.Prelude.{◌≡◌, ◌≤◌, ◌<◌, ℕ, zero, suc, ◌+◌, Bool, true, false, List, length, take, drop, ◌-ℤ◌}
 use Rattle.std.specs.List.{AllByRecursion}
 use Rattle.lot_base.specs.Demands.{IsDemand}
 use Rattle.lot_base.specs.Economy.{without}
@@ -50,3 +50,9 @@ pub record IsKept (h : TwoWayHistory) (begin : ℕ) (s : Standing) : Type 0 wher
   pub begins : begin ≤ length h.reports
   pub past : AllByRecursion (λ (r : Report). r.round ≤ s.steps) (take begin h.reports)
   pub present : AllByRecursion (λ (r : Report). r.round ≡ s.steps + 1) (drop begin h.reports)
+
+-- What is kept of the past: of which supply, and how many reports are of the rounds before the one before the last or current one.
+pub record KeepsPast (h : TwoWayHistory) (goods : List ℕ) (last begin : ℕ) (s : Standing) : Type 0 where
+  pub goods_are : goods ≡ h.terms.goods
+  pub before : last ≤ begin
+  pub earlier : AllByRecursion (λ (r : Report). r.round < s.steps) (take last h.reports)

@@ -1,5 +1,6 @@
 pub mod Falling
 pub mod Histories
+pub mod Past
 pub mod Standing
 pub mod Quantities
 pub mod Turns
@@ -9,3 +10,4 @@ pub mod Floated
 pub mod Explained
 pub mod FloatHistories
 pub mod Rows
+pub mod Bidding

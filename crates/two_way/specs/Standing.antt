@@ -89,6 +89,10 @@ last_demands h = demands_in h.reports (last_round h)
 abbrev pub judgement_of : TwoWayHistory → Report → Judgement
 judgement_of h r = judged (as_clock h) (last_round h) (phase_of h) r
 
+-- what a bidder demanded in the round before the last or current one, as its report in this one
+abbrev pub again_by : TwoWayHistory → ℕ → Report
+again_by h j = record { bidder = j; round = last_round h; demand = demands_in h.reports (steps_of h) j }
+
 -- how many of the first so many steps were up, and how many down
 unfoldable pub ups_after : TwoWayHistory → ℕ → ℕ
 ups_after h zero = 0

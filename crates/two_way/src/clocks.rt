@@ -1,8 +1,13 @@
 //! A two-way clock.
-ghost use Rattle.std.specs.Prelude.{◌≡◌, ◌≤◌, ◌<◌, ◌+◌, ◌++◌, ◌∷◌, [], ℕ, List, ℤ, pos, ◌≤ℤ◌, ◌-ℤ◌, ◌^◌, length, option_map, option_copied, IfOk, IfErr, IfSome, OnOk};
+ghost use Rattle.std.specs.Prelude.{◌≡◌, ◌≢◌, ◌≤◌, ◌<◌, ◌+◌, ◌∷◌, [], ℕ, List, ℤ, pos, ◌≤ℤ◌, ◌-ℤ◌, ◌^◌, length, drop, true, false, option_map, option_copied, IsSome, IfOk, IfErr, IfSome, OnOk, OnErr};
+ghost use Rattle.std.specs.List.{AllByRecursion};
+ghost use Rattle.lot_base.specs.Demands.{IsDemand};
+ghost use Rattle.demand_set.specs.declared.reports.Report.{Report as ReportValue};
+ghost use Rattle.clock.specs.Reports.{members, demands_in, is_full};
+ghost use Rattle.two_way.specs.Turns.{IsTurned, HasRoom};
 
+use crate::past::Past;
 use crate::standing::Standing;
-use clock::rounds::find_demand;
 use clock::{Judgement, Look, NotApplied};
 use demand_set::{Demand, Report};
 use lot_base::{NoMemory, Phase, Prices, Terms};
@@ -20,22 +25,26 @@ pub struct TwoWay {
     /// The prices at which it started.
     start: Prices,
     /// The reports that were applied.
-    reports: Vec<Report>,
+    past: Past,
     /// How many of these are of the rounds before the last or current one.
     begin: usize,
+    /// How many are of the rounds before that one.
+    last: usize,
     /// How it stands.
     standing: Standing,
 }
 
 impl Model for TwoWay {
     ghost use Rattle.two_way.specs.Histories.{TwoWayHistory};
-    ghost use Rattle.two_way.specs.Kept.{IsKept};
+    ghost use Rattle.two_way.specs.Kept.{IsKept, KeepsPast};
 
     ghost Value = { TwoWayHistory };
 
-    ghost view = { λ c. record { terms = c.terms; number = c.number; start = c.start; reports = c.reports.items } };
+    ghost view = { λ c. record { terms = c.terms; number = c.number; start = c.start; reports = c.past.reports } };
 
-    ghost invariant = { λ c. IsKept (record { terms = c.terms; number = c.number; start = c.start; reports = c.reports.items }) c.begin c.standing };
+    ghost invariant = { λ c. IsKept (record { terms = c.terms; number = c.number; start = c.start; reports = c.past.reports }) c.begin c.standing
+        × KeepsPast (record { terms = c.terms; number = c.number; start = c.start; reports = c.past.reports }) c.past.goods c.last c.begin
+        c.standing };
 }
 
 impl TwoWay {
@@ -44,6 +53,7 @@ impl TwoWay {
     ghost use Rattle.clock.specs.Reports.{demand_in};
     ghost use Rattle.clock.specs.declared.judging.Judgement.TheVariants.{Take};
     ghost use Rattle.two_way.specs.Histories.{IsStart, told};
+    ghost use Rattle.two_way.specs.Standing.{again_by};
     ghost use Rattle.two_way.specs.Standing.{judgement_of, last_round, phase_of, prices_of, steps_of, ups_after, downs_after, sum_without};
     ghost use Rattle.two_way.specs.Explained.{Explains, ShowsMinimum, lyapunov_of, lyapunov_without};
 
@@ -53,13 +63,16 @@ impl TwoWay {
         requires start { IsStart terms.now start.now }
         ensures { IfOk result (λ c. c ≡ record { terms = terms.now; number = number; start = start.now; reports = [] }) }
     {
+        let past = Past::new(alloc, &terms.goods);
+        let standing = Standing::first(terms, number, start, &past);
         Ok(TwoWay {
             terms: *terms,
             number,
             start: *start,
-            reports: Vec::new(alloc),
+            past,
             begin: 0,
-            standing: Standing::first(terms, number, start),
+            last: 0,
+            standing,
         })
     }
 
@@ -102,10 +115,9 @@ impl TwoWay {
         ensures { option_copied result ≡ demand_in self.now.reports round bidder }
     {
         if round == self.standing.steps + 1 {
-            let present = self.reports.split_at(self.begin).1;
-            find_demand(present, round, bidder)
+            self.past.demand_in(self.begin, round, bidder)
         } else {
-            find_demand(&self.reports, round, bidder)
+            self.past.demand_in(0, round, bidder)
         }
     }
 
@@ -116,15 +128,41 @@ impl TwoWay {
         ensures ok { OnOk result (self.new ≡ told self.old report) }
         ensures err { IfErr result (λ e. (e.report ≡ report) × (self.new ≡ self.old)) }
     {
-        match keep(&mut self.reports, report) {
+        match self.past.push(report) {
             Err(refused) => Err(refused),
             Ok(()) => {
-                let steps = self.standing.steps;
-                let present = self.reports.split_at(self.begin).1;
-                self.standing.advance(&self.terms, self.number, present);
-                if self.standing.steps != steps {
-                    self.begin = self.reports.len();
-                }
+                go_on(
+                    &self.terms,
+                    self.number,
+                    &self.past,
+                    &mut self.standing,
+                    &mut self.begin,
+                    &mut self.last,
+                );
+                Ok(())
+            }
+        }
+    }
+
+    /// Applies what a bidder demanded in the round before as its report in the current one, where that is judged `Take`. Where there is no
+    /// memory for it the clock is unchanged.
+    pub fn apply_again(&mut self, _alloc: Global, bidder: u8) -> Result<(), NoMemory>
+        requires take { judgement_of self.old (again_by self.old bidder) ≡ Take }
+        requires said { IsSome (demand_in self.old.reports (steps_of self.old) bidder) }
+        ensures ok { OnOk result (self.new ≡ told self.old (again_by self.old bidder)) }
+        ensures err { OnErr result (self.new ≡ self.old) }
+    {
+        match self.past.push_again(self.last, self.standing.steps, bidder) {
+            Err(NoMemory) => Err(NoMemory),
+            Ok(()) => {
+                go_on(
+                    &self.terms,
+                    self.number,
+                    &self.past,
+                    &mut self.standing,
+                    &mut self.begin,
+                    &mut self.last,
+                );
                 Ok(())
             }
         }
@@ -219,16 +257,34 @@ impl TwoWay {
     }
 }
 
-/// Puts a report behind the others. Where there is no memory for it, it comes back.
-fn keep(reports: &mut Vec<Report>, report: Report) -> Result<(), NotApplied>
-    ensures ok { OnOk result (reports.new.items ≡ reports.old.items ++ report ∷ []) }
-    ensures err { IfErr result (λ e. (e.report ≡ report) × (reports.new.items ≡ reports.old.items)) }
+/// Goes where the present round leads with a report more, and keeps the places at which it and the round before begin.
+fn go_on(
+    terms: &Terms,
+    number: u8,
+    past: &Past,
+    standing: &mut Standing,
+    begin: &mut usize,
+    last: &mut usize,
+)
+    requires goods { past.now.goods ≡ terms.now.goods }
+    requires begins { begin.old ≤ length past.now.reports }
+    requires fit { AllByRecursion (λ (r : ReportValue). IsDemand terms.now.goods r.demand) (drop begin.old past.now.reports) }
+    requires room { is_full (members terms.now.bidders number) (drop begin.old past.now.reports) (standing.old.steps + 1) ≡ true
+        → HasRoom terms.now (demands_in (drop begin.old past.now.reports) (standing.old.steps + 1)) (members terms.now.bidders number)
+        standing.old }
+    requires few { standing.old.steps ≤ 120000 }
+    ensures open { is_full (members terms.now.bidders number) (drop begin.old past.now.reports) (standing.old.steps + 1) ≡ false
+        → standing.new ≡ standing.old }
+    ensures full { is_full (members terms.now.bidders number) (drop begin.old past.now.reports) (standing.old.steps + 1) ≡ true
+        → IsTurned terms.now (demands_in (drop begin.old past.now.reports) (standing.old.steps + 1)) (members terms.now.bidders number)
+        standing.old standing.new }
+    ensures stays { standing.new.steps ≡ standing.old.steps → (begin.new ≡ begin.old) × (last.new ≡ last.old) }
+    ensures goes { standing.new.steps ≢ standing.old.steps → (begin.new ≡ length past.now.reports) × (last.new ≡ begin.old) }
 {
-    match reports.reserve(1) {
-        Ok(()) => {
-            let _in_room = reports.push(report);
-            Ok(())
-        }
-        Err(_) => Err(NotApplied { report }),
+    let steps = standing.steps;
+    standing.advance(terms, number, past, *begin);
+    if standing.steps != steps {
+        *last = *begin;
+        *begin = past.len();
     }
 }

@@ -1,5 +1,5 @@
 //! Two-way clocks of an auction whose bidders report what they demand by their valuations, from any start prices.
-ghost use Rattle.std.specs.Prelude.{◌≡◌, ◌≤◌, length, Some, IfOk, IfErr, OnOk};
+ghost use Rattle.std.specs.Prelude.{◌≡◌, ◌≤◌, length, true, Some, IfOk, IfErr, OnOk};
 ghost use Rattle.std.specs.List.{AllZip};
 ghost use Rattle.lot_base.specs.Economy.{AllStrongSubstitutes};
 ghost use Rattle.clock.specs.Reports.{all_bidders};
@@ -8,9 +8,13 @@ ghost use Rattle.trial.specs.Bidding.{bidders_of};
 ghost use Rattle.trial.specs.Trials.{AreValuationsOf};
 ghost use Rattle.two_way.specs.Histories.{IsStart};
 ghost use Rattle.two_way.specs.Floated.{AreEnded, AreFloatedBy, choice_of};
+ghost use Rattle.trial.specs.Rounds.{AreColumns};
+ghost use Rattle.two_way.specs.Standing.{prices_of};
+ghost use Rattle.two_way.specs.Bidding.{AreBidders, HaveSaid};
 ghost use Rattle.two_way.specs.FloatHistories.{AreWhole, IsFloat, IsFloatOf, IsFresh, IsRefusal, HasTurned, is_running, round_told};
 
 use crate::awarding::award_rows;
+use crate::bidding::{Bidder, bidders_at, follow};
 use crate::choosing::choice_of;
 use crate::clocks::TwoWay;
 use award_assembly::Choice;
@@ -20,7 +24,8 @@ use lot_base::limits::MOST_STEPS;
 use lot_base::{Bundle, NoMemory, Phase, Prices, Sequence, Terms};
 use settlement::AwardRow;
 use std::alloc::Global;
-use valuation::Valuation;
+use trial::carrying::no_columns;
+use valuation::{Column, Valuation};
 
 /// More rounds than a two-way clock has.
 const MORE_ROUNDS: u32 = 2 * MOST_STEPS + 2;
@@ -205,9 +210,10 @@ fn run_clocks(
     requires start { IsStart terms.now start.now }
     ensures { IfOk result (λ clocks. AreWhole terms.now (bidders_of terms.now.goods valuations.now) start.now clocks.items) }
 {
+    let mut columns = no_columns(alloc, &terms.goods)?;
     let mut clocks = Vec::new(alloc);
     for number in 0..terms.bidders + 1 {
-        match run_clock(alloc, terms, valuations, number, start) {
+        match run_clock(alloc, terms, valuations, &mut columns, number, start) {
             Ok(clock) => clocks.push(clock)?,
             Err(NoMemory) => return Err(NoMemory),
         }
@@ -220,22 +226,26 @@ fn run_clock(
     alloc: Global,
     terms: &Terms,
     valuations: &[Valuation],
+    columns: &mut Vec<Option<Column>>,
     number: u8,
     start: &Prices,
 ) -> Result<TwoWay, NoMemory>
     requires valuations { AreValuationsOf terms.now valuations.now }
     requires substitutes { AllStrongSubstitutes terms.now.goods (bidders_of terms.now.goods valuations.now)
         (all_bidders terms.now.bidders) }
+    requires columns { AreColumns terms.now.goods columns.old.items }
     requires start { IsStart terms.now start.now }
     requires number { number ≤ terms.now.bidders }
-    ensures { IfOk result (IsFloatOf terms.now (bidders_of terms.now.goods valuations.now) start.now number) }
+    ensures clock { IfOk result (IsFloatOf terms.now (bidders_of terms.now.goods valuations.now) start.now number) }
+    ensures columns { AreColumns terms.now.goods columns.new.items }
 {
     let mut clock = TwoWay::new(alloc, terms, number, start)?;
+    let mut bidders = bidders_at(alloc, terms, valuations, &clock.look().prices)?;
     for turn in 0..MORE_ROUNDS {
         if !is_running(&clock) {
             return Ok(clock);
         }
-        match tell_round(alloc, &mut clock, terms, valuations) {
+        match run_round(alloc, &mut clock, terms, valuations, columns, &mut bidders) {
             Ok(()) => {}
             Err(NoMemory) => return Err(NoMemory),
         }
@@ -253,38 +263,83 @@ fn is_running(clock: &TwoWay) -> bool
     }
 }
 
+/// Tells the clock what each of its members demands in the present round, and has the bidders follow its prices.
+fn run_round(
+    alloc: Global,
+    clock: &mut TwoWay,
+    terms: &Terms,
+    valuations: &[Valuation],
+    columns: &mut Vec<Option<Column>>,
+    bidders: &mut Vec<Bidder>,
+) -> Result<(), NoMemory>
+    requires terms { clock.old.terms ≡ terms.now }
+    requires count { length valuations.now ≡ terms.now.bidders }
+    requires columns { AreColumns terms.now.goods columns.old.items }
+    requires start { IsStart clock.old.terms clock.old.start }
+    requires fresh { IsFresh (bidders_of terms.now.goods valuations.now) clock.old }
+    requires bidders { AreBidders terms.now (bidders_of terms.now.goods valuations.now) (prices_of clock.old) bidders.old.items }
+    requires said { HaveSaid (bidders_of terms.now.goods valuations.now) clock.old bidders.old.items }
+    ensures told { OnOk result (clock.new ≡ round_told (bidders_of terms.now.goods valuations.now) clock.old) }
+    ensures turned { OnOk result (HasTurned clock.old clock.new) }
+    ensures bidders { OnOk result (AreBidders terms.now (bidders_of terms.now.goods valuations.now) (prices_of clock.new)
+        bidders.new.items) }
+    ensures said { OnOk result (is_running clock.new ≡ true
+        → HaveSaid (bidders_of terms.now.goods valuations.now) clock.new bidders.new.items) }
+    ensures columns { AreColumns terms.now.goods columns.new.items }
+{
+    let before = clock.look().prices;
+    match tell_round(alloc, clock, terms, valuations, bidders) {
+        Ok(()) => {}
+        Err(NoMemory) => return Err(NoMemory),
+    }
+    let after = clock.look().prices;
+    match follow(alloc, terms, valuations, columns, bidders, &before, &after) {
+        Ok(()) => Ok(()),
+        Err(NoMemory) => Err(NoMemory),
+    }
+}
+
 /// Tells the clock what each of its members demands at the prices of the present round, the smallest member first.
 fn tell_round(
     alloc: Global,
     clock: &mut TwoWay,
     terms: &Terms,
     valuations: &[Valuation],
+    bidders: &[Bidder],
 ) -> Result<(), NoMemory>
     requires terms { clock.old.terms ≡ terms.now }
-    requires count { length valuations.now ≡ terms.now.bidders }
     requires start { IsStart clock.old.terms clock.old.start }
     requires fresh { IsFresh (bidders_of terms.now.goods valuations.now) clock.old }
+    requires bidders { AreBidders terms.now (bidders_of terms.now.goods valuations.now) (prices_of clock.old) bidders.now }
+    requires said { HaveSaid (bidders_of terms.now.goods valuations.now) clock.old bidders.now }
     ensures told { OnOk result (clock.new ≡ round_told (bidders_of terms.now.goods valuations.now) clock.old) }
     ensures turned { OnOk result (HasTurned clock.old clock.new) }
 {
     let number = clock.number();
-    let look = clock.look();
+    let round = clock.look().round;
     for place in 0..terms.bidders {
         let bidder = place + 1;
         if bidder != number {
-            let valuation = &valuations[place as usize];
-            let demand = match valuation.demand(alloc, &terms.goods, &look.prices) {
-                Ok(demand) => demand,
-                Err(NoMemory) => return Err(NoMemory),
-            };
-            let report = Report {
-                bidder,
-                round: look.round,
-                demand,
-            };
-            match clock.apply(alloc, report) {
-                Ok(()) => {}
-                Err(_) => return Err(NoMemory),
+            let from = &bidders[place as usize];
+            if from.stays {
+                match clock.apply_again(alloc, bidder) {
+                    Ok(()) => {}
+                    Err(NoMemory) => return Err(NoMemory),
+                }
+            } else {
+                let demand = match from.follower.demand(alloc) {
+                    Ok(demand) => demand,
+                    Err(NoMemory) => return Err(NoMemory),
+                };
+                let report = Report {
+                    bidder,
+                    round,
+                    demand,
+                };
+                match clock.apply(alloc, report) {
+                    Ok(()) => {}
+                    Err(_) => return Err(NoMemory),
+                }
             }
         }
     }

@@ -2,10 +2,12 @@
 #![tactic(auto)]
 
 mod awarding;
+mod bidding;
 mod choosing;
 pub mod clocks;
 pub mod floating;
 pub mod laws;
+mod past;
 mod quantities;
 mod standing;
 mod starting;

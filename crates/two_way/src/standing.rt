@@ -1,18 +1,17 @@
 //! How a two-way clock stands, and where its rounds lead.
-ghost use Rattle.std.specs.Prelude.{◌≡◌, ◌≢◌, ◌<◌, ◌≤◌, ◌^◌, ◌+◌, ◌⊎◌, ℕ, true, false, None, [], length};
+ghost use Rattle.std.specs.Prelude.{◌≡◌, ◌≢◌, ◌<◌, ◌≤◌, ◌^◌, ◌+◌, ◌⊎◌, ℕ, true, false, None, [], length, drop, find, is_none};
 ghost use Rattle.std.specs.List.{AllByRecursion};
 ghost use Rattle.lot_base.specs.declared.limits.TheConstants.{MOST_STEPS};
 ghost use Rattle.lot_base.specs.Goods.{AllBelow};
 ghost use Rattle.lot_base.specs.Demands.{IsDemand};
 ghost use Rattle.lot_base.specs.declared.phases.Phase.TheVariants.{Running};
 ghost use Rattle.demand_set.specs.declared.reports.Report.{Report as ReportValue};
-ghost use Rattle.clock.specs.Reports.{members, demands_in, is_full};
+ghost use Rattle.clock.specs.Reports.{members, demand_in, demands_in, is_full};
 ghost use Rattle.clock.specs.Standing.{good_from};
 
+use crate::past::Past;
 use crate::quantities::{Amount, Quantities, demanded};
-use clock::rounds::missing_in;
 use credit_book::Account;
-use demand_set::Report;
 use lot_base::limits::MOST_STEPS;
 use lot_base::{GoodSet, Phase, Prices, Terms};
 use overshoot::most_short;
@@ -45,10 +44,12 @@ impl Standing {
 
     /// How a clock stands that has no reports. Where it has a member it waits for the first one. A clock without members goes on by itself,
     /// since each of its rounds is full, and comes down to the opening.
-    pub(crate) fn first(terms: &Terms, clock: u8, start: &Prices) -> Standing
+    pub(crate) fn first(terms: &Terms, clock: u8, start: &Prices, reports: &Past) -> Standing
         requires number { clock ≤ terms.now.bidders }
         requires start { IsStart terms.now start.now }
-        ensures { StandsAt (record { terms = terms.now; number = clock; start = start.now; reports = [] }) result }
+        requires goods { reports.now.goods ≡ terms.now.goods }
+        requires none { reports.now.reports ≡ [] }
+        ensures { StandsAt (record { terms = terms.now; number = clock; start = start.now; reports = reports.now.reports }) result }
     {
         let mut standing = Standing {
             steps: 0,
@@ -59,7 +60,7 @@ impl Standing {
             down: Account::new(),
         };
         for made in 0..2 * MOST_STEPS + 1 {
-            standing.advance(terms, clock, &[]);
+            standing.advance(terms, clock, reports, 0);
             if standing.steps == made {
                 return standing;
             }
@@ -68,29 +69,33 @@ impl Standing {
     }
 
     /// Goes where the present round leads, with these reports in it: nowhere while some member has none.
-    pub(crate) fn advance(&mut self, terms: &Terms, clock: u8, reports: &[Report])
-        requires fit { AllByRecursion (λ (r : ReportValue). IsDemand terms.now.goods r.demand) reports.now }
-        requires room { is_full (members terms.now.bidders clock) reports.now (self.old.steps + 1) ≡ true
-            → HasRoom terms.now (demands_in reports.now (self.old.steps + 1)) (members terms.now.bidders clock) self.old }
+    pub(crate) fn advance(&mut self, terms: &Terms, clock: u8, reports: &Past, from: usize)
+        requires goods { reports.now.goods ≡ terms.now.goods }
+        requires from { from ≤ length reports.now.reports }
+        requires fit { AllByRecursion (λ (r : ReportValue). IsDemand terms.now.goods r.demand) (drop from reports.now.reports) }
+        requires room { is_full (members terms.now.bidders clock) (drop from reports.now.reports) (self.old.steps + 1) ≡ true
+            → HasRoom terms.now (demands_in (drop from reports.now.reports) (self.old.steps + 1)) (members terms.now.bidders clock) self.old }
         requires few { self.old.steps ≤ 120000 }
-        ensures open { is_full (members terms.now.bidders clock) reports.now (self.old.steps + 1) ≡ false → self.new ≡ self.old }
-        ensures full { is_full (members terms.now.bidders clock) reports.now (self.old.steps + 1) ≡ true
-            → IsTurned terms.now (demands_in reports.now (self.old.steps + 1)) (members terms.now.bidders clock) self.old self.new }
+        ensures open { is_full (members terms.now.bidders clock) (drop from reports.now.reports) (self.old.steps + 1) ≡ false → self.new ≡ self.old }
+        ensures full { is_full (members terms.now.bidders clock) (drop from reports.now.reports) (self.old.steps + 1) ≡ true
+            → IsTurned terms.now (demands_in (drop from reports.now.reports) (self.old.steps + 1)) (members terms.now.bidders clock) self.old self.new }
     {
-        if missing_in(terms.bidders, clock, reports, self.steps + 1).is_some() {
+        if missing_in(terms.bidders, clock, reports, from, self.steps + 1).is_some() {
             return;
         }
-        self.turn(terms, clock, reports);
+        self.turn(terms, clock, reports, from);
     }
 
     /// Goes where a full round leads: up, where the direction is up and a set of goods is in excess demand; else down.
-    fn turn(&mut self, terms: &Terms, clock: u8, reports: &[Report])
-        requires fit { AllByRecursion (λ (r : ReportValue). IsDemand terms.now.goods r.demand) reports.now }
-        requires room { HasRoom terms.now (demands_in reports.now (self.old.steps + 1)) (members terms.now.bidders clock) self.old }
-        ensures { IsTurned terms.now (demands_in reports.now (self.old.steps + 1)) (members terms.now.bidders clock) self.old self.new }
+    fn turn(&mut self, terms: &Terms, clock: u8, reports: &Past, from: usize)
+        requires goods { reports.now.goods ≡ terms.now.goods }
+        requires from { from ≤ length reports.now.reports }
+        requires fit { AllByRecursion (λ (r : ReportValue). IsDemand terms.now.goods r.demand) (drop from reports.now.reports) }
+        requires room { HasRoom terms.now (demands_in (drop from reports.now.reports) (self.old.steps + 1)) (members terms.now.bidders clock) self.old }
+        ensures { IsTurned terms.now (demands_in (drop from reports.now.reports) (self.old.steps + 1)) (members terms.now.bidders clock) self.old self.new }
     {
         if self.was_down {
-            self.turn_down(terms, clock, reports);
+            self.turn_down(terms, clock, reports, from);
             return;
         }
         let least = demanded(
@@ -98,14 +103,15 @@ impl Standing {
             terms.bidders,
             clock,
             reports,
+            from,
             self.steps + 1,
             Amount::Least,
         );
         let set = choose(&terms.goods, &least.excess);
         if set.0 == 0 {
-            self.turn_down(terms, clock, reports);
+            self.turn_down(terms, clock, reports, from);
         } else {
-            self.turn_up(terms, clock, reports, set, &least);
+            self.turn_up(terms, clock, reports, from, set, &least);
         }
     }
 
@@ -114,18 +120,19 @@ impl Standing {
         &mut self,
         terms: &Terms,
         clock: u8,
-        reports: &[Report],
+        reports: &Past,
+        from: usize,
         set: GoodSet,
         least: &Quantities,
     )
-        requires room { HasRoom terms.now (demands_in reports.now (self.old.steps + 1)) (members terms.now.bidders clock) self.old }
+        requires room { HasRoom terms.now (demands_in (drop from reports.now.reports) (self.old.steps + 1)) (members terms.now.bidders clock) self.old }
         requires up { self.old.was_down ≡ false }
-        requires set { set.0 ≡ set_up terms.now (demands_in reports.now (self.old.steps + 1)) (members terms.now.bidders clock) }
+        requires set { set.0 ≡ set_up terms.now (demands_in (drop from reports.now.reports) (self.old.steps + 1)) (members terms.now.bidders clock) }
         requires some { set.0 ≢ 0 }
-        requires least { AddUp terms.now.goods (λ j. amount_in Least (demands_in reports.now (self.old.steps + 1) j)) terms.now.bidders
+        requires least { AddUp terms.now.goods (λ j. amount_in Least (demands_in (drop from reports.now.reports) (self.old.steps + 1) j)) terms.now.bidders
             clock least.now }
-        ensures { Rises terms.now (demands_in reports.now (self.old.steps + 1)) (members terms.now.bidders clock) self.old self.new
-            ⊎ Halts terms.now (demands_in reports.now (self.old.steps + 1)) (members terms.now.bidders clock) self.old self.new }
+        ensures { Rises terms.now (demands_in (drop from reports.now.reports) (self.old.steps + 1)) (members terms.now.bidders clock) self.old self.new
+            ⊎ Halts terms.now (demands_in (drop from reports.now.reports) (self.old.steps + 1)) (members terms.now.bidders clock) self.old self.new }
     {
         match first_at(&self.prices, terms.ceiling, set) {
             Some(good) => self.phase = Phase::Halted(good),
@@ -138,18 +145,21 @@ impl Standing {
     }
 
     /// Goes where a full round leads whose direction is down.
-    fn turn_down(&mut self, terms: &Terms, clock: u8, reports: &[Report])
-        requires fit { AllByRecursion (λ (r : ReportValue). IsDemand terms.now.goods r.demand) reports.now }
-        requires room { HasRoom terms.now (demands_in reports.now (self.old.steps + 1)) (members terms.now.bidders clock) self.old }
-        requires down { GoesDown terms.now (demands_in reports.now (self.old.steps + 1)) (members terms.now.bidders clock) self.old }
-        ensures { Falls terms.now (demands_in reports.now (self.old.steps + 1)) (members terms.now.bidders clock) self.old self.new
-            ⊎ Ends terms.now (demands_in reports.now (self.old.steps + 1)) (members terms.now.bidders clock) self.old self.new }
+    fn turn_down(&mut self, terms: &Terms, clock: u8, reports: &Past, from: usize)
+        requires goods { reports.now.goods ≡ terms.now.goods }
+        requires from { from ≤ length reports.now.reports }
+        requires fit { AllByRecursion (λ (r : ReportValue). IsDemand terms.now.goods r.demand) (drop from reports.now.reports) }
+        requires room { HasRoom terms.now (demands_in (drop from reports.now.reports) (self.old.steps + 1)) (members terms.now.bidders clock) self.old }
+        requires down { GoesDown terms.now (demands_in (drop from reports.now.reports) (self.old.steps + 1)) (members terms.now.bidders clock) self.old }
+        ensures { Falls terms.now (demands_in (drop from reports.now.reports) (self.old.steps + 1)) (members terms.now.bidders clock) self.old self.new
+            ⊎ Ends terms.now (demands_in (drop from reports.now.reports) (self.old.steps + 1)) (members terms.now.bidders clock) self.old self.new }
     {
         let greatest = demanded(
             &terms.goods,
             terms.bidders,
             clock,
             reports,
+            from,
             self.steps + 1,
             Amount::Greatest,
         );
@@ -162,6 +172,32 @@ impl Standing {
         self.prices = self.prices.lower(set);
         self.was_down = true;
         self.steps += 1;
+    }
+}
+
+/// The first member of a clock without a report in a round among those from a place on.
+fn missing_in(bidders: u8, clock: u8, reports: &Past, from: usize, round: u32) -> Option<u8>
+    requires few { bidders ≤ 12 }
+    requires from { from ≤ length reports.now.reports }
+    ensures { result ≡ find (λ j. is_none (demand_in (drop from reports.now.reports) round j)) (members bidders clock) }
+{
+    for step in 0..bidders {
+        let bidder = step + 1;
+        if bidder != clock && is_absent(reports, from, round, bidder) {
+            return Some(bidder);
+        }
+    }
+    None
+}
+
+/// Whether a bidder has no report in a round among those from a place on.
+fn is_absent(reports: &Past, from: usize, round: u32, bidder: u8) -> bool
+    requires { from ≤ length reports.now.reports }
+    ensures { result ≡ is_none (demand_in (drop from reports.now.reports) round bidder) }
+{
+    match reports.demand_in(from, round, bidder) {
+        Some(_) => false,
+        None => true,
     }
 }
 

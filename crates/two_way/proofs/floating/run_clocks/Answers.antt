@@ -6,10 +6,13 @@ use Rattle.two_way.proofs.floating.run_clocks.Goals as goal
 pub loop-number-preserved : goal.loop-number-preserved
 loop-number-preserved c =
     let terms = c.args.terms.now in
-    order-next terms (bidders_of terms.goods c.args.valuations.now) c.args.start.now c.loop-number.number c.loop-number.clocks.items c.push.new.self.items c.in-Ok.clock c.loop-number.invariant c.in-Ok.ensures c.in_ok-push-in-Ok.ensures.items
+    record {
+      order = order-next terms (bidders_of terms.goods c.args.valuations.now) c.args.start.now c.loop-number.number c.loop-number.clocks.items c.push.new.self.items c.in-Ok.clock c.loop-number.invariant.order c.in-Ok.ensures.clock c.in_ok-push-in-Ok.ensures.items;
+      columns = c.run_clock.ensures.columns;
+    }
 
 pub returns : goal.returns
 returns c =
     let terms = c.args.terms.now in
     let all : c.loop-number.number ≡ terms.bidders + 1 = omega (arith, c.loop-number-test.false, c.loop-number.auto.number-end) in
-    in-order terms (bidders_of terms.goods c.args.valuations.now) c.args.start.now c.loop-number.number c.loop-number.clocks.items c.loop-number.invariant all
+    in-order terms (bidders_of terms.goods c.args.valuations.now) c.args.start.now c.loop-number.number c.loop-number.clocks.items c.loop-number.invariant.order all

@@ -1,13 +1,39 @@
-use Rattle.std.proofs.Common.{◌≡◌, ◌<◌, ◌∙◌, length, sym, ap, arith}
+use Rattle.std.proofs.Common.{◌≡◌, ◌≢◌, ◌<◌, ◌+◌, ◌∙◌, length, sym, ap, arith}
 use Rattle.lot_base.specs.declared.auction_terms.Terms.{Terms}
-use Rattle.valuation.specs.Values.{valuation_of}
 use Rattle.trial.specs.Bidding.{bidders_of}
 use Rattle.two_way.specs.Histories.{told}
-use Rattle.two_way.specs.Standing.{steps_of, judgement_of}
+use Rattle.two_way.specs.Standing.{steps_of, prices_of, judgement_of}
 use Rattle.two_way.specs.FloatHistories.{round_told_to}
-use Rattle.two_way.proofs.Telling.{value-here, report-here, report-fits, takes-next, told-with, told-without, grows-on, turned-told}
+use Rattle.two_way.proofs.Telling.{takes-next, told-with, told-without, grows-on, turned-told}
+use Rattle.two_way.proofs.Saying.{says-true, bidder-here, said-here, report-now, fits-now}
 use Rattle.two_way.proofs.floating.tell_round.Goals as goal
-use Rattle.two_way.proofs.floating.tell_round.Goals.{then-bidder-number+in-Ok+in-Ok-apply, else-bidder-number}
+use Rattle.two_way.proofs.floating.tell_round.Goals.{then-bidder-number+then-from+in-Ok, then-bidder-number+else-from+in-Ok-demand+in-Ok-apply, else-bidder-number}
+
+pub apply_again-requires-clause-take : goal.apply_again-requires-clause-take
+apply_again-requires-clause-take c =
+    let h = c.args.clock.now in
+    let terms = c.args.terms.now in
+    let u = bidders_of terms.goods c.args.valuations.now in
+    let place = c.loop-place.place in
+    let bidders = ap (λ (t : Terms). t.bidders) c.requires.terms in
+    let few : place < length c.args.bidders.now = (let k = c.requires.bidders.count in omega (arith, c.loop-place-test.true, k)) in
+    let other : place + 1 ≢ h.number = λ e. c.if-bidder-number.true (e ∙ sym c.number-number.ensures) in
+    let said = said-here u h c.args.bidders.now c.index-bidders-place.result place c.requires.said few other c.index-bidders-place.is c.if-from.true in
+    let says = says-true u h c.loop-place.clock place c.requires.fresh c.loop-place.invariant.told c.loop-place.invariant.grown (omega (arith, bidders, c.loop-place-test.true)) other said in
+    ap (judgement_of c.loop-place.clock) says.0
+    ∙ takes-next u h c.loop-place.clock place c.requires.fresh c.loop-place.invariant.told c.loop-place.invariant.grown (omega (arith, bidders, c.loop-place-test.true)) other
+
+pub apply_again-requires-clause-said : goal.apply_again-requires-clause-said
+apply_again-requires-clause-said c =
+    let h = c.args.clock.now in
+    let terms = c.args.terms.now in
+    let u = bidders_of terms.goods c.args.valuations.now in
+    let place = c.loop-place.place in
+    let bidders = ap (λ (t : Terms). t.bidders) c.requires.terms in
+    let few : place < length c.args.bidders.now = (let k = c.requires.bidders.count in omega (arith, c.loop-place-test.true, k)) in
+    let other : place + 1 ≢ h.number = λ e. c.if-bidder-number.true (e ∙ sym c.number-number.ensures) in
+    let said = said-here u h c.args.bidders.now c.index-bidders-place.result place c.requires.said few other c.index-bidders-place.is c.if-from.true in
+    (says-true u h c.loop-place.clock place c.requires.fresh c.loop-place.invariant.told c.loop-place.invariant.grown (omega (arith, bidders, c.loop-place-test.true)) other said).1
 
 pub apply-requires-clause-take : goal.apply-requires-clause-take
 apply-requires-clause-take c =
@@ -16,16 +42,19 @@ apply-requires-clause-take c =
     let u = bidders_of terms.goods c.args.valuations.now in
     let place = c.loop-place.place in
     let bidders = ap (λ (t : Terms). t.bidders) c.requires.terms in
-    let within : place < length c.args.valuations.now = omega (arith, c.loop-place-test.true, c.requires.count) in
-    let value = value-here terms.goods c.args.valuations.now c.index-valuations-place.result place within c.index-valuations-place.is in
-    let same = report-here terms h u place c.look-look.result.round c.look-look.result.prices (valuation_of terms.goods c.index-valuations-place.result) c.in-Ok.demand c.requires.terms c.look-look.ensures.round c.look-look.ensures.prices value c.in-Ok.ensures in
+    let here = bidder-here terms u (prices_of h) c.args.bidders.now c.index-bidders-place.result place c.requires.bidders c.loop-place-test.true c.index-bidders-place.is in
+    let same = report-now terms h u place c.look-round.result.round c.index-bidders-place.result c.in-Ok-demand.demand c.requires.terms here c.look-round.ensures.round (c.in-Ok-demand.ensures (u (place + 1)) (prices_of h) here.follows) in
     ap (judgement_of c.loop-place.clock) same
     ∙ takes-next u h c.loop-place.clock place c.requires.fresh c.loop-place.invariant.told c.loop-place.invariant.grown (omega (arith, bidders, c.loop-place-test.true)) (λ e. c.if-bidder-number.true (e ∙ sym c.number-number.ensures))
 
 pub apply-requires-clause-fits : goal.apply-requires-clause-fits
 apply-requires-clause-fits c =
+    let h = c.args.clock.now in
     let terms = c.args.terms.now in
-    report-fits terms c.args.clock.now c.loop-place.clock (valuation_of terms.goods c.index-valuations-place.result) c.look-look.result.prices c.in-Ok.demand (bidders_of terms.goods c.args.valuations.now) c.loop-place.place c.requires.terms c.loop-place.invariant.told c.in-Ok.ensures
+    let u = bidders_of terms.goods c.args.valuations.now in
+    let place = c.loop-place.place in
+    let here = bidder-here terms u (prices_of h) c.args.bidders.now c.index-bidders-place.result place c.requires.bidders c.loop-place-test.true c.index-bidders-place.is in
+    fits-now terms h c.loop-place.clock u place place c.index-bidders-place.result c.in-Ok-demand.demand c.requires.terms c.loop-place.invariant.told here (c.in-Ok-demand.ensures (u (place + 1)) (prices_of h) here.follows)
 
 pub loop-place-preserved : goal.loop-place-preserved
 loop-place-preserved c =
@@ -33,11 +62,21 @@ loop-place-preserved c =
     let terms = c.args.terms.now in
     let u = bidders_of terms.goods c.args.valuations.now in
     let place = c.loop-place.place in
-    let within : place < length c.args.valuations.now = omega (arith, c.loop-place-test.true, c.requires.count) in
+    let bidders = ap (λ (t : Terms). t.bidders) c.requires.terms in
+    let few : place < length c.args.bidders.now = (let k = c.requires.bidders.count in omega (arith, c.loop-place-test.true, k)) in
     elim c.if-bidder-number.branch [
-      | then-bidder-number+in-Ok+in-Ok-apply w ↦
-          let value = value-here terms.goods c.args.valuations.now w.index-valuations-place.result place within w.index-valuations-place.is in
-          let same = report-here terms h u place c.look-look.result.round c.look-look.result.prices (valuation_of terms.goods w.index-valuations-place.result) w.in-Ok.demand c.requires.terms c.look-look.ensures.round c.look-look.ensures.prices value w.in-Ok.ensures in
+      | then-bidder-number+then-from+in-Ok w ↦
+          let other : place + 1 ≢ h.number = λ e. w.if-bidder-number.true (e ∙ sym c.number-number.ensures) in
+          let said = said-here u h c.args.bidders.now w.index-bidders-place.result place c.requires.said few other w.index-bidders-place.is w.if-from.true in
+          let says = says-true u h c.loop-place.clock place c.requires.fresh c.loop-place.invariant.told c.loop-place.invariant.grown (omega (arith, bidders, c.loop-place-test.true)) other said in
+          let next = w.clock-is ∙ w.in-Ok.ensures.ok ∙ ap (told c.loop-place.clock) says.0 in
+          record {
+            told = next ∙ told-with u h c.loop-place.clock place c.loop-place.invariant.told other;
+            grown = grows-on h c.loop-place.clock c.if-bidder-number.clock u place _ c.requires.start c.loop-place.invariant.told next c.loop-place.invariant.grown;
+          }
+      | then-bidder-number+else-from+in-Ok-demand+in-Ok-apply w ↦
+          let here = bidder-here terms u (prices_of h) c.args.bidders.now w.index-bidders-place.result place c.requires.bidders c.loop-place-test.true w.index-bidders-place.is in
+          let same = report-now terms h u place c.look-round.result.round w.index-bidders-place.result w.in-Ok-demand.demand c.requires.terms here c.look-round.ensures.round (w.in-Ok-demand.ensures (u (place + 1)) (prices_of h) here.follows) in
           let next = w.clock-is ∙ w.in-Ok-apply.ensures.ok ∙ ap (told c.loop-place.clock) same in
           record {
             told = next ∙ told-with u h c.loop-place.clock place c.loop-place.invariant.told (λ e. w.if-bidder-number.true (e ∙ sym c.number-number.ensures));

@@ -1,4 +1,4 @@
-use Rattle.std.proofs.Common.{◌≡◌, ◌<◌, ◌+◌, ℕ, List, Option, length, sym, subst, arith}
+use Rattle.std.proofs.Common.{drop, ◌≡◌, ◌<◌, ◌+◌, ℕ, List, Option, length, sym, subst, arith}
 use Rattle.lot_base.specs.declared.tables.Excess.{Excess}
 use Rattle.lot_base.specs.declared.tables.LeastTable.{LeastTable}
 use Rattle.clock.specs.Reports.{demands_in}
@@ -12,7 +12,7 @@ loop-step-preserved c =
     let goods = c.args.goods.now in
     let clock = c.args.clock in
     let bidders = c.args.bidders in
-    let amounts : ℕ → ℕ → ℕ = λ j set. amount_in c.args.amount (demands_in c.args.reports.now c.args.round j) set in
+    let amounts : ℕ → ℕ → ℕ = λ j set. amount_in c.args.amount (demands_in (drop c.args.from c.args.reports.now.reports) c.args.round j) set in
     let step = c.loop-step.step in
     let A : Excess → Type 0 = λ e. IsAddedTo goods amounts bidders clock (step + 1) e.0 in
     let T : List (Option LeastTable) → Type 0 = AreTables goods amounts (step + 1) clock in

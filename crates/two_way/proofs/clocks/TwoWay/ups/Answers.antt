@@ -7,11 +7,11 @@ use Rattle.two_way.proofs.Truthful.{from-start, few-steps}
 use Rattle.two_way.proofs.clocks.TwoWay.ups.Goals as goal
 
 pub returns-clause-value : goal.returns-clause-value
-returns-clause-value c = c.steps.ensures ∙ kept-ups _ c.args.self.now c.self.inside.begin c.self.inside.standing c.self.invariant c.self.view_is
+returns-clause-value c = c.steps.ensures ∙ kept-ups _ c.args.self.now c.self.inside.begin c.self.inside.standing c.self.invariant.0 c.self.view_is
 
 pub returns-clause-bound : goal.returns-clause-bound
 returns-clause-bound c = λ u explains.
     let h = c.args.self.now in
     let P : ℕ → Type 0 = λ n. pos (n + downs_after h (steps_of h)) ≤ℤ lyapunov_of u h h.start in
-    let value = c.steps.ensures ∙ kept-ups _ h c.self.inside.begin c.self.inside.standing c.self.invariant c.self.view_is in
-    subst P (sym value) (few-steps u h (from-start u h (kept-start _ h c.self.inside.begin c.self.inside.standing c.self.invariant c.self.view_is) explains))
+    let value = c.steps.ensures ∙ kept-ups _ h c.self.inside.begin c.self.inside.standing c.self.invariant.0 c.self.view_is in
+    subst P (sym value) (few-steps u h (from-start u h (kept-start _ h c.self.inside.begin c.self.inside.standing c.self.invariant.0 c.self.view_is) explains))

@@ -1,4 +1,4 @@
-use Rattle.std.proofs.Common.{◌<◌, ◌^◌, ◌+◌, ℕ, length, inl, refl, sym, ◌∙◌, ap, subst}
+use Rattle.std.proofs.Common.{drop, ◌<◌, ◌^◌, ◌+◌, ℕ, length, inl, refl, sym, ◌∙◌, ap, subst}
 use Rattle.clock.specs.Standing.{good_from}
 use Rattle.lot_base.specs.Goods.{raised}
 use Rattle.clock.specs.Reports.{members, demands_in}
@@ -10,7 +10,7 @@ pub add-requires-clause-set : goal.add-requires-clause-set
 add-requires-clause-set c =
     let t = c.args.terms.now in
     let S : ℕ → Type 0 = λ set. set < 2 ^ length t.goods in
-    subst S (sym c.requires.set) (step-below t.goods (members t.bidders c.args.clock) (demands_in c.args.reports.now (c.args.self.now.steps + 1)))
+    subst S (sym c.requires.set) (step-below t.goods (members t.bidders c.args.clock) (demands_in (drop c.args.from c.args.reports.now.reports) (c.args.self.now.steps + 1)))
 
 pub add-requires-clause-room : goal.add-requires-clause-room
 add-requires-clause-room c =
@@ -20,7 +20,7 @@ pub returns-in-None : goal.returns-in-None
 returns-in-None c =
     let t = c.args.terms.now in
     let s = c.args.self.now in
-    let d = demands_in c.args.reports.now (s.steps + 1) in
+    let d = demands_in (drop c.args.from c.args.reports.now.reports) (s.steps + 1) in
     let js = members t.bidders c.args.clock in
     let is = c.requires.set in
     inl (record {
