@@ -15,8 +15,8 @@ use report_wire::ToHouse;
 use std::alloc::Global;
 use std::time::Clock;
 
-/// Takes the part of a bidder, until all clocks but the bidder's own have ended or halted. Behind each round through the open clocks in
-/// which no look showed anything new it pauses, each time twice as long, from 50 microseconds to 5 milliseconds.
+/// Takes the part of a bidder, until all clocks but the bidder's own have ended or halted. After each round through the open clocks in
+/// which no look showed anything new it pauses, each time twice as long, from 50 microseconds to 5 milliseconds for each of these clocks.
 pub fn agree<D: Demands, L: Link>(
     rt: &impl Clock,
     alloc: Global,
@@ -54,9 +54,11 @@ pub fn agree<D: Demands, L: Link>(
     };
     let mut from = 0u8;
     let mut pause = Pause::none();
+    let mut looked = 0u8;
     'visits: while let Some(clock) = next_clock(&known, bidder, from) {
         if clock < from {
-            pause.rest(rt);
+            pause.rest(rt, looked);
+            looked = 0;
         }
         let place = clock as usize;
         let before = known[place];
@@ -73,6 +75,7 @@ pub fn agree<D: Demands, L: Link>(
             &mut seen.looks,
         ) {
             Ok(after) => {
+                looked = looked.saturating_add(1);
                 if after.is_new() {
                     pause.news();
                 }

@@ -9,7 +9,7 @@ use std::time::{Clock, Duration};
 /// The shortest pause, in microseconds.
 const LEAST_PAUSE: u64 = 50;
 
-/// The longest pause, in microseconds.
+/// The longest pause for each clock that was looked at, in microseconds.
 const GREATEST_PAUSE: u64 = 5_000;
 
 /// The pause behind the round through the clocks that an agent is in, seen as its length in microseconds: 0 where a look of this round
@@ -20,14 +20,14 @@ pub(crate) struct Pause {
 }
 
 impl Model for Pause {
-    ghost use Rattle.std.specs.Prelude.{ℕ, ◌≤◌};
+    ghost use Rattle.std.specs.Prelude.{ℕ, ◌≤◌, ◌*◌};
     ghost use Rattle.bidder_agent.specs.declared.pausing.TheConstants.{GREATEST_PAUSE};
 
     ghost Value = { ℕ };
 
     ghost view = { λ pause. pause.micros };
 
-    ghost invariant = { λ pause. pause.micros ≤ GREATEST_PAUSE };
+    ghost invariant = { λ pause. pause.micros ≤ 255 * GREATEST_PAUSE };
 }
 
 impl Pause {
@@ -52,14 +52,15 @@ impl Pause {
         Duration::from_micros(self.micros)
     }
 
-    /// Pauses behind a round. The pause behind the next one is twice as long, within the shortest and the longest.
-    pub(crate) fn rest(&mut self, clock: &impl Clock)
-        ensures { self.new ≡ max LEAST_PAUSE (min (2 * self.old) GREATEST_PAUSE) }
+    /// Pauses after a round of so many looks. The pause after the next one is twice as long, within the shortest and the longest for these.
+    pub(crate) fn rest(&mut self, clock: &impl Clock, looks: u8)
+        ensures { self.new ≡ max LEAST_PAUSE (min (2 * self.old) (looks * GREATEST_PAUSE)) }
     {
         let length = self.length();
         if !length.is_zero() {
             thread::sleep(clock, length);
         }
-        self.micros = (2 * self.micros).clamp(LEAST_PAUSE, GREATEST_PAUSE);
+        let longest = u64::from(looks) * GREATEST_PAUSE;
+        self.micros = (2 * self.micros).min(longest).max(LEAST_PAUSE);
     }
 }
