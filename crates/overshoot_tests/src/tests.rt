@@ -14,6 +14,7 @@ use std::test::Fail;
 type Told<'a> = (u8, u32, &'a [u16]);
 
 /// A clock, and what is said of it.
+#[derive(Clone, Copy)]
 struct Case<'a> {
     story: &'a str,
     supply: &'a [u16],
@@ -160,6 +161,87 @@ const CASES: &[Case] = &[
         line: "halted",
         most_short: (0, 0),
     },
+    Case {
+        story: "six goods, whose prices rose from 0 to 1 for two who want all of them, and then nothing",
+        supply: &[1, 1, 1, 1, 1, 1],
+        opening: &[0, 0, 0, 0, 0, 0],
+        bidders: 2,
+        ceiling: 10,
+        clock: 0,
+        reports: &[
+            (1, 1, &[1, 1, 1, 1, 1, 1]),
+            (2, 1, &[1, 1, 1, 1, 1, 1]),
+            (1, 2, &[0, 0, 0, 0, 0, 0]),
+            (2, 2, &[0, 0, 0, 0, 0, 0]),
+        ],
+        line: "overshoot 63 short 6",
+        most_short: (63, 6),
+    },
+    Case {
+        story: "the clock without bidder 12: the first of eleven members takes all six goods",
+        supply: &[1, 1, 1, 1, 1, 1],
+        opening: &[0, 0, 0, 0, 0, 0],
+        bidders: 12,
+        ceiling: 10,
+        clock: 12,
+        reports: ONE_OF_ELEVEN,
+        line: "award",
+        most_short: (0, 0),
+    },
+    Case {
+        story: "a gap of the last of twelve bidders",
+        supply: &[4],
+        opening: &[0],
+        bidders: 12,
+        ceiling: 10,
+        clock: 0,
+        reports: LAST_OF_TWELVE,
+        line: "broken 12 x [4] y [0] good 0",
+        most_short: (0, 0),
+    },
+];
+
+/// Of the members 1 to 11 the first wants a unit of each of six goods, and the others nothing.
+const ONE_OF_ELEVEN: &[Told] = &[
+    (1, 1, &[1, 1, 1, 1, 1, 1]),
+    (2, 1, &[0, 0, 0, 0, 0, 0]),
+    (3, 1, &[0, 0, 0, 0, 0, 0]),
+    (4, 1, &[0, 0, 0, 0, 0, 0]),
+    (5, 1, &[0, 0, 0, 0, 0, 0]),
+    (6, 1, &[0, 0, 0, 0, 0, 0]),
+    (7, 1, &[0, 0, 0, 0, 0, 0]),
+    (8, 1, &[0, 0, 0, 0, 0, 0]),
+    (9, 1, &[0, 0, 0, 0, 0, 0]),
+    (10, 1, &[0, 0, 0, 0, 0, 0]),
+    (11, 1, &[0, 0, 0, 0, 0, 0]),
+];
+
+/// Two of twelve bidders want all four units, and then one of them one unit, and the last one all or nothing.
+const LAST_OF_TWELVE: &[Told] = &[
+    (1, 1, &[4]),
+    (2, 1, &[0]),
+    (3, 1, &[0]),
+    (4, 1, &[0]),
+    (5, 1, &[0]),
+    (6, 1, &[0]),
+    (7, 1, &[0]),
+    (8, 1, &[0]),
+    (9, 1, &[0]),
+    (10, 1, &[0]),
+    (11, 1, &[0]),
+    (12, 1, &[4]),
+    (1, 2, &[1]),
+    (2, 2, &[0]),
+    (3, 2, &[0]),
+    (4, 2, &[0]),
+    (5, 2, &[0]),
+    (6, 2, &[0]),
+    (7, 2, &[0]),
+    (8, 2, &[0]),
+    (9, 2, &[0]),
+    (10, 2, &[0]),
+    (11, 2, &[0]),
+    (12, 2, &[0, 4]),
 ];
 
 fn terms_of(rt: &impl Abort, case: &Case) -> Result<Terms, Fail> {
@@ -245,18 +327,55 @@ fn line_of(alloc: Global, explained: &Explained) -> Result<String, AllocError> {
     }
 }
 
+/// Checks what a clock has come to, and its set of greatest shortfall.
+fn check_case(rt: &(impl AllocGlobal + Abort), case: &Case) -> Result<(), Fail> {
+    let terms = terms_of(rt, case)?;
+    assert!(rt; case.clock <= terms.bidders);
+    let clock = clock_of(rt, rt.alloc(), &terms, case.clock, case.reports)?;
+    let line = line_of(rt.alloc(), &explain(rt.alloc(), &terms, &clock)?)?;
+    assert_eq!(rt; line.as_str(), case.line, "{}", case.story);
+    let (set, short) = greatest(&terms, &clock);
+    assert_eq!(rt; (set.0, short), case.most_short, "{}", case.story);
+    Ok(())
+}
+
 #[test]
 fn clocks_are_explained(rt: HostRuntime) -> Result<(), Fail> {
     for case in CASES {
-        let terms = terms_of(&rt, case)?;
-        assert!(rt; case.clock <= terms.bidders);
-        let clock = clock_of(&rt, rt.alloc(), &terms, case.clock, case.reports)?;
-        let line = line_of(rt.alloc(), &explain(rt.alloc(), &terms, &clock)?)?;
-        assert_eq!(rt; line.as_str(), case.line, "{}", case.story);
-        let (set, short) = greatest(&terms, &clock);
-        assert_eq!(rt; (set.0, short), case.most_short, "{}", case.story);
+        check_case(&rt, case)?;
     }
     Ok(())
+}
+
+/// All quantities of a good.
+fn all_quantities(alloc: Global, units: u16) -> Result<Vec<u16>, AllocError> {
+    let mut quantities = Vec::new(alloc);
+    for quantity in 0..units {
+        quantities.push(quantity)?;
+    }
+    quantities.push(units)?;
+    Ok(quantities)
+}
+
+#[test]
+fn the_clock_of_a_bidder_who_wants_any_of_2048_bundles_is_explained(
+    rt: HostRuntime,
+) -> Result<(), Fail> {
+    let all = all_quantities(rt.alloc(), 2047)?;
+    check_case(
+        &rt,
+        &Case {
+            story: "any of 2,048 bundles",
+            supply: &[2047],
+            opening: &[0],
+            bidders: 1,
+            ceiling: 10,
+            clock: 0,
+            reports: &[(1, 1, &all)],
+            line: "award",
+            most_short: (0, 0),
+        },
+    )
 }
 
 /// Whether a demand has the exchange property, in words.
@@ -298,13 +417,26 @@ const DEMANDS: &[Listed] = &[
     ),
 ];
 
+/// Checks the verdict on a demand.
+fn check_verdict(rt: &(impl AllocGlobal + Abort), listed: &Listed) -> Result<(), Fail> {
+    let (supply, quantities, words) = *listed;
+    let goods = Goods::new(supply)?;
+    let demand = read(rt, rt.alloc(), &goods, quantities)?;
+    let told = words_of(rt.alloc(), &exchange(rt.alloc(), &goods, &demand)?)?;
+    assert_eq!(rt; told.as_str(), words, "{quantities:?}");
+    Ok(())
+}
+
 #[test]
 fn demands_have_their_verdicts(rt: HostRuntime) -> Result<(), Fail> {
-    for (supply, quantities, words) in DEMANDS {
-        let goods = Goods::new(supply)?;
-        let demand = read(&rt, rt.alloc(), &goods, quantities)?;
-        let told = words_of(rt.alloc(), &exchange(rt.alloc(), &goods, &demand)?)?;
-        assert_eq!(rt; told.as_str(), *words, "{quantities:?}");
+    for listed in DEMANDS {
+        check_verdict(&rt, listed)?;
     }
     Ok(())
+}
+
+#[test]
+fn the_largest_demand_has_its_verdict(rt: HostRuntime) -> Result<(), Fail> {
+    let all = all_quantities(rt.alloc(), 2047)?;
+    check_verdict(&rt, &(&[2047], &all, "holds"))
 }
