@@ -25,14 +25,11 @@ cut_off t t1 text bytes same h =
 moved : (taken given : List ℕ) (x y z : LinkBytes) → Adds given x y → y.left ≡ taken ++ z.left → z.written ≡ y.written → Moves taken given x z
 moved taken given x y z a left written = record { left = sym a.0 ∙ left; written = written ∙ a.1 }
 
-all_of : (bytes : List ℕ) → bytes ≡ bytes ++ []
-all_of bytes = sym (append-nil bytes)
-
 after_sent : (frame : ToHouse) (h : Heard) (x y z : LinkBytes) → Adds (spelled (house_sent frame)) x y → IsHeard h y z → Converses frame h x z
 after_sent frame (heard.Reply reply) x y z a h = (h.0, moved (spelled (bidder_sent reply)) (spelled (house_sent frame)) x y z a h.1.0 h.1.1)
 after_sent frame heard.Bad x y z a h = (h.0, moved h.0 (spelled (house_sent frame)) x y z a h.1.0 h.1.1, h.2)
 after_sent frame heard.LinkFault x y z a h = inr (h.0, h.2, moved h.0 (spelled (house_sent frame)) x y z a h.1.0 h.1.1)
-after_sent frame heard.NoMemory x y z a h = (h.0, spelled (house_sent frame), [], all_of (spelled (house_sent frame)), moved h.0 (spelled (house_sent frame)) x y z a h.1.0 h.1.1)
+after_sent frame heard.NoMemory x y z a h = inr (h.0, moved h.0 (spelled (house_sent frame)) x y z a h.1.0 h.1.1)
 
 pub heard_behind : (t t1 t2 : Option LinkBytes) (frame : ToHouse) (h : Heard) → IfTold t t1 (Adds (spelled (house_sent frame))) → IfTold t1 t2 (IsHeard h) → IfTold t t2 (Converses frame h)
 heard_behind t t1 t2 frame h p q = told-trans t t1 t2 (Adds (spelled (house_sent frame))) (IsHeard h) (Converses frame h) p q (λ x y z a b. after_sent frame h x y z a b)
@@ -45,14 +42,12 @@ cut_fault t t1 frame p =
     told-map t t1 (λ b a. (given : List ℕ) × (more : List ℕ) × (spelled (house_sent frame) ≡ given ++ more) × Adds given b a) (Converses frame heard.LinkFault) p
     (λ x y h. inl (h.0, h.1, h.2, cut_moves h.0 x y h.3))
 
-pub cut_memory : (t t1 : Option LinkBytes) (frame : ToHouse) → IfTold t t1 (λ b a. (given : List ℕ) × (more : List ℕ) × (spelled (house_sent frame) ≡ given ++ more) × Adds given b a) → IfTold t t1 (Converses frame heard.NoMemory)
-cut_memory t t1 frame p =
-    told-map t t1 (λ b a. (given : List ℕ) × (more : List ℕ) × (spelled (house_sent frame) ≡ given ++ more) × Adds given b a) (Converses frame heard.NoMemory) p
-    (λ x y h. ([], h.0, h.1, h.2, cut_moves h.0 x y h.3))
+pub cut_memory : (t t1 : Option LinkBytes) (frame : ToHouse) → IfTold t t1 (Adds []) → IfTold t t1 (Converses frame heard.NoMemory)
+cut_memory t t1 frame p = told-map t t1 (Adds []) (Converses frame heard.NoMemory) p (λ x y h. inl (cut_moves [] x y h))
 
 -- nothing was sent for want of memory
 pub nothing_sent : (t : Option LinkBytes) (frame : ToHouse) → IfTold t t (Converses frame heard.NoMemory)
-nothing_sent t frame = told-same t (Converses frame heard.NoMemory) (λ x. ([], [], spelled (house_sent frame), refl, record { left = refl; written = sym (append-nil x.written) }))
+nothing_sent t frame = told-same t (Converses frame heard.NoMemory) (λ x. inl (record { left = refl; written = sym (append-nil x.written) }))
 
 kept_is : (goods bidders : ℕ) (last : Option ℕ) (frame : ToHouse) (t t1 : Option LinkBytes) (reply : ToBidder) (b : Bool) → answers goods bidders last frame reply ≡ b → is_refused reply ≡ false
     → IfTold t t1 (Converses frame (heard.Reply reply)) → IsExchange goods bidders last frame t t1 (kept b reply)

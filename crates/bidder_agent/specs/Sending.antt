@@ -1,5 +1,5 @@
 -- Sending a frame, and judging a reply.
-use Rattle.std.specs.Prelude.{◌≡◌, ◌≤◌, ℕ, Bool, true, false, List, ◌++◌, Result, Ok, Err}
+use Rattle.std.specs.Prelude.{◌≡◌, ◌≤◌, ℕ, Bool, true, false, List, [], ◌++◌, Result, Ok, Err}
 use Rattle.house_io.specs.Links.{LinkBytes}
 use Rattle.house_io.specs.Faults.{Rose}
 use Rattle.report_wire.specs.declared.messages.ToBidder.{ToBidder}
@@ -13,9 +13,11 @@ use Rattle.bidder_agent.specs.declared.talking.Cut.TheVariants as cut
 abbrev pub Adds : List ℕ → LinkBytes → LinkBytes → Type 0
 Adds bytes before after = (after.left ≡ before.left) × (after.written ≡ before.written ++ bytes)
 
+-- all was written; or a front, behind which the link failed; or nothing, for want of memory
 abbrev pub IsSentBy : Result (Unit {0}) Cut → List ℕ → LinkBytes → LinkBytes → Type 0
 IsSentBy (Ok done) bytes before after = Adds bytes before after
-IsSentBy (Err cut) bytes before after = (given : List ℕ) × (more : List ℕ) × (bytes ≡ given ++ more) × Adds given before after
+IsSentBy (Err cut.LinkFault) bytes before after = (given : List ℕ) × (more : List ℕ) × (bytes ≡ given ++ more) × Adds given before after
+IsSentBy (Err cut.NoMemory) bytes before after = Adds [] before after
 
 abbrev pub HasCutCause : ℕ → ℕ → Result (Unit {0}) Cut → Type 0
 HasCutCause before now (Ok done) = now ≡ before

@@ -259,8 +259,8 @@ abbrev pub Carries : List Exchange → LinkBytes → LinkBytes → Type 0
 Carries talk before after = AreReplies talk × Moves (read_bytes talk) (sent_bytes talk) before after
 
 -- A frame was sent, and the next frame was taken and no byte more; or what is no frame, or less than one before the end. Where the link
--- failed, a front of the frame was sent and nothing was taken, or it was sent and less than a frame was taken. Where memory ran out, a
--- front was sent, and some bytes were taken.
+-- failed, a front of the frame was sent and nothing was taken, or it was sent and less than a frame was taken. Where memory ran out,
+-- nothing was sent and nothing was taken, or the frame was sent and some bytes were taken.
 abbrev pub Converses : ToHouse → Heard → LinkBytes → LinkBytes → Type 0
 Converses frame (heard.Reply reply) before after = IsSent to_bidder (bidder_sent reply) × Moves (spelled (bidder_sent reply)) (spelled (house_sent frame)) before after
 Converses frame heard.Bad before after =
@@ -268,7 +268,7 @@ Converses frame heard.Bad before after =
 Converses frame heard.LinkFault before after =
     ((given : List ℕ) × (more : List ℕ) × (spelled (house_sent frame) ≡ given ++ more) × Moves [] given before after)
     ⊎ ((tail : List ℕ) × IsPartial to_bidder tail × Moves tail (spelled (house_sent frame)) before after)
-Converses frame heard.NoMemory before after = (tail : List ℕ) × (given : List ℕ) × (more : List ℕ) × (spelled (house_sent frame) ≡ given ++ more) × Moves tail given before after
+Converses frame heard.NoMemory before after = Moves [] [] before after ⊎ ((tail : List ℕ) × Moves tail (spelled (house_sent frame)) before after)
 
 -- and before it a talk
 abbrev pub Behind : List Exchange → (LinkBytes → LinkBytes → Type 0) → LinkBytes → LinkBytes → Type 0
