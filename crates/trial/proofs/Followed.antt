@@ -1,9 +1,9 @@
 -- Why a bidder's demand may be told from surpluses at prices before: as long as he stays, it is the same.
-use Rattle.std.proofs.Common.{◌≡◌, ◌<◌, ◌≤◌, ℕ, zero, suc, ◌+◌, ◌-◌, ◌*◌, Bool, nat_eq, cond, List, [], ◌∷◌, length, slice_index, replicate, inl, inr, arith, ap, refl, sym, ◌∙◌, subst}
-use Rattle.std.specs.Prelude.{ℤ, pos, ◌+ℤ◌, ◌-ℤ◌, ◌≤ℤ◌, filter}
+use Rattle.std.proofs.Common.{◌≡◌, ◌≤◌, ℕ, ◌+◌, ◌-◌, ◌*◌, Bool, cond, List, [], ◌∷◌, length, slice_index, inl, inr, arith, ap, refl, sym, ◌∙◌, subst}
+use Rattle.std.specs.Prelude.{ℤ, pos, ◌+ℤ◌, ◌-ℤ◌, filter}
 use Rattle.std.specs.Ordering.{int_eq}
 use Rattle.std.proofs.lemmas.Int.{ints}
-use Rattle.lot_base.specs.Goods.{quantity_in, cost, zeros, AtMost}
+use Rattle.lot_base.specs.Goods.{quantity_in, zeros, AtMost}
 use Rattle.lot_base.specs.Box.{box, index_of, IsIn}
 use Rattle.lot_base.specs.Economy.{surplus, indirect_utility, demand}
 use Rattle.lot_base.proofs.Lists.{AtMost-box}
@@ -11,6 +11,7 @@ use Rattle.lot_base.proofs.Vec.{length-below}
 use Rattle.lot_base.proofs.Demand.{surplus_bounds, surplus_reached}
 use Rattle.valuation.specs.Carried.{CarriesAt, cut, raised_by}
 use Rattle.valuation.proofs.Carrying.{cost-raised_by, surplus-raised_by}
+use Rattle.valuation.proofs.Steady.{cost-nothing, length-zeros}
 use Rattle.trial.specs.Following.{Followed, Follows, StaysFor}
 
 -- the same surpluses, the same demand
@@ -42,15 +43,6 @@ demand-same s u v p q each =
 -- the valuation of whoever has the surpluses, and what is owed, at price 0
 unfoldable pub moved : (List ℕ → ℤ) → List ℕ → ℕ → ℕ → List ℕ → ℤ
 moved u p owed set x = surplus u p x +ℤ pos (owed * quantity_in x set)
-
-cost-nothing : (s x : List ℕ) → cost (zeros s) x ≡ 0
-cost-nothing [] x = refl
-cost-nothing (a ∷ s) [] = refl
-cost-nothing (a ∷ s) (q ∷ x) = let i = cost-nothing s x in omega (arith, i)
-
-pub length-zeros : (s : List ℕ) → length (zeros s) ≡ length s
-length-zeros [] = refl
-length-zeros (a ∷ s) = ap suc (length-zeros s)
 
 -- the surplus of a bundle there, after some steps
 surplus-moved : (s : List ℕ) (u : List ℕ → ℤ) (p : List ℕ) (owed set n : ℕ) (x : List ℕ) → AtMost x s →

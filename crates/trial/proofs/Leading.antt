@@ -1,5 +1,5 @@
 -- Where a round that was told has led, and the members who are followed.
-use Rattle.std.proofs.Common.{◌≡◌, ◌≢◌, ◌<◌, ◌≤◌, ◌⊎◌, inl, inr, ℕ, suc, ◌+◌, ◌^◌, true, false, ◌&&◌, nat_eq, cond, List, [], ◌∷◌, length, get_or, Some, refl, sym, ◌∙◌, ap, arith, subst}
+use Rattle.std.proofs.Common.{◌≡◌, ◌≢◌, ◌<◌, ◌⊎◌, inl, inr, ℕ, suc, ◌+◌, ◌^◌, true, false, ◌&&◌, nat_eq, cond, List, [], ◌∷◌, length, get_or, Some, refl, sym, ◌∙◌, ap, arith, subst}
 use Rattle.std.specs.Prelude.{find, option_map, unwrap_or, ℤ}
 use Rattle.std.specs.List.{AllByRecursion}
 use Rattle.std.proofs.lemmas.Bool.{cases_eq}

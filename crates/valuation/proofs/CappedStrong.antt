@@ -1,5 +1,5 @@
 -- So many units that count, the best of them: strong substitutes.
-use Rattle.std.proofs.Common.{◌≡◌, ◌≢◌, ◌≤◌, ◌<◌, ◌⊎◌, inl, inr, ℕ, zero, suc, ◌+◌, List, [], ◌∷◌, length, map, arith, ap, refl}
+use Rattle.std.proofs.Common.{◌≡◌, ◌≢◌, ◌≤◌, ◌<◌, ◌⊎◌, inl, inr, ℕ, zero, suc, ◌+◌, List, [], ◌∷◌, length, map, arith, ap}
 use Rattle.std.proofs.lemmas.Bool.{cases_lt}
 use Rattle.lot_base.specs.Goods.{cost, at, one_more, one_less, AtMost}
 use Rattle.lot_base.specs.Box.{box}

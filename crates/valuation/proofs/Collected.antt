@@ -1,6 +1,6 @@
 -- The bundles whose number is the greatest, one after another.
 use Rattle.std.proofs.Common.{◌≡◌, ◌<◌, ◌≤◌, ℕ, zero, suc, ◌+◌, Bool, true, false, nat_eq, cond, List, [], ◌∷◌, ◌++◌, length, slice_index, take, arith, ap, refl, sym, ◌∙◌, append-nil, Result, Ok, Err, subst}
-use Rattle.std.specs.Prelude.{filter, ◌==◌, slice_get, Some, IfOk, ℤ, pos, ◌-ℤ◌, ◌+ℤ◌, ◌^◌}
+use Rattle.std.specs.Prelude.{filter, ◌==◌, slice_get, Some, IfOk, ℤ, pos, ◌-ℤ◌, ◌+ℤ◌}
 use Rattle.std.specs.List.{concat, AllByRecursion}
 use Rattle.std.proofs.lemmas.Int.{ints}
 use Rattle.std.proofs.lemmas.Bool.Decides.{nat_tests}

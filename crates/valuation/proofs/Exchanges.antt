@@ -1,13 +1,13 @@
 -- A unit that goes from a bundle to another one, for values in natural numbers, and for the valuation that a list of them stands for.
 use Rattle.std.proofs.Common.{◌≡◌, ◌≤◌, ◌<◌, ◌⊎◌, inl, inr, ℕ, zero, suc, ◌+◌, ◌-◌, List, [], ◌∷◌, length, map, slice_index, arith, ap, refl, sym, ◌∙◌}
-use Rattle.std.specs.Prelude.{pos, take, ◌+ℤ◌, ◌≤ℤ◌}
+use Rattle.std.specs.Prelude.{◌+ℤ◌, ◌≤ℤ◌}
 use Rattle.std.proofs.lemmas.Int.{ints}
 use Rattle.std.proofs.lemmas.List.{take_all}
 use Rattle.lot_base.specs.Goods.{at, one_more, one_less, AtMost, box_size}
 use Rattle.lot_base.specs.Box.{box, index_of}
 use Rattle.lot_base.specs.Economy.{IsStrongSubstitutes}
 use Rattle.lot_base.proofs.Index.{bundle_at-index_of, index_of-small, length-box}
-use Rattle.lot_base.proofs.Vec.{AtMost-one_more, AtMost-one_less, at-below, at-down_other}
+use Rattle.lot_base.proofs.Vec.{AtMost-one_more, AtMost-one_less, at-below}
 use Rattle.valuation.specs.Values.{valuation_of}
 use Rattle.valuation.proofs.Mapped.{map-at}
 

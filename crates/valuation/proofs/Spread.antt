@@ -13,7 +13,7 @@ use Rattle.lot_base.proofs.Sums.{box_of_drop}
 use Rattle.valuation.specs.Values.{AreValues, valuation_of}
 use Rattle.valuation.specs.Carried.{AreCosts, IsSpread, IsLeft, CarriesAt}
 use Rattle.valuation.proofs.Carrying.{cut-less, empty-costs}
-use Rattle.std.specs.Prelude.{ℤ, pos, ◌+ℤ◌, ◌-ℤ◌}
+use Rattle.std.specs.Prelude.{pos, ◌+ℤ◌, ◌-ℤ◌}
 
 -- the number at a place, by those of the first bundles
 abbrev pub spread_at : List ℕ → ℕ → ℕ → ℕ → ℕ

@@ -3,10 +3,12 @@ use Rattle.std.proofs.Common.{◌≡◌, ◌<◌, ◌≤◌, ◌⊎◌, ℕ, zer
 use Rattle.std.proofs.lemmas.Bool.{cases_lt, cases_eq}
 use Rattle.std.proofs.lemmas.Bool.Decides.{nat_tests}
 use Rattle.std.proofs.Math.Nat.{mul-div-le, mul-le-mul}
-use Rattle.lot_base.specs.Goods.{quantity_in, box_size, AtMost}
+use Rattle.lot_base.specs.Goods.{quantity_in, box_size, cost, zeros, raised, AllBelow, AtMost}
 use Rattle.lot_base.specs.Box.{bundle_at}
 use Rattle.lot_base.proofs.Index.{bundle_at-within}
-use Rattle.valuation.specs.Carried.{IsColumn, StaysApart, IsSteadyAt, AreSteady}
+use Rattle.lot_base.proofs.Vec.{length-below}
+use Rattle.valuation.specs.Carried.{AreCosts, IsColumn, StaysApart, IsSteadyAt, AreSteady}
+use Rattle.valuation.proofs.Carrying.{cost-raised}
 use Rattle.valuation.proofs.Spread.{index-behind}
 
 -- a bundle within a supply has fewer units of a set than the box has bundles
@@ -47,6 +49,29 @@ column_is s units set little whole each = record {
     | inr behind ↦ (let e = index-behind units k (omega (arith, behind, whole)) in omega (arith, e))
   ];
 }
+
+-- where each good of a set costs 1, and any other nothing, a bundle costs its units of the set
+pub length-zeros : (s : List ℕ) → length (zeros s) ≡ length s
+length-zeros [] = refl
+length-zeros (a ∷ s) = ap suc (length-zeros s)
+
+pub zeros-below : (s : List ℕ) (set : ℕ) → AllBelow 4294967295 (zeros s) set
+zeros-below [] set = tt
+zeros-below (a ∷ s) set = (λ here. omega arith, zeros-below s (set / 2))
+
+pub cost-nothing : (s x : List ℕ) → cost (zeros s) x ≡ 0
+cost-nothing [] x = refl
+cost-nothing (a ∷ s) [] = refl
+cost-nothing (a ∷ s) (q ∷ x) = let i = cost-nothing s x in omega (arith, i)
+
+pub column-costs : (s p costs : List ℕ) (set : ℕ) → box_size s ≤ 2048 → p ≡ raised (zeros s) set → AreCosts s p costs → IsColumn s set costs
+column-costs s p costs set little is are = column_is s costs set little are.whole (λ k inside.
+    let x = bundle_at s k in
+    let long = length-below x s (bundle_at-within s k inside) in
+    let raised-costs = cost-raised (zeros s) x set (length-zeros s ∙ sym long) in
+    let free = cost-nothing s x in
+    let e = are.each k inside ∙ ap (λ q. cost q x) is in
+    omega (arith, e, raised-costs, free))
 
 -- a bundle whose number is so far below the best
 pub steady-from : (best least n worth units : ℕ) → worth ≤ best → StaysApart (best - worth) units least n → IsSteadyAt best least n worth units

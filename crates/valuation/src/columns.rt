@@ -1,9 +1,10 @@
 //! The units that each bundle has of a set of goods.
-ghost use Rattle.std.specs.Prelude.{◌≡◌, ◌≤◌, length, IfOk};
-ghost use Rattle.lot_base.specs.Goods.{box_size};
+ghost use Rattle.std.specs.Prelude.{IfOk};
 ghost use Rattle.valuation.specs.Carried.{IsColumn};
 
-use lot_base::{GoodSet, Goods, NoMemory, quantity_in};
+use crate::costs::costs_at;
+use crate::reader::narrowed;
+use lot_base::{GoodSet, Goods, NoMemory, Prices};
 use std::alloc::Global;
 
 /// The units that each bundle of the box has of a set of goods, in order of index. One column serves all bidders.
@@ -13,20 +14,16 @@ pub struct Column {
     pub units: Vec<u16>,
 }
 
-/// The column of a set of the goods.
+/// The column of a set of the goods: what the bundles cost where each good of the set costs 1, and any other good nothing.
 pub fn column_of(alloc: Global, goods: &Goods, set: GoodSet) -> Result<Column, NoMemory>
     ensures { IfOk result (λ c. IsColumn goods.now set.0 c.units.items) }
 {
     let _count = goods.count();
-    let mut units = match Vec::with_capacity(alloc, goods.box_size() as usize) {
-        Ok(units) => units,
-        Err(_) => return Err(NoMemory),
-    };
-    for index in 0..goods.box_size() {
-        match units.push(quantity_in(&goods.bundle(index), set) as u16) {
-            Ok(()) => {}
-            Err(_) => return Err(NoMemory),
-        }
+    match costs_at(alloc, goods, Prices::zero(goods).raise(set).as_slice()) {
+        Ok(costs) => match narrowed(alloc, &costs) {
+            Ok(units) => Ok(Column { units }),
+            Err(_) => Err(NoMemory),
+        },
+        Err(NoMemory) => Err(NoMemory),
     }
-    Ok(Column { units })
 }

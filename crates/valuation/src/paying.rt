@@ -1,5 +1,5 @@
 //! What is left of surpluses when prices rise.
-ghost use Rattle.std.specs.Prelude.{◌≡◌, ◌≤◌, ◌+◌, ◌-◌, ◌*◌, ℕ, length, slice_index};
+ghost use Rattle.std.specs.Prelude.{◌≡◌, ◌≤◌, ◌-◌, ◌*◌, ℕ, length, slice_index};
 ghost use Rattle.lot_base.specs.declared.limits.TheConstants.{MOST_UNITS};
 ghost use Rattle.valuation.specs.Carried.{IsPaid, greatest};
 

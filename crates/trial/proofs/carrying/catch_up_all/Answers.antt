@@ -1,4 +1,4 @@
-use Rattle.std.proofs.Common.{◌<◌, length, ap, sym, subst, arith, rules}
+use Rattle.std.proofs.Common.{sym, subst, arith}
 use Rattle.trial.specs.Following.{IsReady}
 use Rattle.trial.specs.Rounds.{AreColumns}
 use Rattle.trial.proofs.Members.{next-changed, skip-changed}

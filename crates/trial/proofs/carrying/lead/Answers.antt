@@ -1,10 +1,10 @@
-use Rattle.std.proofs.Common.{◌∙◌, ◌≢◌, ◌+◌, ◌<◌, ap, sym, subst, arith, suc, ◌≡◌, ℕ}
+use Rattle.std.proofs.Common.{◌∙◌, ◌+◌, ap, sym, subst, arith, suc, ◌≡◌}
 use Rattle.std.specs.Prelude.{length}
 use Rattle.std.proofs.lemmas.List.{length-set}
 use Rattle.lot_base.specs.declared.auction_terms.Terms.{Terms}
 use Rattle.valuation.specs.Carried.{raised_by}
 use Rattle.clock.specs.Reports.{ClockHistory, ClockOf}
-use Rattle.clock.specs.Standing.{steps_of, prices_of}
+use Rattle.clock.specs.Standing.{prices_of}
 use Rattle.trial.specs.Bidding.{bidders_of}
 use Rattle.trial.specs.Rounds.{AreFollowed, AreOn, AreReady, AreSteady}
 use Rattle.trial.proofs.Leading.{followed-on, rose-on, set-inside, supply-here, for-ready, column-on}

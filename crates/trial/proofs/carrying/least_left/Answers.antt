@@ -1,4 +1,4 @@
-use Rattle.std.proofs.Common.{◌≤◌, ◌+◌, ◌∙◌, length, ap, sym, subst, arith}
+use Rattle.std.proofs.Common.{◌+◌, ◌∙◌, length, ap, sym, subst, arith}
 use Rattle.trial.specs.Following.{IsOn}
 use Rattle.trial.proofs.Members.{next-changed, skip-changed, next-steady, skip-steady, AreSteadyTo}
 use Rattle.trial.proofs.carrying.least_left.Goals as goal

@@ -1,4 +1,4 @@
-use Rattle.std.proofs.Common.{length, arith}
+use Rattle.std.proofs.Common.{arith}
 use Rattle.trial.specs.Following.{IsStepped}
 use Rattle.trial.proofs.Members.{next-changed, skip-changed}
 use Rattle.trial.proofs.carrying.step_all.Goals as goal

@@ -1,7 +1,7 @@
-use Rattle.std.proofs.Common.{◌∙◌, ◌-◌, ◌+◌, ◌≡◌, sym, ap, arith, List, ℕ, subst, length}
+use Rattle.std.proofs.Common.{◌∙◌, ◌+◌, ◌≡◌, sym, ap, arith, List, ℕ, subst, length}
 use Rattle.std.proofs.lemmas.List.{take_at}
 use Rattle.clock.specs.Reports.{ClockHistory}
-use Rattle.clock.specs.Standing.{steps_of, prices_of, phase_of}
+use Rattle.clock.specs.Standing.{prices_of, phase_of}
 use Rattle.trial.specs.Bidding.{bidders_of}
 use Rattle.trial.specs.Following.{Followed}
 use Rattle.trial.specs.Rounds.{AreFollowed}

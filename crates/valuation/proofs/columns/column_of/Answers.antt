@@ -1,18 +1,23 @@
-use Rattle.std.proofs.Common.{◌∙◌, ap, arith}
-use Rattle.lot_base.specs.Goods.{quantity_in}
-use Rattle.lot_base.specs.Box.{bundle_at}
-use Rattle.lot_base.proofs.Index.{bundle_at-within}
-use Rattle.valuation.proofs.Steady.{quantity-few, column_is}
+use Rattle.std.proofs.Common.{◌≡◌, ◌∙◌, sym, subst, slice_index, arith}
+use Rattle.lot_base.specs.Goods.{raised, zeros, AllBelow}
+use Rattle.valuation.specs.Carried.{IsColumn}
+use Rattle.valuation.proofs.Steady.{zeros-below, column-costs}
 use Rattle.valuation.proofs.columns.column_of.Goals as goal
 
-pub overflow_cast-quantity_in : goal.overflow_cast-quantity_in
-overflow_cast-quantity_in c =
-    let s = c.args.goods.now in
-    let small = c.count-count.ensures.supply.small in
-    let q = quantity-few (bundle_at s c.loop-index.index) s c.args.set.0 (bundle_at-within s c.loop-index.index (omega arith)) small in
-    let e = c.quantity_in.ensures ∙ ap (λ x. quantity_in x c.args.set.0) c.bundle.ensures.digits in
-    omega arith
+pub raise-requires : goal.raise-requires
+raise-requires c = subst (λ p. AllBelow 4294967295 p c.args.set.0) (sym c.zero.ensures) (zeros-below c.args.goods.now c.args.set.0)
 
-pub returns : goal.returns
-returns c =
-    column_is c.args.goods.now c.loop-index.units.items c.args.set.0 (c.count-count.ensures.supply.small) (omega arith) (λ k below. c.loop-index.invariant.each k (omega arith))
+pub narrowed-requires : goal.narrowed-requires
+narrowed-requires c = λ place.
+    let s = c.args.goods.now in
+    let is : c.as_slice.result.now ≡ raised (zeros s) c.args.set.0 = c.as_slice.ensures.value ∙ c.raise.ensures ∙ (λ i. raised (c.zero.ensures i) c.args.set.0) in
+    let column = column-costs s c.as_slice.result.now c.in-Ok.costs.items c.args.set.0 c.count-count.ensures.supply.small is c.in-Ok.ensures in
+    let small = column.small place in
+    let e : slice_index c.deref.result.now place ≡ slice_index c.in-Ok.costs.items place = (λ i. slice_index (c.deref.ensures.value i) place) in
+    omega (arith, small, e)
+
+pub returns-in-Ok-narrowed : goal.returns-in-Ok-narrowed
+returns-in-Ok-narrowed c =
+    let s = c.args.goods.now in
+    let is : c.as_slice.result.now ≡ raised (zeros s) c.args.set.0 = c.as_slice.ensures.value ∙ c.raise.ensures ∙ (λ i. raised (c.zero.ensures i) c.args.set.0) in
+    subst (IsColumn s c.args.set.0) (sym (c.in-Ok-narrowed.ensures ∙ c.deref.ensures.value)) (column-costs s c.as_slice.result.now c.in-Ok.costs.items c.args.set.0 c.count-count.ensures.supply.small is c.in-Ok.ensures)

@@ -1,4 +1,4 @@
-use Rattle.std.proofs.Common.{◌∙◌, sym, arith, ap, max, take}
+use Rattle.std.proofs.Common.{◌∙◌, sym, arith, ap, max}
 use Rattle.std.specs.Prelude.{slice_index}
 use Rattle.std.proofs.lemmas.List.{take_all}
 use Rattle.valuation.specs.Carried.{greatest}

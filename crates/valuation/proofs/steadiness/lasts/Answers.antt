@@ -1,4 +1,4 @@
-use Rattle.std.proofs.Common.{◌≡◌, ◌+◌, ◌*◌, ℕ, length, sym, subst, arith}
+use Rattle.std.proofs.Common.{◌≡◌, ◌+◌, ◌*◌, ℕ, length, subst, arith}
 use Rattle.valuation.specs.Carried.{AreSteady}
 use Rattle.valuation.proofs.Steady.{steady-both, fits-fewer}
 use Rattle.valuation.proofs.steadiness.lasts.Goals as goal

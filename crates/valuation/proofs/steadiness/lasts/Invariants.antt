@@ -1,4 +1,4 @@
-use Rattle.std.proofs.Common.{◌<◌, ◌*◌, ◌^◌, ℕ}
+use Rattle.std.proofs.Common.{◌<◌, ◌*◌, ◌^◌}
 use Rattle.valuation.specs.Carried.{AreSteady}
 use Rattle.valuation.proofs.steadiness.lasts.Given as goal
 

@@ -1,5 +1,5 @@
-use Rattle.std.proofs.Common.{◌≡◌, ◌∙◌, length, refl, ap, sym, subst, arith}
-use Rattle.trial.specs.Following.{Followed, Follows, StaysFor}
+use Rattle.std.proofs.Common.{◌∙◌, length, refl, ap, sym, subst, arith}
+use Rattle.trial.specs.Following.{Followed}
 use Rattle.trial.proofs.Followed.{Stays, demand-left}
 use Rattle.trial.proofs.following.Follower.left.Goals as goal
 use Rattle.trial.proofs.following.Follower.left.Goals.{then-self-eq0, else-self-eq0}

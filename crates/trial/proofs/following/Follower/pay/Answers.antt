@@ -1,8 +1,9 @@
-use Rattle.std.proofs.Common.{◌≡◌, ◌∙◌, length, refl, sym, subst}
+use Rattle.std.proofs.Common.{◌≡◌, length, refl, sym, subst}
 use Rattle.lot_base.specs.Goods.{zeros}
 use Rattle.valuation.specs.Carried.{raised_by}
 use Rattle.trial.specs.Following.{Followed, Follows}
-use Rattle.trial.proofs.Followed.{moved, length-zeros, follows-paid}
+use Rattle.valuation.proofs.Steady.{length-zeros}
+use Rattle.trial.proofs.Followed.{moved, follows-paid}
 use Rattle.trial.proofs.following.Follower.pay.Goals as goal
 
 pub returns-clause-follows : goal.returns-clause-follows
