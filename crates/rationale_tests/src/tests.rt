@@ -249,13 +249,13 @@ fn the_largest_box_is_decided(rt: HostRuntime) -> Result<(), Fail> {
     Ok(())
 }
 
-/// One good in one unit, which is wanted at a price of 5 in all of the most observations but one.
+/// One good in one unit, which is wanted at a price of 5 in all of the most observations but the last.
 fn long_rationale(rt: &impl Abort, alloc: Global, goods: &Goods) -> Result<Rationale, Fail>
     ensures supply { IfOk result (λ r. r.supply ≡ goods.now) }
-    ensures count { IfOk result (λ r. length r.observations + 2 ≡ MOST_OBSERVATIONS) }
+    ensures count { IfOk result (λ r. length r.observations + 1 ≡ MOST_OBSERVATIONS) }
 {
     let mut rationale = Rationale::new(alloc, goods)?;
-    for number in 1..MOST_OBSERVATIONS - 1 {
+    for number in 1..MOST_OBSERVATIONS {
         add(rt, alloc, &mut rationale, goods, &(&[5], &[1]), number)?;
     }
     Ok(rationale)
@@ -269,8 +269,8 @@ fn the_most_observations_are_decided(rt: HostRuntime) -> Result<(), Fail> {
     assert_eq!(rt; line.as_str(), "values 0 6");
 
     let last: Seen = (&[5], &[0]);
-    add(&rt, rt.alloc(), &mut rationale, &goods, &last, 999_999)?;
+    add(&rt, rt.alloc(), &mut rationale, &goods, &last, 1_000_000)?;
     let line = line_of(rt.alloc(), &rationale.decide(rt.alloc())?)?;
-    assert_eq!(rt; line.as_str(), "links 2/1 x [1] y [0]/999999 x [0] y [1]/");
+    assert_eq!(rt; line.as_str(), "links 2/1 x [1] y [0]/1000000 x [0] y [1]/");
     Ok(())
 }
