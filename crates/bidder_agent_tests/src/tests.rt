@@ -1,4 +1,5 @@
 //! Talks of a bidder with links in memory.
+mod limits;
 mod pauses;
 
 use auction_file::Auction;
@@ -88,22 +89,24 @@ fn list_link(alloc: Global, failing: u64) -> Result<ListLink, Fail> {
     Ok(ListLink::new(alloc, bytes, 1000, numbers)?)
 }
 
-/// Takes the part of bidder 1 in an auction, with a valuation.
-fn play<L: Link>(
+/// Takes the part of bidder 1 in an auction, with a valuation and a token.
+fn play_as<L: Link>(
     rt: &impl Abort,
     clock: &impl Clock,
     alloc: Global,
     auction: &Auction,
     valuation: &Valuation,
+    token: &[u8],
     link: &mut L,
     looks: u32,
 ) -> Result<Seen, AgentEnd> {
     assert!(rt; auction.terms.bidders >= 1 && looks >= 1);
+    assert!(rt; token.len() >= 1 && token.len() <= 64);
     let wants = Wants {
         goods: auction.terms.goods,
         valuation,
     };
-    agree(clock, alloc, auction, &wants, 1, b"abc", link, looks)
+    agree(clock, alloc, auction, &wants, 1, token, link, looks)
 }
 
 /// The same, with the files above.
@@ -116,7 +119,7 @@ fn talk<L: Link>(
 ) -> Result<Result<Seen, AgentEnd>, Fail> {
     let auction = auction(rt, alloc)?;
     let valuation = valuation(alloc, &auction)?;
-    Ok(play(rt, clock, alloc, &auction, &valuation, link, looks))
+    Ok(play_as(rt, clock, alloc, &auction, &valuation, b"abc", link, looks))
 }
 
 fn count_of(answer: &Result<Seen, AgentEnd>) -> Result<usize, AgentEnd> {

@@ -16,8 +16,23 @@ const LOOKS: u32 = 20;
 
 /// A clock that stands still, and keeps each sleep.
 #[derive(Drop)]
-struct SleepList {
+pub struct SleepList {
     slept: RefCell<Vec<Duration>>,
+}
+
+impl SleepList {
+    /// One that has kept none.
+    pub fn new(alloc: Global) -> SleepList {
+        SleepList {
+            slept: RefCell::new(Vec::new(alloc)),
+        }
+    }
+
+    /// The sleeps, in order.
+    pub fn into_slept(self) -> Vec<Duration> {
+        let SleepList { slept } = self;
+        slept.into_inner()
+    }
 }
 
 impl Clock for SleepList {
@@ -131,7 +146,7 @@ fn sees_the_ends(
 }
 
 /// Whether these are the sleeps, by their microseconds.
-fn are_micros(slept: &[Duration], micros: &[u64]) -> bool {
+pub fn are_micros(slept: &[Duration], micros: &[u64]) -> bool {
     slept.len() == micros.len()
         && slept
             .iter()
@@ -142,12 +157,9 @@ fn are_micros(slept: &[Duration], micros: &[u64]) -> bool {
 /// Whether the clock of such an agent is asked for these sleeps, in this order.
 fn sleeps(rt: &impl Abort, alloc: Global, case: &Case) -> Result<bool, Fail> {
     let (pieces, micros) = case;
-    let clock = SleepList {
-        slept: RefCell::new(Vec::new(alloc)),
-    };
+    let clock = SleepList::new(alloc);
     let sees = sees_the_ends(rt, &clock, alloc, pieces)?;
-    let SleepList { slept } = clock;
-    Ok(sees && are_micros(&slept.into_inner(), micros))
+    Ok(sees && are_micros(&clock.into_slept(), micros))
 }
 
 #[test]
