@@ -1,57 +1,77 @@
 //! Words that are no command.
-use super::{check_text, told};
+use super::check_text;
 use house_run::Ended;
 use std::process::Abort;
 use std::test::Fail;
 
-const FORMS: &[&str] = &[
-    "\n  fold SUPPLY BIDDERS CEILING LOG\n",
-    "\n  check AUCTION\n",
-    "\n  standing AUCTION JOURNALS\n",
-    "\n  explain AUCTION JOURNALS\n",
-    "\n  judge AUCTION JOURNALS BIDDER\n",
-    "\n  settle AUCTION JOURNALS [--json]\n",
-    "\n  serve AUCTION JOURNALS ADDRESS [--doors N] [--sessions N]\n",
-    "\n  bid AUCTION VALUES BIDDER TOKEN ADDRESS [--looks N]\n",
-    "\n  migrate OLD JOURNALS NEW TARGET\n",
-    "\n  trial AUCTION VALUES [--workers N]\n",
-    "\n  float AUCTION VALUES START\n",
-    "\n  make NUMBER [--workers N]\n",
+const FORMS: &str = "
+  fold SUPPLY BIDDERS CEILING LOG
+  check AUCTION
+  standing AUCTION JOURNALS
+  explain AUCTION JOURNALS
+  judge AUCTION JOURNALS BIDDER
+  settle AUCTION JOURNALS [--json]
+  serve AUCTION JOURNALS ADDRESS [--doors N] [--sessions N]
+  bid AUCTION VALUES BIDDER TOKEN ADDRESS [--looks N]
+  migrate OLD JOURNALS NEW TARGET
+  trial AUCTION VALUES [--workers N]
+  float AUCTION VALUES START
+  make NUMBER [--workers N]
+";
+
+const WORDS: &str = "\
+AUCTION, OLD, NEW: an auction file (crates/auction_file/README.md). VALUES: a valuation file (crates/valuation/README.md)
+JOURNALS, TARGET: a folder of journals, of which that of clock C is clock-CC.ahj. LOG: a log (docs/FORMATS.md)
+SUPPLY, START: a number of each good, joined by commas. BIDDERS, BIDDER: 1 to 12. CEILING: 2 to 10,000. NUMBER: 0 to 4,294,967,295
+TOKEN: 1 to 64 bytes. ADDRESS: HOST:PORT. N of --doors: 1 to 64; --sessions: 1 to 10,000; --looks: 1 to 1,000,000,000; --workers: 1 to 64
+README.md says what each command does, docs/FORMATS.md what it writes, docs/OPERATING.md how an auction is run";
+
+/// The names of the commands.
+const NAMES: &[&str] = &[
+    "fold", "check", "standing", "explain", "judge", "settle", "serve", "bid", "migrate", "trial",
+    "float", "make",
 ];
 
-/// Checks that what is told of these words begins so, and has the form of each command.
-fn check_forms(rt: &(impl AllocGlobal + Abort), words: &[&str], front: &str) -> Result<(), Fail> {
-    let text = told(rt.alloc(), words, &Ended::Usage)?;
-    assert!(rt; text.as_str().starts_with(front), "{text}");
-    for form in FORMS {
-        assert!(rt; text.as_str().contains(*form), "{form}{text}");
+/// Checks what is told of these words: what is wrong, and the forms.
+fn check_wrong(rt: &(impl AllocGlobal + Abort), words: &[&str], wrong: &str) -> Result<(), Fail> {
+    let lines = format!(in rt.alloc();
+        "{wrong}; the commands are{FORMS}--help says what the words are, README.md what each command does"
+    )?;
+    check_text(rt, words, &Ended::Usage, lines.as_str())
+}
+
+#[test]
+fn words_that_are_no_command_are_told_the_forms(rt: HostRuntime) -> Result<(), Fail> {
+    check_wrong(&rt, &[], "a command is missing")?;
+    check_wrong(&rt, &["setle", "a", "b"], "\"setle\" is no command")?;
+    check_wrong(&rt, &["Settle"], "\"Settle\" is no command")?;
+    check_wrong(&rt, &[""], "\"\" is no command")
+}
+
+#[test]
+fn words_that_are_not_of_their_form_are_told_the_forms(rt: HostRuntime) -> Result<(), Fail> {
+    for name in NAMES {
+        let wrong = format!(in rt.alloc();
+            "the words behind \"{name}\" are not those of its form"
+        )?;
+        check_wrong(&rt, &[*name, "a", "--looks"], wrong.as_str())?;
     }
     Ok(())
 }
 
 #[test]
-fn words_that_are_no_command_are_told_the_forms(rt: HostRuntime) -> Result<(), Fail> {
-    check_forms(&rt, &[], "a command is missing; the commands are\n")?;
-    check_forms(&rt, &["setle", "a", "b"], "\"setle\" is no command; ")?;
-    check_forms(
-        &rt,
-        &["settle", "a"],
-        "the words behind \"settle\" are not those of its form; ",
-    )?;
-    check_forms(
-        &rt,
-        &["bid", "--looks"],
-        "the words behind \"bid\" are not ",
-    )
-}
-
-#[test]
 fn help_is_told_where_it_is_asked_for(rt: HostRuntime) -> Result<(), Fail> {
-    let front = "house_main, and the words of a command:\n";
-    for words in [&["--help"], &["-h"], &["help"]] {
-        check_forms(&rt, words, front)?;
+    let lines = format!(in rt.alloc(); "house_main, and the words of a command:{FORMS}{WORDS}")?;
+    for words in [
+        ["--help", "a"],
+        ["-h", "a"],
+        ["help", "a"],
+        ["settle", "--help"],
+        ["setle", "-h"],
+    ] {
+        check_text(&rt, &words, &Ended::Usage, lines.as_str())?;
     }
-    check_forms(&rt, &["settle", "--help"], front)
+    check_text(&rt, &["help"], &Ended::Usage, lines.as_str())
 }
 
 #[test]
