@@ -8,8 +8,9 @@ work="${TMPDIR:-/tmp}/journal_bench"
 crate="$work/crates/journal_bench"
 mkdir -p "$crate/src"
 cp "$root/HANDLES" "$work/"
-printf '%s\n' 'lot_base:' 'house_io: lot_base' 'report_journal: house_io lot_base' 'journal_bench: house_io report_journal anyhow' > "$work/crates.txt"
-for name in lot_base house_io report_journal; do
+printf '%s\n' 'lot_base:' 'byte_numbers: byteorder' 'house_io: lot_base' 'report_journal: house_io lot_base byte_numbers' \
+    'journal_bench: house_io report_journal anyhow' > "$work/crates.txt"
+for name in lot_base byte_numbers house_io report_journal; do
     rm -rf "$work/crates/$name"
     cp -r "$root/crates/$name" "$work/crates/"
 done
