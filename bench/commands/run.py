@@ -19,7 +19,7 @@ import tempfile
 
 sys.path.insert(0, str(pathlib.Path(__file__).resolve().parents[1] / "settle"))
 
-import beside as settling  # noqa: E402
+import making  # noqa: E402
 import model  # noqa: E402
 from settle import OPEN_GATE, SHORTEST_JOURNAL, Auction, Clock, Ends, first_gate, payloads, read_clock, report_in, spaced  # noqa: E402
 
@@ -104,7 +104,7 @@ def no_auction(rng, path, words):
 
 
 def journals_case(rng, folder):
-    settling.make(rng, folder)
+    making.make(rng, folder)
     return folder / "auction.toml", folder
 
 
@@ -239,12 +239,12 @@ def values_fault(rng, file, auction):
 
 def float_(rng, folder):
     path, values_path = folder / "auction.toml", folder / "values.toml"
-    supply = settling.made_supply(rng)
+    supply = making.made_supply(rng)
     while len(model.box(supply)) > MOST_BUNDLES:
-        supply = settling.made_supply(rng)
+        supply = making.made_supply(rng)
     bidders, version = rng.randint(1, rng.choice((3, 5, MOST_BIDDERS))), rng.choice((1, 2))
     ceiling = rng.choice((5, 10, 20))
-    settling.write_auction(path, rng, supply, bidders, version, ceiling)
+    making.write_auction(path, rng, supply, bidders, version, ceiling)
     auction = Auction(path)
     values = [Values(rng, supply, ceiling) for _ in range(bidders)]
     values_path.write_text("".join(value.text for value in values))
