@@ -304,14 +304,35 @@ fn nothing_sold(alloc: Global, zeros: &[u16], prices: &[u32], bidders: u8) -> Op
     })
 }
 
-/// The outcome in which nothing of so many goods is sold, as a text.
-fn text_of_nothing(alloc: Global, goods: usize, bidders: u8) -> Option<Vec<u8>> {
+/// The outcome in which nothing of so many goods is sold.
+fn outcome_of_nothing(alloc: Global, goods: usize, bidders: u8) -> Option<Outcome> {
     if goods > 6 {
         return None;
     }
-    match nothing_sold(alloc, &[0; 6][..goods], &[0; 6][..goods], bidders) {
+    nothing_sold(alloc, &[0; 6][..goods], &[0; 6][..goods], bidders)
+}
+
+/// It as a text.
+fn text_of_nothing(alloc: Global, goods: usize, bidders: u8) -> Option<Vec<u8>> {
+    match outcome_of_nothing(alloc, goods, bidders) {
         None => None,
         Some(outcome) => plain_of(alloc, &outcome),
+    }
+}
+
+/// How many bytes its JSON has.
+fn json_length(alloc: Global, goods: usize, bidders: u8) -> Option<usize> {
+    match outcome_of_nothing(alloc, goods, bidders) {
+        None => None,
+        Some(outcome) => length_of(json_of(alloc, &outcome)),
+    }
+}
+
+/// How many bytes were written.
+fn length_of(written: Option<Vec<u8>>) -> Option<usize> {
+    match written {
+        None => None,
+        Some(bytes) => Some(bytes.len()),
     }
 }
 
@@ -330,6 +351,17 @@ fn there_are_one_to_twelve_bidders(rt: HostRuntime) {
             let found = is_nothing_refused(rt.alloc(), goods, bidders);
             assert_eq!(rt; found, Some(refused), "{goods} goods, {bidders} bidders");
         }
+    }
+}
+
+/// Goods, bidders, and the bytes of the JSON in which nothing of these is sold.
+const LENGTHS: &[(usize, u8, usize)] = &[(1, 1, 238), (1, 12, 5119), (6, 1, 298), (6, 12, 6829)];
+
+#[test]
+fn json_holds_twelve_bidders_and_six_goods(rt: HostRuntime) {
+    for (goods, bidders, bytes) in LENGTHS {
+        let found = json_length(rt.alloc(), *goods, *bidders);
+        assert_eq!(rt; found, Some(*bytes), "{goods} goods, {bidders} bidders");
     }
 }
 
