@@ -5,7 +5,8 @@
 //! can still clear. It believes that its valuations are strong substitutes.
 //!
 //! `reference trial FILE` reads a file of numbers: goods, supplies, bidders, ceiling, then each bidder's value of each bundle, good 0 first.
-//! `reference make NUMBER` makes the auction of that number.
+//! `reference make NUMBER` makes the auction of that number. `reference journals FILE FOLDER DIGEST` writes the journals that a house
+//! would have of the clocks of an auction, whose file has that SHA-256.
 use std::fmt::Write;
 
 struct Auction {
@@ -52,8 +53,10 @@ struct Ended {
     without: Vec<i64>,
     /// The places of the last demands' bundles.
     demands: Vec<Vec<u32>>,
-    /// The packed reports: how many quantities they have.
-    kept: usize,
+    /// The quantities of all reports, one after another.
+    quantities: Vec<u16>,
+    /// Of each report, where its quantities begin, its bidder and its round.
+    places: Vec<(u32, u8, u32)>,
 }
 
 fn run_clock(auction: &Auction, all: &[Vec<u16>], units: &[Vec<i32>], number: usize) -> Ended {
@@ -85,8 +88,7 @@ fn run_clock(auction: &Auction, all: &[Vec<u16>], units: &[Vec<i32>], number: us
         }
         let step = (0..1usize << goods).max_by_key(|&set| (excess[set], -(set.count_ones() as i32), -(set as i32))).unwrap();
         if step == 0 {
-            let kept = quantities.len() + places.len();
-            return Ended { members, prices, steps, without, demands, kept };
+            return Ended { members, prices, steps, without, demands, quantities, places };
         }
         let supplied = units[step][all.len() - 1] as i64;
         for (bidder, sum) in without.iter_mut().enumerate() {
@@ -171,7 +173,39 @@ fn settle(auction: &Auction) -> (String, u64, i64, usize) {
             writeln!(text, "choice {number} {member} {}", words(&all[choices[number][at] as usize])).unwrap();
         }
     }
-    (text, clocks.iter().map(|ended| ended.steps as u64).sum(), revenue, clocks.iter().map(|ended| ended.kept).sum())
+    let kept = clocks.iter().map(|ended| ended.quantities.len() + ended.places.len()).sum();
+    (text, clocks.iter().map(|ended| ended.steps as u64).sum(), revenue, kept)
+}
+
+/// The journal of a clock: its header, an open gate and an entry for each report, and the closed gate.
+fn journal(goods: usize, number: usize, digest: &[u8], ended: &Ended) -> Vec<u8> {
+    let mut bytes = b"\xa5AHJ1".to_vec();
+    bytes.extend((number as u32).to_be_bytes());
+    bytes.extend(digest);
+    for (at, &(start, bidder, round)) in ended.places.iter().enumerate() {
+        let end = ended.places.get(at + 1).map_or(ended.quantities.len(), |next| next.0 as usize);
+        let quantities = &ended.quantities[start as usize..end];
+        bytes.push(0xa5);
+        bytes.extend((8 + 2 * quantities.len() as u32).to_be_bytes());
+        bytes.push(bidder);
+        bytes.extend(round.to_be_bytes());
+        bytes.push(goods as u8);
+        bytes.extend(((quantities.len() / goods) as u16).to_be_bytes());
+        bytes.extend(quantities.iter().flat_map(|quantity| quantity.to_be_bytes()));
+    }
+    bytes.push(0);
+    bytes
+}
+
+/// Writes the journals of all clocks of an auction, whose file has this SHA-256.
+fn write_journals(auction: &Auction, folder: &str, digest: &str) {
+    let digest: Vec<u8> = (0..32).map(|place| u8::from_str_radix(&digest[2 * place..2 * place + 2], 16).unwrap()).collect();
+    let all = bundles(&auction.supply);
+    let units = units_of(&auction.supply, &all);
+    for number in 0..=auction.bidders {
+        let ended = run_clock(auction, &all, &units, number);
+        std::fs::write(format!("{folder}/clock-{number:02}.ahj"), journal(auction.supply.len(), number, &digest, &ended)).unwrap();
+    }
 }
 
 fn made(number: u32) -> Auction {
@@ -245,6 +279,7 @@ fn main() {
                 println!("make {number} goods 3 bidders 12 clocks 13 steps {steps} revenue {revenue}");
             }
         }
+        "journals" => write_journals(&read(&words[2]), &words[3], &words[4]),
         _ => print!("{}", settle(&read(&words[2])).0),
     }
 }
