@@ -29,8 +29,8 @@ const CUT_OFF: &str = "\
 the text could not be written whole to standard output
 make room for it, or keep its reader open, and ask again: what was reported is in the journals";
 
-/// What a person is told of a run of these words, those behind the program's name, that ended so: nothing where its job was done, else
-/// lines without a line end behind the last. Names and keys stand in quotes, and as they are.
+/// What a person is told of a run of these words, those after the program's name, that ended so: nothing where its job was done, else
+/// lines without a line end after the last. Names and keys stand in quotes, and as they are.
 pub fn advice(alloc: Global, words: &[String], ended: &Ended) -> Result<String, NoMemory>
     ensures done { IfOk result (λ text. ended.now ≡ how.Done → string_bytes text ≡ []) }
     ensures told { IfOk result (λ text. ended.now ≢ how.Done → string_bytes text ≢ []) }

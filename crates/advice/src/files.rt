@@ -48,13 +48,13 @@ pub(crate) fn long_file(alloc: Global, names: &Names, file: File) -> Result<Stri
     }
 }
 
-/// The lines of a log whose first faulty entry begins behind so many bytes.
+/// The lines of a log whose first faulty entry begins after so many bytes.
 pub(crate) fn bad_log(alloc: Global, names: &Names, place: u64) -> Result<String, AllocError>
     ensures { IfOk result (λ text. string_bytes text ≢ []) }
 {
     let file = log_text(alloc, names)?;
     format!(in alloc;
-        "{file}: the entry behind {place} bytes is cut off, is no report of this auction or is not taken\n\
+        "{file}: the entry after {place} bytes is cut off, is no report of this auction or is not taken\n\
         see that SUPPLY, BIDDERS and CEILING are those of the log; docs/FORMATS.md has the format"
     )
 }

@@ -69,7 +69,7 @@ fn wrong_text(alloc: Global, first: &str) -> Result<String, AllocError>
     ensures { IfOk result (λ text. string_bytes text ≢ []) }
 {
     if is_command(first) {
-        format!(in alloc; "the words behind \"{first}\" are not those of its form")
+        format!(in alloc; "the words after \"{first}\" are not those of its form")
     } else {
         format!(in alloc; "\"{first}\" is no command")
     }

@@ -166,7 +166,7 @@ pub(crate) fn other_target(
     )
 }
 
-/// The lines of a target without room for the next record, which would end behind so many bytes.
+/// The lines of a target without room for the next record, which would end after so many bytes.
 pub(crate) fn full_target(
     alloc: Global,
     names: &Names,
@@ -177,7 +177,7 @@ pub(crate) fn full_target(
 {
     let target = target_text(alloc, names, clock)?;
     format!(in alloc;
-        "{target}: it is full: its next record would end behind {needed} bytes\n\
+        "{target}: it is full: its next record would end after {needed} bytes\n\
         a journal has at most 67,108,864 bytes, and its head is longer under NEW: go on under OLD (docs/FORMATS.md)"
     )
 }

@@ -102,7 +102,7 @@ fn expected(fault: &ValuesFault) -> &'static str {
         ValuesFault::NotToml => "a TOML document in UTF-8 (https://toml.io)",
         ValuesFault::Missing(key) | ValuesFault::WrongKind(key) => expected_at(*key),
         ValuesFault::Value { .. } => {
-            "each entry 0 to the ceiling less 1; a cap, which stands behind the entries, 0 to 65,535"
+            "each entry 0 to the ceiling less 1; a cap, which stands after the entries, 0 to 65,535"
         }
         ValuesFault::Length { .. } => {
             "an entry for each bundle (table), good (unit, capped) or unit of a good (marginal)"

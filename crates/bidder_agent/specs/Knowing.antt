@@ -9,7 +9,7 @@ abbrev pub is_same : Option ℕ → ℕ → Bool
 is_same None round = false
 is_same (Some last) round = round == last
 
--- what is known behind a look
+-- what is known after a look
 abbrev pub known_behind : Known → ℕ → Phase → Known
 known_behind k round phase = record {
   last = Some round;

@@ -13,7 +13,7 @@ use Rattle.bidder_agent.specs.declared.talking.Cut.TheVariants as cut
 abbrev pub Adds : List ℕ → LinkBytes → LinkBytes → Type 0
 Adds bytes before after = (after.left ≡ before.left) × (after.written ≡ before.written ++ bytes)
 
--- all was written; or a front, behind which the link failed; or nothing, for want of memory
+-- all was written; or a front, after which the link failed; or nothing, where memory ran out
 abbrev pub IsSentBy : Result (Unit {0}) Cut → List ℕ → LinkBytes → LinkBytes → Type 0
 IsSentBy (Ok done) bytes before after = Adds bytes before after
 IsSentBy (Err cut.LinkFault) bytes before after = (given : List ℕ) × (more : List ℕ) × (bytes ≡ given ++ more) × Adds given before after

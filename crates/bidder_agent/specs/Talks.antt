@@ -129,7 +129,7 @@ has_reported clock round (e ∷ es) = is_report_at clock round e.frame || has_re
 abbrev pub report_at : (List ℕ → List ℕ) → ℕ → ℕ → List ℕ → ToHouse
 report_at demands clock round prices = house.Report clock round (record { goods = length prices; quantities = demands prices })
 
--- behind a look at a clock: a report, or on to the next clock
+-- after a look at a clock: a report, or on to the next clock
 abbrev pub behind_look : Part → List Exchange → ℕ → ToBidder → ToHouse
 behind_look p talk clock (bidder.Price c round phase prices) =
     if is_running phase && not (has_reported clock round talk) then report_at p.demands clock round prices else next_from p talk (clock + 1)
@@ -139,7 +139,7 @@ behind_look p talk clock (bidder.Again c round) = house.Quit
 behind_look p talk clock (bidder.Refused code detail value) = house.Quit
 behind_look p talk clock bidder.Bye = house.Quit
 
--- the frame behind a talk whose last exchange is this; none behind a quit
+-- the frame after a talk whose last exchange is this; none after a quit
 abbrev pub behind : Part → List Exchange → ToHouse → ToBidder → Option ToHouse
 behind p talk (house.Hello claimed token) reply = Some (next_from p talk 0)
 behind p talk (house.Look clock) reply = Some (behind_look p talk clock reply)
@@ -227,7 +227,7 @@ pub record IsNext (p : Part) (talk : List Exchange) (frame : ToHouse) : Type 0 w
   pub next : next_of p talk ≡ Some frame
   pub bears : repeats_last talk < p.looks
 
--- each frame is the one that comes next behind the exchanges before it, and each reply answers its frame
+-- each frame is the one that comes next after the exchanges before it, and each reply answers its frame
 abbrev pub IsTalk : Part → List Exchange → Type 0
 IsTalk p [] = Unit {0}
 IsTalk p (e ∷ before) = IsNext p before e.frame × (answers p.goods p.bidders (last_of before e.frame) e.frame e.reply ≡ true) × IsTalk p before

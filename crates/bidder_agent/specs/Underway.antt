@@ -61,7 +61,7 @@ abbrev pub VisitsBy : Part → List Exchange → ℕ → List SeenLook → Optio
 VisitsBy p talk clock seen told now (Ok k) = Visited p talk clock seen told now k
 VisitsBy p talk clock seen told now (Err end) = Stopped p told now end
 
--- A visit of a clock, behind any talk that leads to it.
+-- A visit of a clock, after any talk that leads to it.
 abbrev pub Visits : Part → ℕ → Known → List SeenLook → Option LinkBytes → List SeenLook → Option LinkBytes → Result Known AgentEnd → Type 0
 Visits p clock k seen now seen_after now_after result =
     (talk : List Exchange) (told : Option LinkBytes) → Stands p talk seen told now → IsNext p talk (house.Look clock) → Knows p.looks clock talk k → k.closed ≡ false

@@ -12,7 +12,7 @@ const LEAST_PAUSE: u64 = 50;
 /// The longest pause for each clock that was looked at, in microseconds.
 const GREATEST_PAUSE: u64 = 5_000;
 
-/// The pause behind the round through the clocks that an agent is in, seen as its length in microseconds: 0 where a look of this round
+/// The pause after the round through the clocks that an agent is in, seen as its length in microseconds: 0 where a look of this round
 /// showed something new.
 #[derive(Drop)]
 pub(crate) struct Pause {
@@ -31,7 +31,7 @@ impl Model for Pause {
 }
 
 impl Pause {
-    /// No pause, as behind a round with something new.
+    /// No pause, as after a round with something new.
     pub(crate) fn none() -> Pause
         ensures { result ≡ 0 }
     {

@@ -238,7 +238,7 @@ fn a_round_never_goes_back(rt: HostRuntime) -> Result<(), Fail> {
     )
 }
 
-/// Whether the talk ends by the link's fault behind these frames.
+/// Whether the talk ends by the link's fault after these frames.
 fn is_cut(
     rt: &(impl Abort + Clock),
     alloc: Global,

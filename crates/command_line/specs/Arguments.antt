@@ -1,5 +1,5 @@
--- The words behind a command's name: plain words in order, and the command's options anywhere among them. The value of an option is the
--- word behind it, or stands behind `=` in the same word.
+-- The words after a command's name: plain words in order, and the command's options anywhere among them. The value of an option is the
+-- word after it, or stands after `=` in the same word.
 use Rattle.std.specs.Prelude.{◌≡◌, ◌⊎◌, ℕ, Bool, true, false, not, ◌&&◌, ◌||◌, if◌then◌else◌, List, [], ◌∷◌, ◌++◌, codes, decimal, bytes_eq, length, take}
 use Rattle.std.specs.List.{filter, list_all, list_any}
 use Rattle.lot_base.specs.Goods.{IsRange}
@@ -28,7 +28,7 @@ begins front word = bytes_eq front (take (length front) word)
 abbrev pub with_value : List ℕ → List ℕ → List ℕ
 with_value option value = option ++ 61 ∷ value
 
--- the word is an option with a value, and the one behind it can be that value
+-- the word is an option with a value, and the one after it can be that value
 abbrev pub takes : List ℕ → List ℕ → List ℕ → Bool
 takes name word value = is_among word (valued_of name) && is_plain value
 
@@ -52,7 +52,7 @@ plain_in words = filter is_plain words
 abbrev pub others_in : List (List ℕ) → List (List ℕ)
 others_in words = filter (λ word. not (is_plain word)) words
 
--- The words behind the name of a command are these plain ones in this order, and these options of the command anywhere among them.
+-- The words after the name of a command are these plain ones in this order, and these options of the command anywhere among them.
 pub record AreArguments (name : List ℕ) (words plain options : List (List ℕ)) : Type 0 where
   pub known : list_all (is_argument name) (joined name words) ≡ true
   pub plain_are : plain ≡ plain_in (joined name words)

@@ -59,21 +59,21 @@ IsName word = is_among word command_names ≡ true
 abbrev pub IsNoCommand : List (List ℕ) → Type 0
 IsNoCommand words = (command : Command) → Spells command words → ⊥
 
--- The first word is the name of a command, and behind it are these plain words, in order, and these options of it anywhere among them.
+-- The first word is the name of a command, and after it are these plain words, in order, and these options of it anywhere among them.
 pub record IsParted (words : List (List ℕ)) (name : List ℕ) (plain options : List (List ℕ)) : Type 0 where
   pub behind : List (List ℕ)
   pub words_are : words ≡ name ∷ behind
   pub named : IsName name
   pub arguments : AreArguments name behind plain options
 
--- the words are a command's name, and plain words and options of it behind it
+-- the words are a command's name, and plain words and options of it after it
 pub record MayBeCommand (words : List (List ℕ)) : Type 0 where
   pub name : List ℕ
   pub plain : List (List ℕ)
   pub options : List (List ℕ)
   pub parted : IsParted words name plain options
 
--- The first word is the name of a command, and behind it are plain words and options of it; these are they with each option and its
+-- The first word is the name of a command, and after it are plain words and options of it; these are they with each option and its
 -- value in one word.
 pub record IsJoined (words : List (List ℕ)) (name : List ℕ) (arguments : List (List ℕ)) : Type 0 where
   pub behind : List (List ℕ)

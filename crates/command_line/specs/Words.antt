@@ -1,5 +1,5 @@
 -- The words of the command line, without the program's name. Words are lists of bytes. The first word is the command's name. A number is
--- its decimal digits, without a leading zero. No word behind the name is empty, and none begins with `-` that is not an option of its
+-- its decimal digits, without a leading zero. No word after the name is empty, and none begins with `-` that is not an option of its
 -- command. The limits of supplies, bidders and ceilings are those of `Terms`, which has no value outside them.
 use Rattle.std.specs.Prelude.{◌≢◌, ◌≤◌, ℕ, List, [], ◌∷◌, decimal, length, map, String, string_bytes, Bool, false, not, ◌==◌}
 use Rattle.std.specs.declared.alloc.Global.{Global}

@@ -1,4 +1,4 @@
-//! The words behind a command's name: plain words, and the command's options.
+//! The words after a command's name: plain words, and the command's options.
 ghost use Rattle.std.specs.Prelude.{◌≡◌, ◌<◌, ◌∷◌, All, length, string_bytes, true, IfOk, IfErr, IfSome, IfNone};
 ghost use Rattle.std.specs.List.{list_all};
 ghost use Rattle.command_line.specs.Arguments.{begins, flags_of, is_among, is_argument, is_option, joined, others_in, plain_in, takes, valued_of, with_value};
@@ -14,7 +14,7 @@ use std::alloc::{AllocError, Global};
 pub struct Joined<'a> {
     /// The first word.
     pub name: &'a str,
-    /// The words behind it.
+    /// The words after it.
     pub words: Vec<String>,
 }
 
@@ -23,13 +23,13 @@ pub struct Joined<'a> {
 pub struct Parted<'a> {
     /// The first word.
     pub name: &'a str,
-    /// The words behind it that are no option, in order.
+    /// The words after it that are no option, in order.
     pub plain: Vec<&'a str>,
-    /// The options behind it, each with its value in one word, in order.
+    /// The options after it, each with its value in one word, in order.
     pub options: Vec<&'a str>,
 }
 
-/// Joins each option with its value, if the first word is the name of a command and those behind it are plain or options of it.
+/// Joins each option with its value, if the first word is the name of a command and those after it are plain or options of it.
 pub fn join_words(alloc: Global, words: &[String]) -> Result<Option<Joined<'_>>, NoMemory>
     ensures some { IfOk result (λ o. IfSome o (λ j. IsJoined (words_of words.now) j.name.now (words_of j.words.items))) }
     ensures none { IfOk result (λ o. IfNone o (IsNoCommand (words_of words.now))) }
@@ -41,7 +41,7 @@ pub fn join_words(alloc: Global, words: &[String]) -> Result<Option<Joined<'_>>,
     join_behind(alloc, name.as_str(), behind)
 }
 
-/// The same, of the name and the words behind it.
+/// The same, of the name and the words after it.
 fn join_behind<'a>(
     alloc: Global,
     name: &'a str,
@@ -124,7 +124,7 @@ fn joined_words(alloc: Global, name: &str, words: &[String]) -> Result<Vec<Strin
     Ok(all)
 }
 
-/// The value that the word takes from those behind it, and the others, if it is an option that takes one.
+/// The value that the word takes from those after it, and the others, if it is an option that takes one.
 fn value_of<'a>(name: &str, word: &str, behind: &'a [String]) -> Option<(&'a str, &'a [String])>
     ensures some { IfSome result (λ v. joined name.now (word.now ∷ words_of behind.entry.now) ≡ with_value word.now v.0.now ∷ joined
         name.now (words_of v.1.now)) }
@@ -149,7 +149,7 @@ fn with_value(alloc: Global, option: &str, value: &str) -> Result<String, AllocE
     format!(in alloc; "{option}={value}")
 }
 
-/// Whether the word is an option with a value, and the one behind it can be that value.
+/// Whether the word is an option with a value, and the one after it can be that value.
 fn takes(name: &str, word: &str, value: &str) -> bool
     ensures { result ≡ takes name.now word.now value.now }
 {

@@ -16,7 +16,7 @@ pub fn option_examples()
     ensures dashes { IsNoCommand (codes "settle" ∷ codes "a" ∷ codes "j" ∷ codes "--" ∷ []) }
 {}
 
-/// The value of an option stands behind it or behind `=`, a number is spelled in one way, and an option that is not given has its
+/// The value of an option stands after it or after `=`, a number is spelled in one way, and an option that is not given has its
 /// default.
 pub fn value_examples()
     ensures behind { Spells (Serve (codes "a") (codes "j") (record { address = codes "h"; doors = 2; sessions = 1 }))

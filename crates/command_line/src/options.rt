@@ -11,7 +11,7 @@ use crate::digits::read_number;
 pub(crate) enum Given<'a> {
     /// No option begins so.
     Never,
-    /// One option begins so, and this is behind it.
+    /// One option begins so, and this is after it.
     Once(&'a str),
     /// More than one option begins so.
     Again,

@@ -1,4 +1,4 @@
-//! The words behind a command's name, by the ids of its arguments.
+//! The words after a command's name, by the ids of its arguments.
 ghost use Rattle.std.specs.Prelude.{◌≡◌, ◌≢◌, ◌<◌, All, length, string_bytes, IfOk, IfSome, IfNone, IsSome, IsTrue, Some, false};
 ghost use Rattle.clap.specs.Words.{app_of, first_value, found_of, rule_of};
 ghost use Rattle.command_line.specs.Positionals.{AreNamed, are_distinct, positional, positional_app, texts};

@@ -157,7 +157,7 @@ pub fn read_words<'a>(
     }
 }
 
-/// The command `fold` of the words behind its name.
+/// The command `fold` of the words after its name.
 fn read_fold<'a>(alloc: Global, words: &'a [&'a str]) -> Result<Option<CommandWords<'a>>, NoMemory>
     requires { All (λ word. IsPlainWord word.now) words.now }
     ensures some { IfOk result (λ o. IfSome o (λ command. Spells (command_as command) (codes "fold" ∷ texts words.entry.now))) }
@@ -181,7 +181,7 @@ fn read_fold<'a>(alloc: Global, words: &'a [&'a str]) -> Result<Option<CommandWo
     }
 }
 
-/// The command `check` of the words behind its name.
+/// The command `check` of the words after its name.
 fn read_check<'a>(alloc: Global, words: &'a [&'a str]) -> Result<Option<CommandWords<'a>>, NoMemory>
     requires { All (λ word. IsPlainWord word.now) words.now }
     ensures some { IfOk result (λ o. IfSome o (λ command. Spells (command_as command) (codes "check" ∷ texts words.entry.now))) }
@@ -196,7 +196,7 @@ fn read_check<'a>(alloc: Global, words: &'a [&'a str]) -> Result<Option<CommandW
     }
 }
 
-/// The command `standing` of the words behind its name.
+/// The command `standing` of the words after its name.
 fn read_standing<'a>(
     alloc: Global,
     words: &'a [&'a str],
@@ -215,7 +215,7 @@ fn read_standing<'a>(
     }
 }
 
-/// The command `explain` of the words behind its name.
+/// The command `explain` of the words after its name.
 fn read_explain<'a>(
     alloc: Global,
     words: &'a [&'a str],
@@ -234,7 +234,7 @@ fn read_explain<'a>(
     }
 }
 
-/// The command `judge` of the words behind its name, if the bidder is one of 1 to 12.
+/// The command `judge` of the words after its name, if the bidder is one of 1 to 12.
 fn read_judge<'a>(alloc: Global, words: &'a [&'a str]) -> Result<Option<CommandWords<'a>>, NoMemory>
     requires { All (λ word. IsPlainWord word.now) words.now }
     ensures some { IfOk result (λ o. IfSome o (λ command. Spells (command_as command) (codes "judge" ∷ texts words.entry.now))) }
@@ -255,7 +255,7 @@ fn read_judge<'a>(alloc: Global, words: &'a [&'a str]) -> Result<Option<CommandW
     }
 }
 
-/// The command `settle` of the plain words and the options behind its name.
+/// The command `settle` of the plain words and the options after its name.
 fn read_settle<'a>(
     alloc: Global,
     words: &'a [&'a str],
@@ -283,7 +283,7 @@ fn read_settle<'a>(
     }
 }
 
-/// The command `trial` of the plain words and the options behind its name.
+/// The command `trial` of the plain words and the options after its name.
 fn read_trial<'a>(
     alloc: Global,
     words: &'a [&'a str],
@@ -311,7 +311,7 @@ fn read_trial<'a>(
     }
 }
 
-/// The command `float` of the words behind its name, if the last one lists prices.
+/// The command `float` of the words after its name, if the last one lists prices.
 fn read_float<'a>(alloc: Global, words: &'a [&'a str]) -> Result<Option<CommandWords<'a>>, NoMemory>
     requires { All (λ word. IsPlainWord word.now) words.now }
     ensures some { IfOk result (λ o. IfSome o (λ command. Spells (command_as command) (codes "float" ∷ texts words.entry.now))) }
@@ -333,7 +333,7 @@ fn read_float<'a>(alloc: Global, words: &'a [&'a str]) -> Result<Option<CommandW
     }
 }
 
-/// The command `make` of the plain words and the options behind its name.
+/// The command `make` of the plain words and the options after its name.
 fn read_make<'a>(
     alloc: Global,
     words: &'a [&'a str],
@@ -360,7 +360,7 @@ fn read_make<'a>(
     }
 }
 
-/// The command `serve` of the plain words and the options behind its name.
+/// The command `serve` of the plain words and the options after its name.
 fn read_serve<'a>(
     alloc: Global,
     words: &'a [&'a str],
@@ -396,7 +396,7 @@ fn read_serve<'a>(
     }
 }
 
-/// The command `bid` of the plain words and the options behind its name.
+/// The command `bid` of the plain words and the options after its name.
 fn read_bid<'a>(
     alloc: Global,
     words: &'a [&'a str],
@@ -449,7 +449,7 @@ fn bid_of<'a>(matches: &ArgMatches<'a>, looks: u32) -> Option<CommandWords<'a>>
     })
 }
 
-/// The command `migrate` of the words behind its name.
+/// The command `migrate` of the words after its name.
 fn read_migrate<'a>(
     alloc: Global,
     words: &'a [&'a str],

@@ -68,7 +68,7 @@ AreLives value auction journals first (l ∷ ls) last =
 abbrev pub IsOfferOf : ℕ → Report → Offered → Turn HousePassOf → Type 0
 IsOfferOf clock r answer t = t.asked ≡ Some (asked.Offer clock r.bidder r.round r.demand answer)
 
--- The turn is one of a session at these doors, behind these turns of it.
+-- The turn is one of a session at these doors, after these turns of it.
 pub record IsTurnAt (doors : List (DoorRun DoorShown LinkShown)) (earlier : List (Turn HousePassOf)) (turn : Turn HousePassOf) : Type 0 where
   pub door : DoorRun DoorShown LinkShown
   pub at_door : Contains doors door

@@ -7,7 +7,7 @@ use Rattle.house_io.proofs.Moments.{only_settled}
 use Rattle.house_lives.specs.Crashes.{FailedSince, IsCrashed}
 use Rattle.house_lives.specs.Lives.{LeadsTo}
 
--- The first life wrote 7 and a closed gate behind the gate, and was killed before these were synced.
+-- The first life wrote 7 and a closed gate after the gate, and was killed before these were synced.
 abbrev killed : Moments
 killed = wrote 2 (7 ∷ 0 ∷ []) (opened (1 ∷ 0 ∷ []))
 

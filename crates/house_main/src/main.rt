@@ -46,7 +46,7 @@ fn advise(rt: &HostRuntime, words: &[String], ended: &Ended) {
     }
 }
 
-/// The words of the command line behind the program's name.
+/// The words of the command line after the program's name.
 fn words(rt: &HostRuntime) -> io::Result<Vec<String>> {
     let mut words = Vec::new(rt.alloc());
     for word in env::args(rt)?.skip(1) {

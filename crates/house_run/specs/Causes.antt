@@ -98,8 +98,8 @@ pub record IsBadLog (log : Log) (place : ℕ) (shelf : ShelfSeen) : Type 0 where
 abbrev pub MayReadValues : Needs → ShelfSeen → List ℕ → Type 0
 MayReadValues needs shelf auction = (terms : Terms) × ComesToValues shelf auction needs.bidder needs.start terms
 
--- When a job may end so without a text, by what it found on the shelf. Usage and a write fault are no ends of a job, want of memory is free,
--- and the ends by the net, and those of moving journals, stand in tables of their own.
+-- When a job may end so without a text, by what it found on the shelf. Usage and a write fault are no ends of a job, memory may run out at
+-- any time, and the ends by the net, and those of moving journals, stand in tables of their own.
 abbrev pub MayEnd : Needs → Outside → Ended → Type 0
 MayEnd needs seen how.NoMemory = ⊤
 MayEnd needs seen how.ReadFault = SourceFailed needs seen.shelf

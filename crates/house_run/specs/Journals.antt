@@ -61,7 +61,7 @@ pub record IsRefusedJournal (files : Option (List NamedFile)) (terms : Terms) (d
   pub refusal : IsRefusal fault
   pub in_file : IfTells files (λ told. IsOpening (owner_of terms clock digest) (content told name) (Err fault))
 
--- this clock's journal is refused so, behind the histories of the clocks before it
+-- this clock's journal is refused so, after the histories of the clocks before it
 pub record IsFirstRefused (files : Option (List NamedFile)) (terms : Terms) (digest journals : List ℕ) (clock : ℕ) (fault : OpenFault) : Type 0 where
   pub earlier : List ClockHistory
   pub from_journals : AreFromJournals files terms digest journals clock earlier

@@ -88,7 +88,7 @@ pub record IsNotPrefix (clock number : ℕ) (shelf : ShelfSeen) (old journals ne
   pub earlier : IfTells shelf.files (λ told. (k : ℕ) → k < clock → IsFrontAt told target terms digest histories k)
   pub off : IfTells shelf.files (λ told. (c d : ClockHistory) → StandsForHistory (owner_of terms clock digest) c (content told (journal_name target clock)) → IsNoFrontAt number c.reports (slice_index_or histories clock d).reports)
 
--- All targets open and are fronts, and the next record of this clock's would end behind the limit.
+-- All targets open and are fronts, and the next record of this clock's would end after the limit.
 pub record IsFull (clock needed : ℕ) (shelf : ShelfSeen) (old journals new target : List ℕ) : Type 0 where
   pub histories : List ClockHistory
   pub terms : Terms

@@ -63,7 +63,7 @@ abbrev pub first_journals : List ℕ → ℕ → List (List ℕ)
 first_journals journals zero = []
 first_journals journals (suc clock) = first_journals journals clock ++ journal_name journals clock ∷ []
 
--- these names opened in turn, behind those before
+-- these names opened in turn, after those before
 abbrev pub with_names : List (List ℕ) → List (List ℕ) → List (List ℕ)
 with_names [] before = before
 with_names (name ∷ names) before = with_names names (with_name name before)

@@ -39,7 +39,7 @@ status_of (how.BadTarget clock fault) = 23
 status_of (how.StartCount found) = 24
 status_of (how.StartRange good value) = 25
 
--- want of memory has no line, and no number
+-- that memory ran out has no line, and no number
 abbrev pub number_of : AuctionFault → ℕ
 number_of fault.NotToml = 1
 number_of (fault.Missing key) = 2
@@ -56,7 +56,7 @@ number_of (fault.BadSupply good value) = 12
 number_of (fault.Opening good value) = 13
 number_of fault.NoMemory = 0
 
--- the number of each fault of a valuation file; want of memory has none
+-- the number of each fault of a valuation file; that memory ran out has none
 abbrev pub values_number : ValuesFault → ℕ
 values_number values.NotToml = 1
 values_number (values.Missing key) = 2
@@ -70,7 +70,7 @@ values_number (values.UnknownKey key) = 9
 values_number (values.Form bidder) = 10
 values_number values.NoMemory = 0
 
--- the record at which a journal is refused, 0 for its header; a fault of the disk and want of memory have none
+-- the record at which a journal is refused, 0 for its header; a fault of the disk and memory that ran out have none
 abbrev pub record_of : OpenFault → ℕ
 record_of (why.Broken broken) = broken.number
 record_of (why.NotAcceptable number judgement) = number

@@ -71,7 +71,7 @@ pub enum Ended {
     },
     /// The file is longer than its limit.
     TooLong(File),
-    /// The first faulty entry of the log begins behind so many bytes.
+    /// The first faulty entry of the log begins after so many bytes.
     BadLog(u64),
     /// The house refused a frame of the bidder's agent. `docs/FORMATS.md` says what each code, its detail and its value mean.
     Refused {
@@ -93,7 +93,7 @@ pub enum Ended {
         clock: u8,
         number: u32,
     },
-    /// The next record of this clock's target would end at `needed`, behind 67,108,864.
+    /// The next record of this clock's target would end at `needed`, after 67,108,864.
     TargetFull {
         clock: u8,
         needed: u32,
@@ -148,7 +148,7 @@ impl Ended {
     }
 }
 
-/// The number of a fault in its line; want of memory has none.
+/// The number of a fault in its line; that memory ran out has none.
 pub(crate) fn fault_number(fault: &AuctionFault) -> u8
     ensures { result ≡ number_of fault.now }
 {
@@ -170,7 +170,7 @@ pub(crate) fn fault_number(fault: &AuctionFault) -> u8
     }
 }
 
-/// The number of a fault of a valuation file in its line; want of memory has none.
+/// The number of a fault of a valuation file in its line; that memory ran out has none.
 pub(crate) fn values_number(fault: &ValuesFault) -> u8
     ensures { result ≡ values_number fault.now }
 {

@@ -192,7 +192,7 @@ impl Numbers<'_> {
         Ok(Some(Choice::from_vec(bundles)))
     }
 
-    /// What the next member of a clock chooses, behind the numbers of the clock and of the member.
+    /// What the next member of a clock chooses, after the numbers of the clock and of the member.
     fn choice(&mut self, goods: u8) -> Option<Bundle>
         requires { IsRange 1 6 goods }
         ensures fit { IfSome result (IsBundleOf goods) }
@@ -204,7 +204,7 @@ impl Numbers<'_> {
         self.bundle(goods)
     }
 
-    /// The steps and the prices of the next clock, behind its number.
+    /// The steps and the prices of the next clock, after its number.
     fn clock_head(&mut self, goods: u8) -> Option<(u32, Prices)>
         requires { IsRange 1 6 goods }
         ensures fit { IfSome result (λ head. ArePricesOf goods head.1) }

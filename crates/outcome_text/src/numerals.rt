@@ -8,7 +8,7 @@ use lot_base::{Bundle, Prices};
 use std::alloc::AllocError;
 use std::fmt::Write;
 
-/// Writes each price behind a blank.
+/// Writes each price after a blank.
 pub fn write_prices(text: &mut String, prices: &Prices) -> Result<(), AllocError>
     ensures { OnOk result (string_bytes text.new ≡ string_bytes text.old ++ spaced (numerals prices.now)) }
 {
@@ -19,7 +19,7 @@ pub fn write_prices(text: &mut String, prices: &Prices) -> Result<(), AllocError
     Ok(())
 }
 
-/// Writes each quantity of a bundle behind a blank.
+/// Writes each quantity of a bundle after a blank.
 pub fn write_bundle(text: &mut String, bundle: &Bundle) -> Result<(), AllocError>
     ensures { OnOk result (string_bytes text.new ≡ string_bytes text.old ++ spaced (numerals bundle.now)) }
 {
@@ -30,7 +30,7 @@ pub fn write_bundle(text: &mut String, bundle: &Bundle) -> Result<(), AllocError
     Ok(())
 }
 
-/// Writes the name of an amount and the amount, each behind a blank.
+/// Writes the name of an amount and the amount, each after a blank.
 pub fn write_amount(text: &mut String, name: &str, amount: i64) -> Result<(), AllocError>
     ensures { OnOk result (string_bytes text.new ≡ string_bytes text.old ++ spaced (name.now ∷ signed_decimal amount ∷ [])) }
 {

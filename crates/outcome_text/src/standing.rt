@@ -37,7 +37,7 @@ fn standing_text(alloc: Global, clock: u8, look: &Look, missing: u8) -> Result<S
     Ok(text)
 }
 
-/// Writes how the clock stands, behind a blank.
+/// Writes how the clock stands, after a blank.
 fn write_phase(text: &mut String, phase: Phase) -> Result<(), AllocError>
     ensures { OnOk result (string_bytes text.new ≡ string_bytes text.old ++ spaced (phase_words phase)) }
 {
@@ -48,7 +48,7 @@ fn write_phase(text: &mut String, phase: Phase) -> Result<(), AllocError>
     }
 }
 
-/// Writes who is missing where the clock is running, behind a blank.
+/// Writes who is missing where the clock is running, after a blank.
 fn write_missing(text: &mut String, phase: Phase, missing: u8) -> Result<(), AllocError>
     ensures { OnOk result (string_bytes text.new ≡ string_bytes text.old ++ spaced (missing_words phase missing)) }
 {

@@ -131,7 +131,7 @@ fn is_refused_with(alloc: Global, old: &str, new: &str) -> Option<bool> {
     }
 }
 
-/// The text of one bidder with a byte that is no text behind it.
+/// The text of one bidder with a byte that is no text after it.
 fn with_no_text(alloc: Global) -> Option<Vec<u8>> {
     match ONE_BIDDER.as_bytes().to_vec(alloc) {
         Err(_) => None,

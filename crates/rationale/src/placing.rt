@@ -31,7 +31,7 @@ pub(crate) fn show_costs(goods: &Goods, prices: &Prices, costs: &mut [u64])
     }
 }
 
-/// Writes, behind what the first bundles cost, what the same bundles cost with 1 to so many units of one good more in front of
+/// Writes, after what the first bundles cost, what the same bundles cost with 1 to so many units of one good more in front of
 /// them.
 fn spread(costs: &mut [u64], size: usize, units: u16, price: u32)
     requires some { 1 ≤ size }

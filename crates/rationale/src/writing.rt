@@ -72,7 +72,7 @@ fn add_link(
     }
 }
 
-/// Behind which place of the cycle the path is turned: the place whose link is least.
+/// After which place of the cycle the path is turned: the place whose link is least.
 fn turning_place(path: &[u16], first: usize, parents: &[Option<Parent>]) -> usize
     requires first { first < length path.now }
     requires places { (k : ℕ) → k < length path.now → slice_index path.now k < length parents.now }

@@ -39,8 +39,8 @@ pub record IsLogOf (terms : Terms) (c : ClockHistory) (bytes : List ℕ) : Type 
   pub legal : IsLegal c
   pub entries : bytes ≡ entries_of (length terms.goods) c.reports
 
--- The bytes before the place are a log, and there are bytes behind it. These do not begin with the entry of any report whose
--- demand is one of the supply and which is judged Take behind the reports of that log.
+-- The bytes before the place are a log, and there are bytes after it. These do not begin with the entry of any report whose
+-- demand is one of the supply and which is judged Take after the reports of that log.
 pub record IsFaultyAt (terms : Terms) (bytes : List ℕ) (place : ℕ) : Type 0 where
   pub before : ClockHistory
   pub log : IsLogOf terms before (take place bytes)

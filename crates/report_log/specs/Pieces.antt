@@ -13,7 +13,7 @@ use Rattle.report_log.specs.declared.entries.Front.TheVariants as front
 use Rattle.report_log.specs.declared.entries.Stop.{Stop}
 use Rattle.report_log.specs.declared.entries.Stop.TheVariants as stop
 
--- the bytes begin with the entry of this report, which is judged Take behind a history
+-- the bytes begin with the entry of this report, which is judged Take after a history
 pub record IsEntry (terms : Terms) (c : ClockHistory) (bytes : List ℕ) (r : Report) (rest : List ℕ) : Type 0 where
   pub demand : IsDemand terms.goods r.demand
   pub take : judgement_of c r ≡ Take

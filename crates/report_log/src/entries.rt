@@ -16,7 +16,7 @@ use std::alloc::Global;
 
 /// What lies at the front of a log's bytes.
 pub(crate) enum Front<'a> {
-    /// The entry of a report that the clock takes, and the bytes behind it.
+    /// The entry of a report that the clock takes, and the bytes after it.
     Entry(Report, &'a [u8]),
     /// The front of an entry at most.
     Unfinished,

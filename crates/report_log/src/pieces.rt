@@ -21,7 +21,7 @@ const LIMIT: u64 = GREATEST_FILE as u64;
 /// The most bytes that one pull asks for.
 const PIECE: usize = 65_536;
 
-/// Room for the front of an entry, and a piece behind it.
+/// Room for the front of an entry, and a piece after it.
 const ROOM: usize = 4 + GREATEST_PAYLOAD as usize + PIECE;
 
 /// Why a log gives no clock.
@@ -31,7 +31,7 @@ pub enum LogFault {
     Failed,
     /// The log has more than 67,108,864 bytes.
     TooLong,
-    /// The first faulty entry begins behind so many bytes.
+    /// The first faulty entry begins after so many bytes.
     Faulty(u64),
     /// Memory ran out.
     NoMemory,
@@ -47,7 +47,7 @@ struct LogReader {
 }
 
 impl LogReader {
-    /// Takes the entries at the front of the bytes, the last of those so far, and answers how many it wants again, with more behind them.
+    /// Takes the entries at the front of the bytes, the last of those so far, and answers how many it wants again, with more after them.
     fn take(
         &mut self,
         alloc: Global,
@@ -97,7 +97,7 @@ impl LogReader {
     }
 }
 
-/// Pulls at most so many bytes behind those that the buffer holds.
+/// Pulls at most so many bytes after those that the buffer holds.
 fn pull_behind<R: Source>(
     source: &mut R,
     buffer: &mut [u8],

@@ -207,7 +207,7 @@ fn files_of_no_use_have_their_lines(rt: HostRuntime) -> Result<(), Fail> {
         &rt,
         FOLD,
         &Ended::BadLog(67_108_863),
-        r#""reports.log": the entry behind 67108863 bytes is cut off, is no report of this auction or is not taken
+        r#""reports.log": the entry after 67108863 bytes is cut off, is no report of this auction or is not taken
 see that SUPPLY, BIDDERS and CEILING are those of the log; docs/FORMATS.md has the format"#,
     )?;
     check_text(

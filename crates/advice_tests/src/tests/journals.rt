@@ -70,7 +70,7 @@ const CHANGED: &str =
     "no crash does that: go on with a copy of the folder (docs/OPERATING.md); docs/FORMATS.md has the bytes of a journal";
 
 /// Checks what is told of a journal and of a target that is refused for this fault. Both lines differ in the auction file alone, which
-/// stands between what is wrong and what is wrong behind it.
+/// stands between what is wrong and what is wrong after it.
 fn check_lines(
     rt: &(impl AllocGlobal + Abort),
     fault: OpenFault,
@@ -88,7 +88,7 @@ fn check_lines(
     check_text(rt, MIGRATE, &refused, target.as_str())
 }
 
-/// A record and a cause, what is told of them, whether the name of the auction file stands behind that, and what to do.
+/// A record and a cause, what is told of them, whether the name of the auction file stands after that, and what to do.
 type Row = (u32, JournalCause, &'static str, bool, &'static str);
 
 const ROWS: &[Row] = &[
@@ -255,7 +255,7 @@ a target is empty, or has the first reports of its journal: take another folder 
             clock: 12,
             needed: 67_108_865,
         },
-        r#""moved/clock-12.ahj": it is full: its next record would end behind 67108865 bytes
+        r#""moved/clock-12.ahj": it is full: its next record would end after 67108865 bytes
 a journal has at most 67,108,864 bytes, and its head is longer under NEW: go on under OLD (docs/FORMATS.md)"#,
     )
 }

@@ -140,7 +140,7 @@ fn faults_have_their_lines(rt: HostRuntime) -> Result<(), Fail> {
                 place: 3,
             },
             "what stands at place 3 (counted from 0) of bidder 12 is out of range",
-            "each entry 0 to the ceiling less 1; a cap, which stands behind the entries, 0 to 65,535",
+            "each entry 0 to the ceiling less 1; a cap, which stands after the entries, 0 to 65,535",
         ),
         (
             ValuesFault::Length {

@@ -74,7 +74,7 @@ fn push_taken(bytes: &mut Vec<u8>, clock: u8, round: u8) -> Result<(), Fail> {
     Ok(())
 }
 
-/// What comes behind a look at a clock in a round of the talk: all clocks run in round 1 of theirs, clock 12 from the third round of
+/// What comes after a look at a clock in a round of the talk: all clocks run in round 1 of theirs, clock 12 from the third round of
 /// the talk on in round 2; the fifth round shows all ended.
 fn push_replies(bytes: &mut Vec<u8>, clock: u8, turn: u32) -> Result<(), Fail> {
     let round = if clock == 12 && turn >= 3 { 2 } else { 1 };

@@ -64,7 +64,7 @@ const ENDS: &[&[u8]] = &[ENDED_0, ENDED_2, BYE];
 /// A round in which the second clock ends.
 const ENDED_FIRST: &[&[u8]] = &[RUNNING_0, ENDED_2];
 
-/// The other clock ends behind it.
+/// The other clock ends after it.
 const ENDED_LAST: &[&[u8]] = &[ENDED_0, BYE];
 
 /// Clock 2 runs in round 2, at a price of 1.

@@ -33,7 +33,7 @@ pub(super) const FIRST: usize = 1;
 
 pub(super) const SECOND: usize = 2;
 
-/// These frames, one behind another. Nothing, here and below, where there is no memory.
+/// These frames, one after another. Nothing, here and below, where there is no memory.
 pub(super) fn joined(alloc: Global, frames: &[&[u8]]) -> Option<Vec<u8>> {
     let mut all = Vec::new(alloc);
     for frame in frames {

@@ -29,7 +29,7 @@ const TARGET: usize = 4;
 /// How many calls on it are tried: more than a migration makes.
 const CALLS: u64 = 20;
 
-/// What is left of a text behind this front, if it begins with it. Nothing, here and below, where there is no memory.
+/// What is left of a text after this front, if it begins with it. Nothing, here and below, where there is no memory.
 fn rest_behind<'a>(text: &'a [u8], front: &str) -> Option<&'a [u8]> {
     if text.starts_with(front.as_bytes()) {
         text.get(front.len()..)
@@ -38,7 +38,7 @@ fn rest_behind<'a>(text: &'a [u8], front: &str) -> Option<&'a [u8]> {
     }
 }
 
-/// Whether both files settle, and alike behind these fronts.
+/// Whether both files settle, and alike after these fronts.
 fn settle_alike(
     rt: &(impl Threads + Wait + Sync + Clock),
     alloc: Global,
@@ -84,7 +84,7 @@ fn what_was_acknowledged_before_a_move_settles_behind_it(rt: HostRuntime) {
     }
 }
 
-/// Whether a migration is stopped where it is killed so, and one behind it is done and leaves these journals.
+/// Whether a migration is stopped where it is killed so, and one after it is done and leaves these journals.
 fn outlives(
     rt: &(impl Threads + Wait + Sync + Clock),
     alloc: Global,
@@ -120,7 +120,7 @@ fn outlives_each(
     Some(false)
 }
 
-/// The same behind the three lives.
+/// The same after the three lives.
 fn outlives_all(rt: &(impl Threads + Wait + Sync + Clock), alloc: Global) -> Option<bool> {
     let (told, journals) = lived(rt, alloc, 0)?;
     Some(told && outlives_each(rt, alloc, &journals)?)

@@ -124,7 +124,7 @@ impl Lived {
     }
 }
 
-/// What a shelf and a net show behind a life.
+/// What a shelf and a net show after a life.
 fn shown(alloc: Global, shelf: &ListShelf, net: &SureNet) -> Option<Lived> {
     let replies = replies_in(alloc, net)?;
     let journals = journals_in(alloc, shelf)?;

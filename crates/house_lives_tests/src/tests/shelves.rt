@@ -37,10 +37,10 @@ const JOURNALS: &[&str] = &[
 /// The room of a disk, in bytes and in calls.
 const DISK_ROOM: u32 = 2_000;
 
-/// How many calls fail behind a kill: more than a life makes.
+/// How many calls fail after a kill: more than a life makes.
 const CALLS_BEHIND: u64 = 100;
 
-/// Where a run is killed: at the first of these calls on this journal. It is read as one in which that call and all behind it fail.
+/// Where a run is killed: at the first of these calls on this journal. It is read as one in which that call and all after it fail.
 #[derive(Clone, Copy)]
 pub(super) struct Kill {
     /// The number of the journal: that of its clock, and 3 more under the newer file.

@@ -16,13 +16,13 @@ bidder 2 award 0 debit 0 credit 0 pays 0
 clock 0 steps 0 prices 0
 ";
 
-/// How many calls behind the one that writes a record the gate before it is opened: a sync is between.
+/// How many calls after the one that writes a record the gate before it is opened: a sync is between.
 const TO_GATE: u64 = 2;
 
 /// How many calls on a journal a life makes at most before its first append.
 const MOST_CALLS: u64 = 20;
 
-/// How many bytes bob's record takes behind its gate: its length, its payload and the next gate.
+/// How many bytes bob's record takes after its gate: its length, its payload and the next gate.
 const BEHIND: usize = 17;
 
 /// The call on a journal that writes the record of a bidder's second report: the first at which a kill makes a fault of it.
@@ -95,7 +95,7 @@ fn was_kept(third: &Lived) -> bool {
     was_answered(third, 0, (AGAIN_0, TAKEN_2)) && was_answered(third, 1, (AGAIN_0, TAKEN_1))
 }
 
-/// The journals behind the three lives, with these bytes where the power went, and whether they go so.
+/// The journals after the three lives, with these bytes where the power went, and whether they go so.
 pub(super) fn lived(
     rt: &(impl Threads + Wait + Sync + Clock),
     alloc: Global,

@@ -20,7 +20,7 @@ pub(super) fn words_of(alloc: Global, words: &[&str]) -> Option<Vec<String>> {
     Some(copies)
 }
 
-/// The bytes of these pieces, one behind another.
+/// The bytes of these pieces, one after another.
 pub(super) fn joined(alloc: Global, pieces: &[&[u8]]) -> Option<Vec<u8>> {
     let mut all = Vec::new(alloc);
     for piece in pieces {
@@ -29,7 +29,7 @@ pub(super) fn joined(alloc: Global, pieces: &[&[u8]]) -> Option<Vec<u8>> {
     Some(all)
 }
 
-/// The bytes of these texts, one behind another.
+/// The bytes of these texts, one after another.
 pub(super) fn joined_text(alloc: Global, texts: &[&str]) -> Option<Vec<u8>> {
     let mut all = Vec::new(alloc);
     for text in texts {

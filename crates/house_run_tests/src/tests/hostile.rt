@@ -22,7 +22,7 @@ const GATE_AND_FORMAT: &[u8] = b"\xa5AHJ1\x00\x00\x00\x00";
 enum By {
     /// The frames of a link.
     Frames,
-    /// A session behind ada's hello: how it ended, and what was written.
+    /// A session after ada's hello: how it ended, and what was written.
     Session,
     /// The reader of auction files.
     Auction,
@@ -139,7 +139,7 @@ const CASES: &[Case] = &[
     ),
 ];
 
-/// The bytes so many times, behind a front.
+/// The bytes so many times, after a front.
 fn repeated(alloc: Global, front: &[u8], bytes: &[u8], times: usize) -> Option<Vec<u8>> {
     let mut all = front.to_vec(alloc).ok()?;
     for _time in 0..times {
@@ -153,7 +153,7 @@ fn text_of(alloc: Global, text: &str) -> Option<String> {
     String::from_str(alloc, text).ok()
 }
 
-/// How many frames are read, and the fault behind them.
+/// How many frames are read, and the fault after them.
 fn frames_answer(alloc: Global, bytes: &[u8]) -> Option<String> {
     let feed = Reader::<ToHouse>::new(alloc).feed(bytes).ok()?;
     format!(in alloc; "frames {} {:?}", feed.frames.len(), feed.fault).ok()
@@ -264,7 +264,7 @@ fn session_answer(
     with_replies(alloc, line.as_str(), &net)
 }
 
-/// The journal of the clock of all bidders with these bytes behind its header.
+/// The journal of the clock of all bidders with these bytes after its header.
 fn journal_with<'a>(alloc: Global, digest: &'a [u8], bytes: &'a [u8]) -> Option<Vec<u8>> {
     joined(alloc, &[GATE_AND_FORMAT, digest, bytes])
 }
