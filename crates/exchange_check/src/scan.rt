@@ -91,6 +91,36 @@ fn is_exchanged(
     false
 }
 
+/// The first good that is not exchanged at these bundles.
+fn first_good_broken(
+    supply: &[u16],
+    strides: &[usize; 6],
+    values: &[u16],
+    x: usize,
+    y: usize,
+    free_x: &[u16; 6],
+) -> Option<u8>
+    requires goods { length supply.now ≤ 6 }
+    requires strides { AreStrides supply.now strides.now }
+    requires size { box_size supply.now ≤ 2048 }
+    requires x { x < box_size supply.now }
+    requires y { y < box_size supply.now }
+    requires free_x { AreFree supply.now x free_x.now }
+    ensures some { IfSome result (λ good. (good < length supply.now)
+        × (IsExchanged (valuation_of supply.now values.now) (bundle_at supply.now x) (bundle_at supply.now y) good → ⊥)
+        × ((c : ℕ) → c < good → IsExchanged (valuation_of supply.now values.now) (bundle_at supply.now x) (bundle_at supply.now y) c)) }
+    ensures none { IfNone result ((c : ℕ) → c < length supply.now
+        → IsExchanged (valuation_of supply.now values.now) (bundle_at supply.now x) (bundle_at supply.now y) c) }
+{
+    let free_y = free_units(supply, strides, y);
+    for good in 0..supply.len() {
+        if !is_exchanged(supply, strides, values, x, y, free_x, &free_y, good) {
+            return Some(good as u8);
+        }
+    }
+    None
+}
+
 /// The first triple that is not exchanged.
 pub(crate) fn first_broken(
     supply: &[u16],
@@ -108,17 +138,9 @@ pub(crate) fn first_broken(
     for x in 0..size {
         let free_x = free_units(supply, strides, x as usize);
         for y in 0..size {
-            let free_y = free_units(supply, strides, y as usize);
-            for good in 0..supply.len() {
-                if !is_exchanged(
-                    supply, strides, values, x as usize, y as usize, &free_x, &free_y, good,
-                ) {
-                    return Some(Triple {
-                        x,
-                        y,
-                        good: good as u8,
-                    });
-                }
+            match first_good_broken(supply, strides, values, x as usize, y as usize, &free_x) {
+                Some(good) => return Some(Triple { x, y, good }),
+                None => {}
             }
         }
     }

@@ -1,4 +1,4 @@
-use Rattle.std.proofs.Common.{ℕ, List, arith, below_more, subst}
+use Rattle.std.proofs.Common.{ℕ, List, arith, subst}
 use Rattle.exchange_check.proofs.scan.first_broken.Goals as goal
 use Rattle.lot_base.specs.Box.{bundle_at, index_of}
 use Rattle.valuation.specs.Values.{valuation_of}
@@ -6,11 +6,6 @@ use Rattle.exchange_check.specs.Exchange.{IsExchanged}
 use Rattle.lot_base.proofs.Vec.{within_from_at, length-below}
 use Rattle.lot_base.proofs.Index.{index_of-small}
 use Rattle.lot_base.proofs.Index.{bundle_at-index_of}
-
-pub loop-good-preserved : goal.loop-good-preserved
-loop-good-preserved c =
-    let i = c.loop-good.invariant in
-    (i.0, i.1, below_more _ _ i.2 (c.is_exchanged.ensures.0 c.if-not-is_exchanged.false))
 
 pub returns-clause-none : goal.returns-clause-none
 returns-clause-none c = λ x y k bx by h.

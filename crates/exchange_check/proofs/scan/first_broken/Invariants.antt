@@ -13,9 +13,3 @@ abbrev pub invariant-loop-y : goal.invariant-loop-y
 invariant-loop-y l =
     ((a b c : ℕ) → a < l.x → b < box_size l.supply → c < length l.supply → IsExchanged (valuation_of l.supply l.values) (bundle_at l.supply a) (bundle_at l.supply b) c)
     × ((b c : ℕ) → b < l.y → c < length l.supply → IsExchanged (valuation_of l.supply l.values) (bundle_at l.supply l.x) (bundle_at l.supply b) c)
-
-abbrev pub invariant-loop-good : goal.invariant-loop-good
-invariant-loop-good l =
-    ((a b c : ℕ) → a < l.x → b < box_size l.supply → c < length l.supply → IsExchanged (valuation_of l.supply l.values) (bundle_at l.supply a) (bundle_at l.supply b) c)
-    × ((b c : ℕ) → b < l.y → c < length l.supply → IsExchanged (valuation_of l.supply l.values) (bundle_at l.supply l.x) (bundle_at l.supply b) c)
-    × ((c : ℕ) → c < l.good → IsExchanged (valuation_of l.supply l.values) (bundle_at l.supply l.x) (bundle_at l.supply l.y) c)
