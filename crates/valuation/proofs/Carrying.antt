@@ -89,7 +89,7 @@ best_is s worth u p best whole c g =
     let is = top.is in
     omega (arith, ints)
 
-filter-same : (t r : List ℕ → Bool) (xs : List (List ℕ)) → ((x : List ℕ) → IsIn x xs → t x ≡ r x) → filter t xs ≡ filter r xs
+pub filter-same : (t r : List ℕ → Bool) (xs : List (List ℕ)) → ((x : List ℕ) → IsIn x xs → t x ≡ r x) → filter t xs ≡ filter r xs
 filter-same t r [] same = refl
 filter-same t r (x ∷ xs) same =
     (λ i. cond (same x (inl refl) i) (x ∷ filter t xs) (filter t xs))

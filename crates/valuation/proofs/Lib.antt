@@ -5,6 +5,7 @@ pub mod FileRead
 pub mod Greatest
 pub mod Long
 pub mod Mapped
+pub mod Odometer
 pub mod Marginal
 pub mod Spread
 pub mod Steady

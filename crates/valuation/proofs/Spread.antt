@@ -11,7 +11,7 @@ use Rattle.lot_base.specs.Box.{index_of, bundle_at}
 use Rattle.lot_base.proofs.Index.{box_size-above_0, index_of-small, bundle_at-index_of}
 use Rattle.lot_base.proofs.Sums.{box_of_drop}
 use Rattle.valuation.specs.Values.{AreValues, valuation_of}
-use Rattle.valuation.specs.Carried.{AreCosts, IsSpread, IsLeft, CarriesAt}
+use Rattle.valuation.specs.Carried.{AreCosts, AreLowCosts, AreLowered, IsSpread, IsLeft, CarriesAt, low}
 use Rattle.valuation.proofs.Carrying.{cut-less, empty-costs}
 use Rattle.std.specs.Prelude.{pos, ◌+ℤ◌, ◌-ℤ◌}
 
@@ -137,26 +137,40 @@ costs-all s p costs few from = record {
   small = λ i. let h = from.small i in let m : (length s - 0) * 2 ^ 43 ≤ 6 * 2 ^ 43 = mul-le-mul (let f : length s - 0 ≤ 6 = omega arith in f) (let r : 2 ^ 43 ≤ 2 ^ 43 = omega arith in r) in omega (arith, h, m);
 }
 
+-- the same costs in fewer bits
+pub costs-lowered : (s p costs lows : List ℕ) → AreCosts s p costs → AreLowered costs lows → AreLowCosts s p lows
+costs-lowered s p costs lows are lowered = record {
+  whole = lowered.whole ∙ are.whole;
+  each = λ i inside. let whole = are.whole in lowered.each i (omega (arith, inside, whole)) ∙ ap low (are.each i inside);
+}
+
+pub empty-lowered : (s p costs lows : List ℕ) → AreCosts s p costs → AreLowered costs lows → slice_index lows 0 ≡ 0
+empty-lowered s p costs lows are lowered =
+    let b = box_size-above_0 s in
+    let whole = are.whole in
+    lowered.each 0 (omega (arith, b, whole)) ∙ ap low (empty-costs s p costs are)
+
 -- each value less the cost of its bundle is its surplus
-pub left-carries : (s p values costs worth : List ℕ) → AreCosts s p costs → IsLeft values costs worth → CarriesAt s worth (valuation_of s values) p
-left-carries s p values costs worth priced left x within =
+pub left-carries : (s p values costs worth : List ℕ) → AreValues values → AreLowCosts s p costs → IsLeft values costs worth → CarriesAt s worth (valuation_of s values) p
+left-carries s p values costs worth are priced left x within =
     let i = index_of-small s x within in
     let whole = priced.whole in
     let v = slice_index values (index_of s x) in
+    let few : v < 10000 = are.below (index_of s x) in
     let e = left.each (index_of s x) (omega (arith, i, whole)) in
-    let c = priced.each (index_of s x) i ∙ ap (cost p) (bundle_at-index_of s x within) in
+    let c = priced.each (index_of s x) i ∙ ap (λ y. low (cost p y)) (bundle_at-index_of s x within) in
     let same : (pos v -ℤ pos (cost p x)) +ℤ pos 1 ≡ pos (v + 1) -ℤ pos (cost p x) = omega (arith, ints) in
     let less = cut-less (pos (v + 1)) ((pos v -ℤ pos (cost p x)) +ℤ pos 1) (cost p x) same in
-    e ∙ ap (λ n. v + 1 - n) c ∙ sym less
+    e ∙ ap (λ n. v + 1 - n) c ∙ low-less v (cost p x) few ∙ sym less
+  where
+    low-less : (v n : ℕ) → v < 10000 → (v + 1) - low n ≡ (v + 1) - n
+    low-less v n few = omega arith
 
-pub left-empty : (s p values costs worth : List ℕ) → AreCosts s p costs → AreValues values → IsLeft values costs worth → slice_index worth 0 ≡ 1
-left-empty s p values costs worth priced are left =
-    let b = box_size-above_0 s in
-    let whole = priced.whole in
-    let e = left.each 0 (omega (arith, b, whole)) in
-    let c = empty-costs s p costs priced in
+pub left-empty : (values costs worth : List ℕ) → AreValues values → 1 ≤ length costs → slice_index costs 0 ≡ 0 → IsLeft values costs worth → slice_index worth 0 ≡ 1
+left-empty values costs worth are some none left =
+    let e = left.each 0 (omega (arith, some)) in
     let v = are.empty in
-    omega (arith, e, c, v)
+    omega (arith, e, none, v)
 
 -- of no goods there is one bundle, which costs nothing
 pub costs-start : (s p costs : List ℕ) (k : ℕ) → k ≡ length s → costs ≡ 0 ∷ [] → AreCostsFrom s p k costs

@@ -1,6 +1,6 @@
 -- Surpluses that are carried along while prices rise: one more than the surplus of each bundle of a box, in order of index, or 0
 -- where the surplus is below 0. The empty bundle is worth 0 at any prices, so its number is 1, and nothing that is cut off is best.
-use Rattle.std.specs.Prelude.{◌≡◌, ◌<◌, ◌≤◌, ◌+◌, ◌-◌, ◌*◌, ◌/◌, ◌%◌, ◌^◌, ℕ, zero, suc, max, filter, take, ◌==◌, List, length, slice_index, ℤ, pos, negsuc, ◌+ℤ◌}
+use Rattle.std.specs.Prelude.{◌≡◌, ◌<◌, ◌≤◌, ◌+◌, ◌-◌, ◌*◌, ◌/◌, ◌%◌, ◌^◌, ℕ, zero, suc, min, max, filter, take, ◌==◌, List, length, slice_index, ℤ, pos, negsuc, ◌+ℤ◌}
 use Rattle.std.specs.List.{fold, concat}
 use Rattle.lot_base.specs.declared.limits.TheConstants.{MOST_UNITS}
 use Rattle.lot_base.specs.Goods.{box_size, quantity_in, raised, cost, AtMost}
@@ -35,6 +35,19 @@ pub record AreCosts (supply p costs : List ℕ) : Type 0 where
   pub each : (i : ℕ) → i < box_size supply → slice_index costs i ≡ cost p (bundle_at supply i)
   pub small : (i : ℕ) → slice_index costs i ≤ 2 ^ 50
 
+-- a number, 65,535 where it is greater; and such a list
+abbrev pub low : ℕ → ℕ
+low n = min n 65535
+
+pub record AreLowered (numbers lows : List ℕ) : Type 0 where
+  pub whole : length lows ≡ length numbers
+  pub each : (i : ℕ) → i < length numbers → slice_index lows i ≡ low (slice_index numbers i)
+
+-- what each bundle of the box costs, 65,535 where it costs more, in order of index
+pub record AreLowCosts (supply p costs : List ℕ) : Type 0 where
+  pub whole : length costs ≡ box_size supply
+  pub each : (i : ℕ) → i < box_size supply → slice_index costs i ≡ low (cost p (bundle_at supply i))
+
 -- the costs of bundles of more goods: those of the others, once for each quantity of one good more at this price
 pub record IsSpread (units price : ℕ) (old new : List ℕ) : Type 0 where
   pub whole : length new ≡ (units + 1) * length old
@@ -50,6 +63,10 @@ pub record IsColumn (supply : List ℕ) (set : ℕ) (units : List ℕ) : Type 0 
 pub record IsLeft (values costs worth : List ℕ) : Type 0 where
   pub whole : length worth ≡ length costs
   pub each : (i : ℕ) → i < length costs → slice_index worth i ≡ (slice_index values i + 1) - slice_index costs i
+
+-- at each place the one list has its number where the other list has its own
+abbrev pub AreAlike : ℕ → ℕ → List ℕ → List ℕ → ℕ → Type 0
+AreAlike before now old new count = (i : ℕ) → i < count → (slice_index new i == now) ≡ (slice_index old i == before)
 
 -- so many times the units were taken from each, down to 0
 pub record IsPaid (times : ℕ) (units old new : List ℕ) : Type 0 where

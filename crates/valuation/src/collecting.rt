@@ -6,6 +6,7 @@ ghost use Rattle.lot_base.specs.Box.{box, index_of, bundle_at};
 ghost use Rattle.valuation.specs.Carried.{best_before};
 
 use crate::steadiness::GROUP;
+use lot_base::limits::MOST_GOODS;
 use lot_base::{Goods, NoMemory};
 use std::alloc::Global;
 
@@ -82,27 +83,71 @@ fn collect_within(
     requires from { found.old.items ≡ best_before goods.now worth.now best first }
     ensures { OnOk result (found.new.items ≡ best_before goods.now worth.now best last) }
 {
-    let _count = goods.count();
+    if first == last {
+        return Ok(());
+    }
+    let count = goods.count() as usize;
+    let mut cells = [0; MOST_GOODS];
+    let quantities = &mut cells[..count];
+    quantities.copy_from_slice(goods.bundle(first as u32).as_slice());
+    collect_from(found, goods, worth, best, first, last, quantities)
+}
+
+/// Adds the quantities of those from the first place to the last, by the quantities of the bundle at the first one.
+fn collect_from(
+    found: &mut Vec<u16>,
+    goods: &Goods,
+    worth: &[u16],
+    best: u16,
+    first: usize,
+    last: usize,
+    quantities: &mut [u16],
+) -> Result<(), NoMemory>
+    requires whole { length worth.now ≡ box_size goods.now }
+    requires order { first ≤ last }
+    requires within { last ≤ length worth.now }
+    requires from { found.old.items ≡ best_before goods.now worth.now best first }
+    requires at { quantities.old ≡ bundle_at goods.now first }
+    ensures { OnOk result (found.new.items ≡ best_before goods.now worth.now best last) }
+{
     for place in first..last {
-        match keep(found, goods, place as u32, worth[place] == best) {
+        match keep(found, quantities, worth[place] == best) {
             Ok(()) => {}
             Err(NoMemory) => return Err(NoMemory),
         }
+        advance(quantities, goods.as_slice());
     }
     Ok(())
 }
 
-/// Adds the quantities of the bundle at a place, if it is one of the best.
-fn keep(found: &mut Vec<u16>, goods: &Goods, place: u32, is_best: bool) -> Result<(), NoMemory>
-    requires { place < box_size goods.now }
-    ensures { OnOk result (found.new.items ≡ found.old.items ++ (if is_best then bundle_at goods.now place else [])) }
+/// Adds the quantities of a bundle, if it is one of the best.
+fn keep(found: &mut Vec<u16>, quantities: &[u16], is_best: bool) -> Result<(), NoMemory>
+    ensures { OnOk result (found.new.items ≡ found.old.items ++ (if is_best then quantities.now else [])) }
 {
     if is_best {
-        match found.extend_from_slice(goods.bundle(place).as_slice()) {
+        match found.extend_from_slice(quantities) {
             Ok(()) => Ok(()),
             Err(_) => Err(NoMemory),
         }
     } else {
         Ok(())
+    }
+}
+
+/// Leads from the quantities of a bundle of the box to those of the next one, as a number is counted up whose last digit is that of the
+/// last good.
+fn advance(quantities: &mut [u16], supply: &[u16])
+    requires { length quantities.old ≡ length supply.now }
+    ensures long { length quantities.new ≡ length quantities.old }
+    ensures next { (place : ℕ) → place + 1 < box_size supply.now → quantities.old ≡ bundle_at supply.now place
+        → quantities.new ≡ bundle_at supply.now (place + 1) }
+{
+    for step in 0..supply.len() {
+        let good = supply.len() - 1 - step;
+        if quantities[good] < supply[good] {
+            quantities[good] += 1;
+            return;
+        }
+        quantities[good] = 0;
     }
 }

@@ -1,9 +1,67 @@
 //! What the bundles of a box cost.
 ghost use Rattle.std.specs.Prelude.{◌≡◌, ◌≤◌, ◌+◌, ◌*◌, ◌^◌, ℕ, length, slice_index, IfOk, OnOk};
-ghost use Rattle.valuation.specs.Carried.{AreCosts, IsSpread};
+ghost use Rattle.valuation.specs.Carried.{AreCosts, AreLowCosts, AreLowered, IsSpread};
 
-use lot_base::{Goods, NoMemory};
+use lot_base::{Goods, NoMemory, Prices};
 use std::alloc::Global;
+use std::marker::Model;
+
+/// What each bundle of a box costs at some prices, in order of index. More than 65,535 is kept as 65,535: no bundle is worth so much.
+#[derive(Debug, Drop)]
+pub struct Costs {
+    /// That of the empty bundle, the first one, is 0.
+    each: Vec<u16>,
+}
+
+impl Model for Costs {
+    ghost use Rattle.std.specs.Prelude.{◌≡◌, ℕ, List, slice_index};
+
+    ghost Value = { List ℕ };
+
+    ghost view = { λ c. c.each.items };
+
+    ghost invariant = { λ c. slice_index c.each.items 0 ≡ 0 };
+}
+
+impl Costs {
+    /// The costs of the bundles of the goods at these prices. A price that is not there is 0.
+    pub fn new(alloc: Global, goods: &Goods, prices: &Prices) -> Result<Costs, NoMemory>
+        ensures { IfOk result (λ c. AreLowCosts goods.now prices.now c) }
+    {
+        match costs_at(alloc, goods, prices.as_slice()) {
+            Ok(costs) => match lowered(alloc, &costs) {
+                Ok(each) => Ok(Costs { each }),
+                Err(NoMemory) => Err(NoMemory),
+            },
+            Err(NoMemory) => Err(NoMemory),
+        }
+    }
+
+    /// The costs, in order of index.
+    pub fn as_slice(&self) -> &[u16]
+        ensures value { result.now ≡ self.now }
+        ensures empty { slice_index self.now 0 ≡ 0 }
+    {
+        &self.each
+    }
+}
+
+/// The same numbers, 65,535 where one is greater.
+fn lowered(alloc: Global, numbers: &[u64]) -> Result<Vec<u16>, NoMemory>
+    ensures { IfOk result (λ low. AreLowered numbers.now low.items) }
+{
+    let mut low = match Vec::with_capacity(alloc, numbers.len()) {
+        Ok(low) => low,
+        Err(_) => return Err(NoMemory),
+    };
+    for place in 0..numbers.len() {
+        match low.push(numbers[place].min(65_535) as u16) {
+            Ok(()) => {}
+            Err(_) => return Err(NoMemory),
+        }
+    }
+    Ok(low)
+}
 
 /// What each bundle of the goods costs at the prices, in order of index. A price that is not there is 0.
 pub(crate) fn costs_at(alloc: Global, goods: &Goods, prices: &[u32]) -> Result<Vec<u64>, NoMemory>

@@ -3,7 +3,7 @@
 
 mod collecting;
 pub mod columns;
-mod costs;
+pub mod costs;
 mod document;
 pub mod faults;
 mod forms;
@@ -12,11 +12,13 @@ mod making;
 mod numbers;
 mod paying;
 pub mod reader;
+mod renewing;
 mod steadiness;
 pub mod surpluses;
 pub mod values;
 
 pub use columns::{Column, column_of};
+pub use costs::Costs;
 pub use faults::{ValueKey, ValuesFault};
 pub use reader::{MOST_BYTES, read};
 pub use surpluses::Surplus;

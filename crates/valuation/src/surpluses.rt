@@ -1,15 +1,15 @@
 //! Surpluses at the present prices.
-ghost use Rattle.std.specs.Prelude.{◌≡◌, ◌<◌, ◌≤◌, ◌+◌, ◌-◌, ◌^◌, ℕ, ℤ, List, length, slice_index, IfOk};
-ghost use Rattle.lot_base.specs.declared.limits.TheConstants.{GREATEST_CEILING};
+ghost use Rattle.std.specs.Prelude.{◌≡◌, ◌≢◌, ◌<◌, ◌≤◌, ◌+◌, ◌-◌, ◌^◌, ℕ, ℤ, List, length, slice_index, true, false, IfOk};
 ghost use Rattle.lot_base.specs.Goods.{box_size};
 ghost use Rattle.lot_base.specs.Economy.{demand};
 ghost use Rattle.valuation.specs.Values.{AreValues, valuation_of};
-ghost use Rattle.valuation.specs.Carried.{Carries, CarriesAt, IsColumn, IsLeft, greatest, raised_by};
+ghost use Rattle.valuation.specs.Carried.{AreLowCosts, Carries, CarriesAt, IsColumn, IsLeft, greatest, raised_by};
 
 use crate::collecting::collect;
 use crate::columns::Column;
-use crate::costs::costs_at;
+use crate::costs::Costs;
 use crate::paying::{greatest_of, pay};
+use crate::renewing::{greatest_left, leave, left_at};
 use crate::steadiness::{fewest_of_best, lasts};
 use crate::values::{Valuation, value_at};
 use demand_set::Demand;
@@ -53,7 +53,7 @@ impl Surplus {
         ensures carries { IfOk result (λ s. Carries s (valuation_of goods.now valuation.now) prices.now) }
     {
         let _count = goods.count();
-        match worth_of(alloc, goods, valuation.as_slice(), prices.as_slice()) {
+        match worth_of(alloc, goods, valuation.as_slice(), prices) {
             Ok(worth) => {
                 let best = greatest_of(&worth);
                 Ok(Surplus {
@@ -74,6 +74,24 @@ impl Surplus {
             → Carries self.new u (raised_by times set.0 p) }
     {
         self.best = pay(&mut self.worth, &column.units, times);
+    }
+
+    /// The prices are now those of the costs. Whether the bidder demands the same bundles as before.
+    pub fn renew(&mut self, valuation: &Valuation, costs: &Costs) -> bool
+        requires whole { length costs.now ≡ box_size self.old.supply }
+        requires valued { box_size self.old.supply ≤ length valuation.now }
+        ensures goods { self.new.supply ≡ self.old.supply }
+        ensures carries { (p : List ℕ) → AreLowCosts self.old.supply p costs.now
+            → Carries self.new (valuation_of self.old.supply valuation.now) p }
+        ensures same { result ≡ true → (u v : List ℕ → ℤ) (p q : List ℕ) → Carries self.old u p → Carries self.new v q
+            → demand self.new.supply v q ≡ demand self.old.supply u p }
+        ensures other { result ≡ false → (u v : List ℕ → ℤ) (p q : List ℕ) → Carries self.old u p → Carries self.new v q
+            → demand self.new.supply v q ≢ demand self.old.supply u p }
+    {
+        let before = self.best;
+        let values = valuation.as_slice();
+        self.best = greatest_left(values, costs.as_slice());
+        leave(&mut self.worth, values, costs.as_slice(), before, self.best)
     }
 
     /// The bundles that the bidder demands at the present prices.
@@ -99,21 +117,21 @@ fn worth_of(
     alloc: Global,
     goods: &Goods,
     values: &[u16],
-    prices: &[u32],
+    prices: &Prices,
 ) -> Result<Vec<u16>, NoMemory>
     requires { AreValues values.now }
     ensures whole { IfOk result (λ worth. length worth.items ≡ box_size goods.now) }
     ensures empty { IfOk result (λ worth. slice_index worth.items 0 ≡ 1) }
     ensures carries { IfOk result (λ worth. CarriesAt goods.now worth.items (valuation_of goods.now values.now) prices.now) }
 {
-    match costs_at(alloc, goods, prices) {
-        Ok(costs) => left_of(alloc, values, &costs),
+    match Costs::new(alloc, goods, prices) {
+        Ok(costs) => left_of(alloc, values, costs.as_slice()),
         Err(NoMemory) => Err(NoMemory),
     }
 }
 
 /// One more than each value less its cost, or 0 where that is below 0.
-fn left_of(alloc: Global, values: &[u16], costs: &[u64]) -> Result<Vec<u16>, NoMemory>
+fn left_of(alloc: Global, values: &[u16], costs: &[u16]) -> Result<Vec<u16>, NoMemory>
     requires { AreValues values.now }
     ensures { IfOk result (λ worth. IsLeft values.now costs.now worth.items) }
 {
@@ -128,14 +146,6 @@ fn left_of(alloc: Global, values: &[u16], costs: &[u64]) -> Result<Vec<u16>, NoM
         }
     }
     Ok(worth)
-}
-
-/// One more than the value less the cost, or 0 where that is below 0.
-fn left_at(value: u16, cost: u64) -> u16
-    requires { value < GREATEST_CEILING }
-    ensures { result ≡ (value + 1) - cost }
-{
-    (u64::from(value) + 1).saturating_sub(cost) as u16
 }
 
 /// The bundles of the greatest surplus.

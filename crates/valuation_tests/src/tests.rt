@@ -3,7 +3,7 @@ use lot_base::{Goods, Prices, Terms};
 use std::alloc::AllocError;
 use std::process::Abort;
 use std::test::Fail;
-use valuation::{Surplus, Valuation, column_of, read};
+use valuation::{Costs, Surplus, Valuation, column_of, read};
 
 mod demands;
 mod files;

@@ -48,6 +48,23 @@ fn after_steps(
     Ok((steady, demand.quantities() == quantities))
 }
 
+/// Whether the demand is told to be the same where the prices move from these to those, and whether it has these quantities then.
+fn moved(
+    rt: &(impl AllocGlobal + Abort),
+    from: &[u32],
+    to: &[u32],
+    quantities: &[u16],
+) -> Result<(bool, bool), NoMemory> {
+    let goods = goods(rt);
+    let valuation = bidder(rt);
+    assert!(rt; valuation.as_slice().len() == goods.box_size() as usize);
+    let mut surplus = Surplus::new(rt.alloc(), &goods, &valuation, &prices(rt, from))?;
+    let costs = Costs::new(rt.alloc(), &goods, &prices(rt, to))?;
+    let same = surplus.renew(&valuation, &costs);
+    let demand = surplus.demand(rt.alloc())?;
+    Ok((same, demand.quantities() == quantities))
+}
+
 /// The value of the bundle at an index.
 fn value(rt: &(impl AllocGlobal + Abort), index: u32) -> i64 {
     let goods = goods(rt);
@@ -78,4 +95,28 @@ fn surpluses_are_carried_along(rt: HostRuntime) {
         Ok((1, true))
     );
     assert_eq!(&rt; after_steps(&rt, 3, &[1, 0, 2, 0]), Ok((1, true)));
+}
+
+#[test]
+fn surpluses_are_told_anew_where_prices_fall(rt: HostRuntime) {
+    assert_eq!(&rt; moved(&rt, &[3, 4], &[1, 2], &[0, 1]), Ok((true, true)));
+    assert_eq!(&rt; moved(&rt, &[3, 4], &[2, 4], &[0, 1, 1, 0]), Ok((false, true)));
+    assert_eq!(&rt; moved(&rt, &[0, 7], &[0, 3], &[1, 0, 2, 0]), Ok((true, true)));
+    assert_eq!(&rt;
+        moved(&rt, &[10000, 10000], &[0, 0], &[0, 1, 1, 1, 2, 1]),
+        Ok((false, true))
+    );
+    assert_eq!(&rt; moved(&rt, &[10000, 10000], &[6, 8], &[0, 0]), Ok((true, true)));
+}
+
+#[test]
+fn surpluses_are_told_anew_where_prices_rise(rt: HostRuntime) {
+    assert_eq!(&rt; moved(&rt, &[3, 4], &[4, 4], &[0, 1]), Ok((true, true)));
+    assert_eq!(&rt; moved(&rt, &[0, 0], &[1, 0], &[0, 1]), Ok((false, true)));
+    assert_eq!(&rt; moved(&rt, &[5, 7], &[10000, 10000], &[0, 0]), Ok((false, true)));
+    assert_eq!(&rt;
+        moved(&rt, &[10000, 10000], &[4294967295, 4294967295], &[0, 0]),
+        Ok((true, true))
+    );
+    assert_eq!(&rt; moved(&rt, &[3, 4], &[3, 4], &[0, 1]), Ok((true, true)));
 }
