@@ -1,18 +1,20 @@
-//! What a bidder demands while prices rise.
-ghost use Rattle.std.specs.Prelude.{◌≡◌, ◌≢◌, ◌<◌, ◌≤◌, ◌+◌, ◌^◌, ℕ, ℤ, List, length, IfOk, MatchOption};
+//! What a bidder demands while prices move.
+ghost use Rattle.std.specs.Prelude.{◌≡◌, ◌≢◌, ◌<◌, ◌≤◌, ◌+◌, ◌^◌, ℕ, ℤ, List, length, true, false, IfOk, MatchOption};
 ghost use Rattle.lot_base.specs.declared.limits.TheConstants.{MOST_STEPS};
+ghost use Rattle.lot_base.specs.Goods.{box_size};
 ghost use Rattle.lot_base.specs.Economy.{demand};
 ghost use Rattle.valuation.specs.Values.{valuation_of};
-ghost use Rattle.valuation.specs.Carried.{IsColumn, raised_by};
+ghost use Rattle.valuation.specs.Carried.{AreLowCosts, IsColumn, raised_by};
 ghost use Rattle.trial.specs.Following.{Follows};
 
 use demand_set::Demand;
 use lot_base::{GoodSet, Goods, NoMemory, Prices};
 use std::alloc::Global;
 use std::marker::Model;
-use valuation::{Column, Surplus, Valuation};
+use valuation::{Column, Costs, Surplus, Valuation};
 
-/// What one bidder demands while prices rise on sets of goods. Its surpluses are brought up to date only where its demand may change.
+/// What one bidder demands while prices rise on sets of goods, or move to others. Its surpluses are brought up to date only where its
+/// demand may change.
 #[derive(Debug, Drop)]
 pub struct Follower {
     /// The surpluses at the prices at which they were last brought up to date.
@@ -116,6 +118,24 @@ impl Follower {
         } else {
             self.pay(column, times);
         }
+    }
+
+    /// The prices are now those of the costs. Whether the bidder demands the same bundles as before.
+    pub fn renew(&mut self, valuation: &Valuation, costs: &Costs) -> bool
+        requires whole { length costs.now ≡ box_size self.old.supply }
+        requires valued { box_size self.old.supply ≤ length valuation.now }
+        ensures goods { self.new.supply ≡ self.old.supply }
+        ensures owed { self.new.owed ≡ 0 }
+        ensures follows { (p : List ℕ) → AreLowCosts self.old.supply p costs.now
+            → Follows self.new (valuation_of self.old.supply valuation.now) p }
+        ensures same { result ≡ true → (u v : List ℕ → ℤ) (p q : List ℕ) → Follows self.old u p → Follows self.new v q
+            → demand self.new.supply v q ≡ demand self.old.supply u p }
+        ensures other { result ≡ false → (u v : List ℕ → ℤ) (p q : List ℕ) → Follows self.old u p → Follows self.new v q
+            → demand self.new.supply v q ≢ demand self.old.supply u p }
+    {
+        self.owed = 0;
+        self.steady = 0;
+        self.surplus.renew(valuation, costs)
     }
 
     /// Takes what is owed, and the units of so many steps more, from the surpluses.
