@@ -1,15 +1,17 @@
--- Prices that rose by one on a set of goods, and the bidders that follow them.
-use Rattle.std.proofs.Common.{◌≡◌, ◌<◌, ◌≤◌, inl, inr, ℕ, zero, suc, ◌+◌, ◌-◌, ◌*◌, ◌/◌, ◌%◌, ◌^◌, true, false, cond, nat_eq, List, [], ◌∷◌, ◌++◌, length, drop, get_or, refl, sym, ◌∙◌, ap, arith, subst}
-use Rattle.std.specs.Prelude.{slice_index, slice_set, ℤ}
+-- Prices that moved, and the bidders that follow them.
+use Rattle.std.proofs.Common.{◌≡◌, ◌<◌, ◌≤◌, inl, inr, ℕ, zero, suc, ◌+◌, ◌-◌, ◌*◌, ◌/◌, ◌%◌, ◌^◌, false, cond, nat_eq, List, [], ◌∷◌, ◌++◌, length, drop, get_or, refl, sym, ◌∙◌, ap, arith, subst}
+use Rattle.std.specs.Prelude.{slice_index, slice_index_or, slice_set, ℤ}
 use Rattle.std.proofs.lemmas.Bool.{cases_lt}
 use Rattle.std.proofs.lemmas.List.{length-append, length-set, get_or-set_same, get_or-set_other, get_or_append_left, get_or_push}
 use Rattle.lot_base.specs.Goods.{raised}
 use Rattle.lot_base.specs.Economy.{demand}
 use Rattle.lot_base.specs.declared.auction_terms.Terms.{Terms}
+use Rattle.valuation.specs.Values.{valuation_of}
+use Rattle.trial.specs.Bidding.{bidders_of}
 use Rattle.trial.specs.Following.{Follows}
 use Rattle.trial.proofs.Risen.{from-place}
 use Rattle.trial.proofs.Telling.{get-same}
-use Rattle.two_way.specs.Bidding.{bidder_in, IsBidder, AreBidders, AreRisen, IsRisen, HaveFollowed}
+use Rattle.two_way.specs.Bidding.{bidder_in, IsBidder, AreBidders, AreRenewed, AreRisen, IsRenewed, IsRisen, HaveFollowed}
 use Rattle.two_way.specs.declared.bidding.Bidder.{Bidder}
 
 -- one good more, from the last on
@@ -69,34 +71,63 @@ followed-up terms u before after set old new long are rose risen = record {
     step : (place : ℕ) → place < terms.bidders → IsRisen set (bidder_in old place) (bidder_in new place)
     step place inside = risen.each place (let c = are.count in omega (arith, c, inside))
 
--- or that were made anew
-pub followed-anew : (terms : Terms) (u : ℕ → List ℕ → ℤ) (before after : List ℕ) (bidders : List Bidder) → AreBidders terms u after bidders → ((place : ℕ) → (bidder_in bidders place).stays ≡ false) → HaveFollowed terms u before after bidders
-followed-anew terms u before after bidders are none = record {
-  are = are;
-  stay = λ place inside stays. absurd (let f : false ≡ true = sym (none place) ∙ stays in cc);
+-- or whose prices moved anywhere
+pub followed-anew : (terms : Terms) (valuations : List (List ℕ)) (before after : List ℕ) (old new : List Bidder) → AreBidders terms (bidders_of terms.goods valuations) before old → AreRenewed valuations after old new
+    → HaveFollowed terms (bidders_of terms.goods valuations) before after new
+followed-anew terms valuations before after old new are renewed = record {
+  are = record {
+    count = renewed.count ∙ are.count;
+    each = λ place inside. (let r = step place inside in record { over = r.goods ∙ (are.each place inside).over; follows = follows place inside });
+  };
+  stay = λ place inside stays. (let r = step place inside in let b = are.each place inside in let e = r.goods ∙ b.over in
+      let v = bidders_of terms.goods valuations (place + 1) in
+      (λ i. demand (sym e i) v after) ∙ r.stays stays v v before after b.follows (follows place inside) ∙ ap (λ g. demand g v before) b.over);
 }
+  where
+    step : (place : ℕ) → place < terms.bidders → IsRenewed (slice_index_or valuations place []) after (bidder_in old place) (bidder_in new place)
+    step place inside = renewed.each place (let c = are.count in omega (arith, c, inside))
 
--- the bidders so far are as they should be, and the others as they were
-pub record AreRisenTo (set place : ℕ) (old new : List Bidder) : Type 0 where
+    follows : (place : ℕ) → place < terms.bidders → Follows (bidder_in new place).follower (bidders_of terms.goods valuations (place + 1)) after
+    follows place inside =
+        let r = step place inside in
+        let b = are.each place inside in
+        let back : place ≡ place + 1 - 1 = omega arith in
+        let F : List ℕ → Type 0 = λ g. Follows (bidder_in new place).follower (valuation_of g (slice_index_or valuations place [])) after in
+        let G : ℕ → Type 0 = λ k. Follows (bidder_in new place).follower (valuation_of terms.goods (slice_index_or valuations k [])) after in
+        subst G back (subst F b.over r.follows)
+
+-- the bidders so far have moved, and the others are as they were
+pub record AreMovedTo (Moved : ℕ → Bidder → Bidder → Type 0) (place : ℕ) (old new : List Bidder) : Type 0 where
   pub count : length new ≡ length old
-  pub before : (k : ℕ) → k < place → IsRisen set (bidder_in old k) (bidder_in new k)
+  pub before : (k : ℕ) → k < place → Moved k (bidder_in old k) (bidder_in new k)
   pub behind : (k : ℕ) → place ≤ k → bidder_in new k ≡ bidder_in old k
 
+-- the next one is as it was
+pub is-next : (Moved : ℕ → Bidder → Bidder → Type 0) (place : ℕ) (old new : List Bidder) (other : Bidder) → AreMovedTo Moved place old new → place < length old → get_or new place other ≡ bidder_in old place
+is-next Moved place old new other are inside = get-same new place other _ (let c = are.count in omega (arith, c, inside)) ∙ are.behind place (omega arith)
+
 -- one bidder more
-pub next-risen : (set place : ℕ) (old new next : List Bidder) (other b : Bidder) → AreRisenTo set place old new → place < length old → next ≡ slice_set new place b → IsRisen set (get_or new place other) b → AreRisenTo set (place + 1) old next
-next-risen set place old new next other b are inside is risen = record {
+pub next-moved : (Moved : ℕ → Bidder → Bidder → Type 0) (place : ℕ) (old new next : List Bidder) (other b : Bidder) → AreMovedTo Moved place old new → place < length old → next ≡ slice_set new place b → Moved place (get_or new place other) b
+    → AreMovedTo Moved (place + 1) old next
+next-moved Moved place old new next other b are inside is moved = record {
   count = ap length is ∙ length-set new place b ∙ are.count;
   before = λ k below. elim (cases_lt k place) [
-    | inl less ↦ subst (IsRisen set (bidder_in old k)) (sym (ap (λ l. bidder_in l k) is ∙ get_or-set_other new place k b _ (λ e. absurd (omega (arith, e, less))))) (are.before k less)
+    | inl less ↦ subst (Moved k (bidder_in old k)) (sym (ap (λ l. bidder_in l k) is ∙ get_or-set_other new place k b _ (λ e. absurd (omega (arith, e, less))))) (are.before k less)
     | inr more ↦
         let e : place ≡ k = omega (arith, below, more) in
         let here : place < length new = (let c = are.count in omega (arith, c, inside)) in
-        let was : get_or new place other ≡ bidder_in old place = get-same new place other _ here ∙ are.behind place (omega arith) in
+        let was = is-next Moved place old new other are inside in
         let now : bidder_in next place ≡ b = ap (λ l. bidder_in l place) is ∙ get_or-set_same new place b _ here in
-        subst (λ n. IsRisen set (bidder_in old n) (bidder_in next n)) e (subst (IsRisen set (bidder_in old place)) (sym now) (subst (λ z. IsRisen set z b) was risen))
+        subst (λ n. Moved n (bidder_in old n) (bidder_in next n)) e (subst (Moved place (bidder_in old place)) (sym now) (subst (λ z. Moved place z b) was moved))
   ];
   behind = λ k high. ap (λ l. bidder_in l k) is ∙ get_or-set_other new place k b _ (λ e. absurd (omega (arith, e, high))) ∙ are.behind k (omega (arith, high));
 }
+
+pub all-risen : (set place : ℕ) (old new : List Bidder) → AreMovedTo (λ k. IsRisen set) place old new → length old ≤ place → AreRisen set old new
+all-risen set place old new are all = record { count = are.count; each = λ k inside. are.before k (omega (arith, inside, all)) }
+
+pub all-renewed : (values : List (List ℕ)) (prices : List ℕ) (place : ℕ) (old new : List Bidder) → AreMovedTo (λ k. IsRenewed (slice_index_or values k []) prices) place old new → length old ≤ place → AreRenewed values prices old new
+all-renewed values prices place old new are all = record { count = are.count; each = λ k inside. are.before k (omega (arith, inside, all)) }
 
 -- one bidder more at the end of a list
 abbrev nobody : Bidder

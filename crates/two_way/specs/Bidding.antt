@@ -3,6 +3,7 @@ use Rattle.std.specs.Prelude.{◌≡◌, ◌≢◌, ◌<◌, ◌+◌, ℕ, true,
 use Rattle.lot_base.specs.Economy.{demand}
 use Rattle.lot_base.specs.Goods.{raised}
 use Rattle.lot_base.specs.declared.auction_terms.Terms.{Terms}
+use Rattle.valuation.specs.Values.{valuation_of}
 use Rattle.trial.specs.Following.{Follows}
 use Rattle.clock.specs.Reports.{demand_in}
 use Rattle.two_way.specs.Histories.{TwoWayHistory}
@@ -38,6 +39,17 @@ pub record IsRisen (set : ℕ) (old new : Bidder) : Type 0 where
 pub record AreRisen (set : ℕ) (old new : List Bidder) : Type 0 where
   pub count : length new ≡ length old
   pub each : (place : ℕ) → place < length old → IsRisen set (bidder_in old place) (bidder_in new place)
+
+-- the prices of a bidder with these values are now these; who stays demands what it demanded before
+pub record IsRenewed (values prices : List ℕ) (old new : Bidder) : Type 0 where
+  pub goods : new.follower.supply ≡ old.follower.supply
+  pub follows : Follows new.follower (valuation_of old.follower.supply values) prices
+  pub stays : new.stays ≡ true → (u v : List ℕ → ℤ) (p q : List ℕ) → Follows old.follower u p → Follows new.follower v q → demand new.follower.supply v q ≡ demand old.follower.supply u p
+
+-- so are those of each bidder of a list
+pub record AreRenewed (values : List (List ℕ)) (prices : List ℕ) (old new : List Bidder) : Type 0 where
+  pub count : length new ≡ length old
+  pub each : (place : ℕ) → place < length old → IsRenewed (slice_index_or values place []) prices (bidder_in old place) (bidder_in new place)
 
 -- who stays has reported in the round before what it demands at the prices of the present one
 abbrev pub HaveSaid : (ℕ → List ℕ → ℤ) → TwoWayHistory → List Bidder → Type 0

@@ -1,15 +1,18 @@
 //! Bidders that report what they demand by their valuations, while the prices of a clock move.
-ghost use Rattle.std.specs.Prelude.{◌≡◌, ◌<◌, ◌≤◌, ◌+◌, ◌^◌, ℕ, length, true, false, IfOk, IfSome, OnOk};
-ghost use Rattle.lot_base.specs.Goods.{raised};
+ghost use Rattle.std.specs.Prelude.{◌≡◌, ◌<◌, ◌≤◌, ◌+◌, ◌^◌, ℕ, List, length, true, false, IfOk, IfSome, OnOk};
+ghost use Rattle.std.specs.List.{AllByRecursion};
+ghost use Rattle.lot_base.specs.Goods.{box_size, raised};
+ghost use Rattle.valuation.specs.Carried.{AreLowCosts};
 ghost use Rattle.trial.specs.Bidding.{bidders_of};
 ghost use Rattle.trial.specs.Rounds.{AreColumns};
-ghost use Rattle.two_way.specs.Bidding.{AreBidders, AreRisen, HaveFollowed, IsRisen, bidder_in};
+ghost use Rattle.trial.specs.Trials.{AreValuationsOf};
+ghost use Rattle.two_way.specs.Bidding.{AreBidders, AreRenewed, AreRisen, HaveFollowed, IsRenewed, IsRisen, bidder_in};
 
 use lot_base::{GoodSet, Goods, NoMemory, Prices, Terms};
 use std::alloc::Global;
 use trial::carrying::{catch_up, column_for, put_back};
 use trial::following::Follower;
-use valuation::{Column, Valuation};
+use valuation::{Column, Costs, Valuation};
 
 /// A bidder at the present prices of a clock.
 #[derive(Debug, Drop)]
@@ -44,8 +47,8 @@ pub(crate) fn bidders_at(
     Ok(bidders)
 }
 
-/// The prices of a clock moved from one round to the next. On the way up the surpluses are carried along, and it is seen who demands what
-/// it demanded before; on the way down they are made anew.
+/// The prices of a clock moved from one round to the next. On the way up the surpluses are carried along, and on the way down they are
+/// told anew; it is seen who demands what it demanded before.
 pub(crate) fn follow(
     alloc: Global,
     terms: &Terms,
@@ -55,7 +58,7 @@ pub(crate) fn follow(
     before: &Prices,
     after: &Prices,
 ) -> Result<(), NoMemory>
-    requires count { length valuations.now ≡ terms.now.bidders }
+    requires valuations { AreValuationsOf terms.now valuations.now }
     requires columns { AreColumns terms.now.goods columns.old.items }
     requires goods { (length before.now ≡ length terms.now.goods) × (length after.now ≡ length terms.now.goods) }
     requires bidders { AreBidders terms.now (bidders_of terms.now.goods valuations.now) before.now bidders.old.items }
@@ -68,14 +71,41 @@ pub(crate) fn follow(
             Ok(()) => Ok(()),
             Err(NoMemory) => Err(NoMemory),
         },
-        None => match bidders_at(alloc, terms, valuations, after) {
-            Ok(anew) => {
-                *bidders = anew;
-                Ok(())
-            }
+        None => match renew_all(alloc, &terms.goods, valuations, bidders, after) {
+            Ok(()) => Ok(()),
             Err(NoMemory) => Err(NoMemory),
         },
     }
+}
+
+/// The prices moved to these.
+fn renew_all(
+    alloc: Global,
+    goods: &Goods,
+    valuations: &[Valuation],
+    bidders: &mut Vec<Bidder>,
+    prices: &Prices,
+) -> Result<(), NoMemory>
+    requires count { length valuations.now ≡ length bidders.old.items }
+    requires valued { AllByRecursion (λ values. length values ≡ box_size goods.now) valuations.now }
+    requires goods { (place : ℕ) → place < length bidders.old.items → (bidder_in bidders.old.items place).follower.supply ≡ goods.now }
+    ensures { OnOk result (AreRenewed valuations.now prices.now bidders.old.items bidders.new.items) }
+{
+    let costs = Costs::new(alloc, goods, prices)?;
+    for place in 0..bidders.len() {
+        renew(&mut bidders[place], &valuations[place], &costs);
+    }
+    Ok(())
+}
+
+/// The prices are now those of the costs.
+fn renew(bidder: &mut Bidder, valuation: &Valuation, costs: &Costs)
+    requires whole { length costs.now ≡ box_size bidder.old.follower.supply }
+    requires valued { box_size bidder.old.follower.supply ≤ length valuation.now }
+    ensures { (prices : List ℕ) → AreLowCosts bidder.old.follower.supply prices costs.now
+        → IsRenewed valuation.now prices bidder.old bidder.new }
+{
+    bidder.stays = bidder.follower.renew(valuation, costs);
 }
 
 /// The prices rose by one on each good of the set.

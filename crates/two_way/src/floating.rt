@@ -273,7 +273,7 @@ fn run_round(
     bidders: &mut Vec<Bidder>,
 ) -> Result<(), NoMemory>
     requires terms { clock.old.terms ≡ terms.now }
-    requires count { length valuations.now ≡ terms.now.bidders }
+    requires valuations { AreValuationsOf terms.now valuations.now }
     requires columns { AreColumns terms.now.goods columns.old.items }
     requires start { IsStart clock.old.terms clock.old.start }
     requires fresh { IsFresh (bidders_of terms.now.goods valuations.now) clock.old }
