@@ -92,12 +92,8 @@ fn are_arguments(name: &str, words: &[String]) -> bool
     while let [word, behind @ ..] = rest {
         match value_of(name, word.as_str(), behind) {
             Some((_, others)) => rest = others,
-            None => {
-                if !is_argument(name, word.as_str()) {
-                    return false;
-                }
-                rest = behind;
-            }
+            None if is_argument(name, word.as_str()) => rest = behind,
+            None => return false,
         }
     }
     true

@@ -65,7 +65,7 @@ pub(crate) struct Run {
 /// substitutes. So many workers run the clocks and check the bidders, but no more than there are clocks: each takes the next piece that
 /// no worker has taken. Where no thread can be made they work one after another.
 ///
-/// More than one worker have a thread each, and the calling one has the call behind them, which does nothing: on a thread that went on
+/// More than one worker have a thread each, and the calling one has the call after them, which does nothing: on a thread that went on
 /// working, the first thread that it made would wait for its processor, for some milliseconds on Linux, until another takes it over.
 pub(crate) fn run_workers<T: Threads + Sync>(
     rt: &T,
@@ -98,7 +98,7 @@ pub(crate) fn run_workers<T: Threads + Sync>(
     }
 }
 
-/// What a call does: that of a worker its pieces, and the one behind them nothing.
+/// What a call does: that of a worker its pieces, and the one after them nothing.
 fn part_of(
     alloc: Global,
     terms: &Terms,

@@ -16,7 +16,7 @@ is_risen [] ps set = true
 is_risen (o ∷ opening) [] set = true
 is_risen (o ∷ opening) (p ∷ ps) set = (not (set % 2 == 1) || nat_lt o p) && is_risen opening ps (set / 2)
 
--- the shortfall of such a set; any other set comes behind the empty one, whose shortfall is 0
+-- the shortfall of such a set; any other set comes after the empty one, whose shortfall is 0
 abbrev pub short_of_risen : List ℕ → List ℕ → (ℕ → ℤ) → ℕ → ℤ
 short_of_risen opening p short set = if is_risen opening p set then short set else negsuc 0
 

@@ -74,7 +74,7 @@ impl Past {
         self.places.len()
     }
 
-    /// Puts a report behind the others. Where there is no memory for it, it comes back.
+    /// Puts a report after the others. Where there is no memory for it, it comes back.
     pub(crate) fn push(&mut self, report: Report) -> Result<(), NotApplied>
         requires { IsDemand self.old.goods report.demand }
         ensures ok { OnOk result (self.new ≡ with_report self.old report) }
@@ -97,7 +97,7 @@ impl Past {
         }
     }
 
-    /// Puts behind the others what a bidder demands in a round by the reports from a place on, in the next round. It is kept already.
+    /// Puts after the others what a bidder demands in a round by the reports from a place on, in the next round. It is kept already.
     pub(crate) fn push_again(&mut self, from: usize, round: u32, bidder: u8) -> Result<(), NoMemory>
         requires from { from ≤ length self.old.reports }
         requires last { round < 4294967295 }
@@ -226,7 +226,7 @@ fn make_place(places: &mut Vec<Place>) -> Result<(), NoMemory>
     }
 }
 
-/// Puts a demand behind the others, in the room for it, if it is not kept already. Tells where it is kept.
+/// Puts a demand after the others, in the room for it, if it is not kept already. Tells where it is kept.
 fn keep(goods: &Goods, demands: &mut Vec<Kept>, found: Option<usize>, demand: Demand) -> usize
     requires fits { IsDemand goods.now demand }
     requires room { length demands.old.items < vec_capacity demands.old }

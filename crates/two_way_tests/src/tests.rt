@@ -729,7 +729,7 @@ fn standing_line(alloc: Global, clock: &TwoWay, bidders: u8) -> Result<String, A
     Ok(line)
 }
 
-/// How a clock stands behind a course.
+/// How a clock stands after a course.
 fn course_line(rt: &impl Abort, alloc: Global, course: &Course) -> Result<String, Fail> {
     let terms = terms_of(
         rt,

@@ -4,7 +4,7 @@ use Rattle.lot_base.specs.declared.limits.TheConstants.{GREATEST_CEILING}
 use Rattle.lot_base.specs.Goods.{box_size}
 use Rattle.lot_base.specs.Box.{index_of}
 
--- the valuation that the values stand for; what is behind the last value is worth 0
+-- the valuation that the values stand for; what is after the last value is worth 0
 abbrev pub valuation_of : List ℕ → List ℕ → List ℕ → ℤ
 valuation_of supply values x = pos (slice_index values (index_of supply x))
 

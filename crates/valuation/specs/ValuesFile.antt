@@ -62,7 +62,7 @@ lists_at bidder limit supply table = do
   _ ← all_long bidder supply lists
   entries bidder limit (joined lists)
 
--- the cap; its place is behind those of the values
+-- the cap; its place is after those of the values
 unfoldable pub cap_at : (bidder goods : ℕ) → Members → Result ℕ ValuesFault
 cap_at bidder goods table = integer_at (key.Cap bidder) (codes "cap") table >>= ranged 65535 (fault.Value bidder goods)
 

@@ -11,7 +11,7 @@ use std::alloc::Global;
 use std::marker::Model;
 
 /// What each bundle of a box is worth to a bidder, seen as the list of the values in order of index. The empty bundle is worth 0,
-/// and each bundle is worth less than 10,000. What is behind the last value is worth 0.
+/// and each bundle is worth less than 10,000. What is after the last value is worth 0.
 #[derive(Debug, Drop)]
 pub struct Valuation {
     values: Vec<u16>,
@@ -64,7 +64,7 @@ impl Valuation {
     }
 }
 
-/// The value at a place, 0 behind the last one.
+/// The value at a place, 0 after the last one.
 pub fn value_at(values: &[u16], place: usize) -> u16
     ensures { result ≡ slice_index values.now place }
 {
