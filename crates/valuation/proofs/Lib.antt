@@ -7,6 +7,7 @@ pub mod Long
 pub mod Mapped
 pub mod Odometer
 pub mod Marginal
+pub mod Renewed
 pub mod Spread
 pub mod Steady
 pub mod Trees
