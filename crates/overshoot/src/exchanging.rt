@@ -62,7 +62,9 @@ fn verdict_by(goods: &Goods, demand: &Demand, marks: &[bool]) -> SetVerdict
 /// A demand in the box of its goods.
 #[derive(Clone, Copy)]
 struct Table<'a> {
+    /// Within their supply all bundles are.
     goods: Goods,
+    /// The bundles that were reported.
     demand: &'a Demand,
     /// How far apart in the box a bundle and the one with a unit more of a good stand.
     strides: [usize; 6],
@@ -73,16 +75,22 @@ struct Table<'a> {
 /// Two bundles, and their places in the box.
 #[derive(Clone, Copy)]
 struct Pair {
+    /// From this one a unit is to go.
     x: Bundle,
+    /// To this one it is to go.
     y: Bundle,
+    /// The place of `x`.
     from: usize,
+    /// The place of `y`.
     to: usize,
 }
 
 /// The place of a bundle to which no unit of a good goes from another one.
 #[derive(Clone, Copy)]
 struct Broken {
+    /// Among the bundles of the demand, from 0.
     place: u32,
+    /// The good of which no unit goes there, from 0.
     good: u8,
 }
 

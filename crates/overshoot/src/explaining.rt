@@ -111,9 +111,13 @@ fn explain_lack(alloc: Global, terms: &Terms, clock: &Clock) -> Result<Explained
 /// A member whose last demand lacks the exchange property, and the first triple that breaks it.
 #[derive(Clone, Copy, Debug)]
 struct Without {
+    /// The member, from 1.
     bidder: u8,
+    /// The bundle from which a unit does not go.
     x: Bundle,
+    /// The bundle to which it does not go.
     y: Bundle,
+    /// The good of the unit, from 0.
     good: u8,
 }
 
@@ -126,12 +130,11 @@ fn first_without(alloc: Global, terms: &Terms, clock: &Clock) -> Result<Option<W
     let number = clock.number();
     for step in 0..terms.bidders {
         let bidder = step + 1;
-        if bidder != number {
-            match last_broken(alloc, terms, clock, bidder) {
-                Ok(None) => {}
-                Ok(Some(without)) => return Ok(Some(without)),
-                Err(NoMemory) => return Err(NoMemory),
-            }
+        if bidder == number {
+            continue;
+        }
+        if let Some(without) = last_broken(alloc, terms, clock, bidder)? {
+            return Ok(Some(without));
         }
     }
     Ok(None)

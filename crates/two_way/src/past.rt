@@ -28,6 +28,7 @@ pub(crate) struct Past {
 /// A demand that was reported.
 #[derive(Debug, Drop)]
 pub(crate) struct Kept {
+    /// The bundles that were reported.
     pub demand: Demand,
     /// The least that it has of each set of goods.
     pub least: LeastTable,
