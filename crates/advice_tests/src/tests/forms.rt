@@ -51,9 +51,7 @@ fn words_that_are_no_command_are_told_the_forms(rt: HostRuntime) -> Result<(), F
 #[test]
 fn words_that_are_not_of_their_form_are_told_the_forms(rt: HostRuntime) -> Result<(), Fail> {
     for name in NAMES {
-        let wrong = format!(in rt.alloc();
-            "the words after \"{name}\" are not those of its form"
-        )?;
+        let wrong = format!(in rt.alloc(); "the words after \"{name}\" are not those of its form")?;
         check_wrong(&rt, &[*name, "a", "--looks"], wrong.as_str())?;
     }
     Ok(())

@@ -100,20 +100,32 @@ fn surpluses_are_carried_along(rt: HostRuntime) {
 #[test]
 fn surpluses_are_told_anew_where_prices_fall(rt: HostRuntime) {
     assert_eq!(&rt; moved(&rt, &[3, 4], &[1, 2], &[0, 1]), Ok((true, true)));
-    assert_eq!(&rt; moved(&rt, &[3, 4], &[2, 4], &[0, 1, 1, 0]), Ok((false, true)));
-    assert_eq!(&rt; moved(&rt, &[0, 7], &[0, 3], &[1, 0, 2, 0]), Ok((true, true)));
+    assert_eq!(&rt;
+        moved(&rt, &[3, 4], &[2, 4], &[0, 1, 1, 0]),
+        Ok((false, true))
+    );
+    assert_eq!(&rt;
+        moved(&rt, &[0, 7], &[0, 3], &[1, 0, 2, 0]),
+        Ok((true, true))
+    );
     assert_eq!(&rt;
         moved(&rt, &[10000, 10000], &[0, 0], &[0, 1, 1, 1, 2, 1]),
         Ok((false, true))
     );
-    assert_eq!(&rt; moved(&rt, &[10000, 10000], &[6, 8], &[0, 0]), Ok((true, true)));
+    assert_eq!(&rt;
+        moved(&rt, &[10000, 10000], &[6, 8], &[0, 0]),
+        Ok((true, true))
+    );
 }
 
 #[test]
 fn surpluses_are_told_anew_where_prices_rise(rt: HostRuntime) {
     assert_eq!(&rt; moved(&rt, &[3, 4], &[4, 4], &[0, 1]), Ok((true, true)));
     assert_eq!(&rt; moved(&rt, &[0, 0], &[1, 0], &[0, 1]), Ok((false, true)));
-    assert_eq!(&rt; moved(&rt, &[5, 7], &[10000, 10000], &[0, 0]), Ok((false, true)));
+    assert_eq!(&rt;
+        moved(&rt, &[5, 7], &[10000, 10000], &[0, 0]),
+        Ok((false, true))
+    );
     assert_eq!(&rt;
         moved(&rt, &[10000, 10000], &[4294967295, 4294967295], &[0, 0]),
         Ok((true, true))
