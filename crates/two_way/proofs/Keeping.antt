@@ -1,6 +1,6 @@
 -- What a two-way clock keeps beside its reports, where its rounds lead, and what becomes of it with a report that is taken.
 use Rattle.std.proofs.Common.{◌*◌, ◌≡◌, ◌≢◌, ◌<◌, ◌≤◌, ◌⊎◌, inl, inr, ℕ, zero, suc, ◌+◌, Bool, true, false, not, ◌&&◌, ◌||◌, nat_eq, cond, List, [], ◌∷◌, ◌++◌, length, take, drop, Option, Some, None, is_some, is_none, refl, sym, ◌∙◌, ap, arith, subst}
-use Rattle.std.specs.Prelude.{IfSome, find, unwrap_or, nat_le, ℤ, pos, ◌+ℤ◌, ◌-ℤ◌}
+use Rattle.std.specs.Prelude.{IfSome, unwrap_or, nat_le, ℤ, pos, ◌+ℤ◌, ◌-ℤ◌}
 use Rattle.std.proofs.lemmas.Int.{ints}
 use Rattle.std.specs.List.{AllByRecursion, list_all}
 use Rattle.std.proofs.lemmas.Bool.Decides.{nat_tests}
@@ -21,7 +21,7 @@ use Rattle.clock.proofs.Current.{demand-current, all-drop}
 use Rattle.clock.proofs.Excesses.{found-fits}
 use Rattle.clock.proofs.Append.{take-says, past-push, all-push, not_full-beyond}
 use Rattle.clock.proofs.Ceiling.{AllUpTo}
-use Rattle.clock.proofs.Next.{below-limit, full-from_find}
+use Rattle.clock.proofs.Next.{below-limit}
 use Rattle.clock.proofs.Path.{compare-or}
 use Rattle.clock.proofs.Present.{reported, not-taken, some-round, drop-push, drop-whole, none-beyond}
 use Rattle.overshoot.specs.Shortfall.{shortfall}
@@ -477,11 +477,3 @@ kept-applied h r begin next s t present k taken fits e open_ full stays goes =
     let same = same-full begin s.steps reports present (members_in h) w.past e in
     let P : (ℕ → List (List ℕ)) → Type 0 = λ d. IsTurned h.terms d (members_in h) s t in
     kept-told h r begin s t k taken fits (λ off. open_ (same ∙ off)) (λ on. subst P (same-demands begin s.steps reports present w.past e) (full (same ∙ on))) next stays goes
-
--- whether a round is full, by the test for a member without a report
-pub full-by : (js : List ℕ) (reports : List Report) (round : ℕ) (o : Option ℕ) (b answer : Bool) → o ≡ find (λ j. is_none (demand_in reports round j)) js → b ≡ is_some o → b ≡ answer → is_full js reports round ≡ not answer
-full-by js reports round o b answer found test is = full-from_find js reports round ∙ ap is_none (sym found) ∙ none-not o ∙ ap not (sym test ∙ is)
-  where
-    none-not : (o : Option ℕ) → is_none o ≡ not (is_some o)
-    none-not None = refl
-    none-not (Some x) = refl

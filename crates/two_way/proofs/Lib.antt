@@ -2,6 +2,7 @@ pub mod Sinking
 pub mod FallSets
 pub mod Falls
 pub mod Rounds
+pub mod Fullness
 pub mod Growing
 pub mod Truthful
 pub mod Settled

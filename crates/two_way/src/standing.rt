@@ -1,5 +1,5 @@
 //! How a two-way clock stands, and where its rounds lead.
-ghost use Rattle.std.specs.Prelude.{◌≡◌, ◌≢◌, ◌<◌, ◌≤◌, ◌^◌, ◌+◌, ◌⊎◌, ℕ, true, false, None, [], length, drop, find, is_none};
+ghost use Rattle.std.specs.Prelude.{◌≡◌, ◌≢◌, ◌<◌, ◌≤◌, ◌^◌, ◌+◌, ◌⊎◌, ℕ, true, false, None, [], length, drop, is_none};
 ghost use Rattle.std.specs.List.{AllByRecursion};
 ghost use Rattle.lot_base.specs.declared.limits.TheConstants.{MOST_STEPS};
 ghost use Rattle.lot_base.specs.Goods.{AllBelow};
@@ -80,7 +80,7 @@ impl Standing {
         ensures full { is_full (members terms.now.bidders clock) (drop from reports.now.reports) (self.old.steps + 1) ≡ true
             → IsTurned terms.now (demands_in (drop from reports.now.reports) (self.old.steps + 1)) (members terms.now.bidders clock) self.old self.new }
     {
-        if missing_in(terms.bidders, clock, reports, from, self.steps + 1).is_some() {
+        if is_open(terms.bidders, clock, reports, from, self.steps + 1) {
             return;
         }
         self.turn(terms, clock, reports, from);
@@ -175,19 +175,21 @@ impl Standing {
     }
 }
 
-/// The first member of a clock without a report in a round among those from a place on.
-fn missing_in(bidders: u8, clock: u8, reports: &Past, from: usize, round: u32) -> Option<u8>
+/// Whether a member of a clock has no report in a round among those from a place on. The last one is asked first: where they report in
+/// order, it is the last to do so.
+fn is_open(bidders: u8, clock: u8, reports: &Past, from: usize, round: u32) -> bool
     requires few { bidders ≤ 12 }
     requires from { from ≤ length reports.now.reports }
-    ensures { result ≡ find (λ j. is_none (demand_in (drop from reports.now.reports) round j)) (members bidders clock) }
+    ensures open { result ≡ true → is_full (members bidders clock) (drop from reports.now.reports) round ≡ false }
+    ensures full { result ≡ false → is_full (members bidders clock) (drop from reports.now.reports) round ≡ true }
 {
     for step in 0..bidders {
-        let bidder = step + 1;
+        let bidder = bidders - step;
         if bidder != clock && is_absent(reports, from, round, bidder) {
-            return Some(bidder);
+            return true;
         }
     }
-    None
+    false
 }
 
 /// Whether a bidder has no report in a round among those from a place on.
