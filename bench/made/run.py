@@ -33,12 +33,13 @@ def repeating_logs():
 
 
 def used(words, folder):
-    """The text, the processor's milliseconds and the peak memory in MiB of one run."""
+    """The text, the processor's milliseconds and the peak memory in MiB of one run, which `time` starts: a child of this process would count
+    its memory too."""
     with open(folder / "said", "wb") as said:
-        child = subprocess.Popen(words, cwd=folder, stdout=said, stderr=subprocess.DEVNULL)
+        child = subprocess.Popen(["/usr/bin/time", "-q", "-f", "%M", "-o", "peak", *words], cwd=folder, stdout=said, stderr=subprocess.DEVNULL)
         _, status, usage = os.wait4(child.pid, 0)
         child.returncode = os.waitstatus_to_exitcode(status)
-    return (folder / "said").read_bytes(), 1000 * (usage.ru_utime + usage.ru_stime), usage.ru_maxrss / 1024
+    return (folder / "said").read_bytes(), 1000 * (usage.ru_utime + usage.ru_stime), int((folder / "peak").read_text()) / 1024
 
 
 def row(name, files, words, programs, folder):
@@ -54,7 +55,7 @@ def row(name, files, words, programs, folder):
     figures = "".join(f" {median(times[program]):9.1f} {memory[program]:6.1f}" for program in programs)
     times_faster = f" {median(times[programs[1]]) / median(times[programs[0]]):6.2f}" if len(programs) > 1 else ""
     digest = auctions.digest(Path(folder / file).read_bytes() for file in files)
-    print(f"{name:38} {digest[:16]}{figures}{times_faster}{'' if len(texts) == 1 else '  TEXTS DIFFER'}", flush=True)
+    print(f"{name:46} {digest[:16]}{figures}{times_faster}{'' if len(texts) == 1 else '  TEXTS DIFFER'}", flush=True)
 
 
 def write_auction(name, folder):
@@ -97,7 +98,7 @@ def main():
     named = {kept, word_after("--rows")}
     programs = [str(Path(word).resolve()) for word in sys.argv[1:] if not word.startswith("--") and word not in named]
     only = word_after("--rows")
-    print(f"{'row':38} {'SHA-256':16}" + "".join(f" {'ms':>9} {'MiB':>6}" for _ in programs) + ("  times" if len(programs) > 1 else ""))
+    print(f"{'row':46} {'SHA-256':16}" + "".join(f" {'ms':>9} {'MiB':>6}" for _ in programs) + ("  times" if len(programs) > 1 else ""))
     with tempfile.TemporaryDirectory() as name:
         folder = Path(kept or name)
         folder.mkdir(exist_ok=True)
