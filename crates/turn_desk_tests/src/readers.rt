@@ -85,3 +85,30 @@ fn torn_notes<T: Threads + Wait + Sync>(rt: &T, alloc: Global) -> Option<u64> {
 fn a_note_that_is_taken_is_whole(rt: HostRuntime) {
     assert_eq!(rt; torn_notes(&rt, rt.alloc()), Some(0));
 }
+
+/// How many notes each of two threads leaves.
+const LEFT: u64 = 200_000;
+
+/// Leaves so many notes.
+fn leave_many(desk: &Desk<Notes>) {
+    for number in 0..LEFT {
+        let _number = desk.leave_note(&note_of(number), 8);
+    }
+}
+
+/// The number of the note behind those that two threads leave at once. None where there is no memory.
+fn number_behind_two<T: Threads>(rt: &T, alloc: Global) -> Option<u64> {
+    let Ok((desk, passes)) = Desk::new(alloc, Notes::empty(alloc), 1) else {
+        return None;
+    };
+    let shared = &desk;
+    let ((), ()) = thread::join(rt, move || leave_many(shared), move || leave_many(shared));
+    let number = desk.leave_note(&note_of(0), 8);
+    let _book = desk.close(passes);
+    Some(number)
+}
+
+#[test]
+fn each_note_has_a_number_of_its_own(rt: HostRuntime) {
+    assert_eq!(rt; number_behind_two(&rt, rt.alloc()), Some(2 * LEFT));
+}

@@ -311,6 +311,10 @@ fn a_note_is_found_by_who_stands_before_it(rt: HostRuntime) {
         (20, 18, 19),
         (122, 119, 120),
         (122, 120, 0),
+        // Those of 256, 65,536 and 4,294,967,296 notes before are others.
+        (20, 274, 0),
+        (20, 65_554, 0),
+        (20, 4_294_967_314, 0),
     ] {
         assert_eq!(rt;
             length_behind(rt.alloc(), left, number),
