@@ -7,6 +7,7 @@ use clock_book::{ClockBook, OpenFault, Unopened};
 use demand_set::Demand;
 use house_io::{Disk, Fill, ListDisk};
 use lot_base::{Goods, Prices, Terms};
+use report_journal::{Hint, LONGEST_HINT};
 use std::alloc::Global;
 
 /// The digest of the auction.
@@ -29,7 +30,23 @@ fn plain_terms() -> Option<Terms> {
     }
 }
 
-/// The same, from a price of 3 on.
+/// The same, up to a price of 1,000.
+fn long_terms() -> Option<Terms> {
+    match Goods::new(&[2]) {
+        Ok(goods) => Terms::new(goods, 2, 1_000).ok(),
+        Err(_) => None,
+    }
+}
+
+/// Those of which a clock has the most reports, and room for the most quantities.
+fn greatest_terms() -> Option<Terms> {
+    match Goods::new(&[2, 2, 2, 2, 2, 2]) {
+        Ok(goods) => Terms::new(goods, 12, 10_000).ok(),
+        Err(_) => None,
+    }
+}
+
+/// The same as the first, from a price of 3 on.
 fn priced_terms() -> Option<Terms> {
     let goods = Goods::new(&[2]).ok()?;
     let opening = Prices::read(&[3])?;
@@ -75,7 +92,7 @@ fn bytes_of(alloc: Global, file: &[u8]) -> Option<Vec<u8>> {
 }
 
 fn disk_of(alloc: Global, bytes: Vec<u8>, numbers: Vec<u64>) -> Option<ListDisk> {
-    ListDisk::new(alloc, bytes, 600, numbers).ok()
+    ListDisk::new(alloc, bytes, 10_000, numbers).ok()
 }
 
 /// A disk with a file, of which some calls fail.
@@ -129,6 +146,46 @@ fn offer_to(
     book.offer(alloc, bidder, round, demand)
 }
 
+/// A hint at this payload.
+#[derive(Drop)]
+struct Says<'a> {
+    payload: &'a [u8],
+}
+
+impl<'a> Hint for Says<'a> {
+    ghost says = { λ hint next. Unit {0} };
+
+    fn next(&self, into: &mut [u8; LONGEST_HINT]) -> usize {
+        let length = self.payload.len();
+        if length > LONGEST_HINT {
+            return 0;
+        }
+        into[..length].copy_from_slice(self.payload);
+        length
+    }
+}
+
+/// Offers the report of a demand to a book, with a hint at this payload.
+fn offer_hinted_to(
+    alloc: Global,
+    book: &mut ClockBook<ListDisk>,
+    line: Line,
+    demand: Demand,
+    next: &[u8],
+) -> Offered
+    requires { IsDemand book.old.origin.terms.goods demand }
+    ensures { book.new.origin ≡ book.old.origin }
+{
+    let _kept = book.clock();
+    book.offer_hinted(
+        alloc,
+        line.bidder,
+        line.round,
+        demand,
+        &Says { payload: next },
+    )
+}
+
 /// A book of clock 0 beside its terms.
 #[derive(Drop)]
 struct Stand {
@@ -161,6 +218,14 @@ impl Stand {
                 line.round,
                 demand,
             )),
+        }
+    }
+
+    /// The same with a hint at the payload of the report that comes next.
+    fn offer_hinted(&mut self, line: Line, next: &[u8]) -> Option<Offered> {
+        match demand_of(self.alloc, &self.terms.goods, line.units) {
+            None => None,
+            Some(demand) => Some(offer_hinted_to(self.alloc, &mut self.book, line, demand, next)),
         }
     }
 
@@ -497,4 +562,56 @@ fn each_crash_behind_a_stop_leaves_what_was_taken(rt: HostRuntime) {
     }
     assert_eq!(rt; taken_until(rt.alloc(), end - 1), Some(3));
     assert_eq!(rt; taken_until(rt.alloc(), end), Some(4));
+}
+
+/// Whether both bidders' reports of so many rounds are taken, each of both units, so that the price rises.
+fn takes_rounds(stand: &mut Stand, rounds: u32) -> bool {
+    for round in 1..rounds + 1 {
+        for bidder in [1, 2] {
+            if stand.offer(report(bidder, round, 2)) != Some(Offered::Taken) {
+                return false;
+            }
+        }
+    }
+    true
+}
+
+/// The file of a book that has grown, behind one report more, with a hint at this payload, or without one.
+fn file_behind_a_hint(alloc: Global, next: Option<&[u8]>) -> Option<Vec<u8>> {
+    let mut stand = stand_with(alloc, long_terms(), &[], NEVER)?;
+    if !takes_rounds(&mut stand, 140) {
+        return None;
+    }
+    let answer = match next {
+        None => stand.offer(report(1, 141, 2)),
+        Some(next) => stand.offer_hinted(report(1, 141, 2), next),
+    };
+    if answer != Some(Offered::Taken) {
+        return None;
+    }
+    file_of(alloc, &stand.into_disk())
+}
+
+/// Whether these bytes stand there behind the 281 records of 15 bytes.
+fn stand_behind(alloc: Global, next: Option<&[u8]>, bytes: &[u8]) -> Option<bool> {
+    let file = file_behind_a_hint(alloc, next)?;
+    Some(file.get(4_256..)?.starts_with(bytes))
+}
+
+/// The payload of the other bidder's report in round 141, and how it is laid behind a closed gate.
+const NEXT: [u8; 10] = [2, 0, 0, 0, 141, 1, 0, 1, 0, 2];
+
+const LAID: [u8; 16] = [0, 0, 0, 0, 10, 2, 0, 0, 0, 141, 1, 0, 1, 0, 2, 0];
+
+#[test]
+fn a_hint_is_handed_on_to_the_journal(rt: HostRuntime) {
+    let alloc = rt.alloc();
+    assert_eq!(rt; stand_behind(alloc, Some(&NEXT), &LAID), Some(true));
+    assert_eq!(rt; stand_behind(alloc, None, &[0; 16]), Some(true));
+}
+
+#[test]
+fn a_book_is_opened_with_the_greatest_room(rt: HostRuntime) {
+    let stand = stand_with(rt.alloc(), greatest_terms(), &[], NEVER);
+    assert!(rt; stand.is_some());
 }
