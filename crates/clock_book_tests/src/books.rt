@@ -295,7 +295,7 @@ fn first_other(stand: &mut Stand, steps: &[Step]) -> Option<u32> {
     None
 }
 
-/// The same for a book that may not have been opened, which gives 0, and the file behind these steps.
+/// The same for a book that may not have been opened, which gives 0, and the file after these steps.
 fn first_other_and_file(
     alloc: Global,
     stand: Option<Stand>,
@@ -314,7 +314,7 @@ fn file_of(alloc: Global, disk: &ListDisk) -> Option<Vec<u8>> {
     bytes_of(alloc, disk.bytes())
 }
 
-/// What goes otherwise on a new book, and on the book that is opened on its file behind these steps.
+/// What goes otherwise on a new book, and on the book that is opened on its file after these steps.
 fn others(
     alloc: Global,
     failing: Failing,
@@ -388,7 +388,7 @@ const NO_STEPS: &[Step] = &[];
 
 const ONE_STEP: &[Step] = &[Step::Offers(1, 1, 2, Offered::Taken)];
 
-/// The file of a new book behind these steps.
+/// The file of a new book after these steps.
 fn file_behind(alloc: Global, terms: Option<Terms>, steps: &[Step]) -> Option<Vec<u8>> {
     let stand = stand_with(alloc, terms, &[], NEVER);
     first_other_and_file(alloc, stand, steps).1
@@ -517,7 +517,7 @@ fn image_of(alloc: Global, disk: &ListDisk, fill: Fill) -> Option<Vec<u8>> {
     disk.image(alloc, fill).ok()
 }
 
-/// How many entries a book has that is opened on a file, whether it takes the four reports behind those, and how many it has then.
+/// How many entries a book has that is opened on a file, whether it takes the four reports after those, and how many it has then.
 fn found_on(alloc: Global, file: &[u8]) -> Option<(u64, bool, u64)> {
     match stand_with(alloc, plain_terms(), file, NEVER) {
         None => None,
@@ -576,8 +576,8 @@ fn takes_rounds(stand: &mut Stand, rounds: u32) -> bool {
     true
 }
 
-/// The file of a book that has grown, behind one report more, with a hint at this payload, or without one.
-fn file_behind_a_hint(alloc: Global, next: Option<&[u8]>) -> Option<Vec<u8>> {
+/// The file of a book that has grown, after one report more, with a hint at this payload, or without one.
+fn file_after_a_hint(alloc: Global, next: Option<&[u8]>) -> Option<Vec<u8>> {
     let mut stand = stand_with(alloc, long_terms(), &[], NEVER)?;
     if !takes_rounds(&mut stand, 140) {
         return None;
@@ -592,13 +592,13 @@ fn file_behind_a_hint(alloc: Global, next: Option<&[u8]>) -> Option<Vec<u8>> {
     file_of(alloc, &stand.into_disk())
 }
 
-/// Whether these bytes stand there behind the 281 records of 15 bytes.
-fn stand_behind(alloc: Global, next: Option<&[u8]>, bytes: &[u8]) -> Option<bool> {
-    let file = file_behind_a_hint(alloc, next)?;
+/// Whether these bytes stand there after the 281 records of 15 bytes.
+fn stand_after(alloc: Global, next: Option<&[u8]>, bytes: &[u8]) -> Option<bool> {
+    let file = file_after_a_hint(alloc, next)?;
     Some(file.get(4_256..)?.starts_with(bytes))
 }
 
-/// The payload of the other bidder's report in round 141, and how it is laid behind a closed gate.
+/// The payload of the other bidder's report in round 141, and how it is laid after a closed gate.
 const NEXT: [u8; 10] = [2, 0, 0, 0, 141, 1, 0, 1, 0, 2];
 
 const LAID: [u8; 16] = [0, 0, 0, 0, 10, 2, 0, 0, 0, 141, 1, 0, 1, 0, 2, 0];
@@ -606,8 +606,8 @@ const LAID: [u8; 16] = [0, 0, 0, 0, 10, 2, 0, 0, 0, 141, 1, 0, 1, 0, 2, 0];
 #[test]
 fn a_hint_is_handed_on_to_the_journal(rt: HostRuntime) {
     let alloc = rt.alloc();
-    assert_eq!(rt; stand_behind(alloc, Some(&NEXT), &LAID), Some(true));
-    assert_eq!(rt; stand_behind(alloc, None, &[0; 16]), Some(true));
+    assert_eq!(rt; stand_after(alloc, Some(&NEXT), &LAID), Some(true));
+    assert_eq!(rt; stand_after(alloc, None, &[0; 16]), Some(true));
 }
 
 #[test]

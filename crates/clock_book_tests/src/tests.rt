@@ -64,7 +64,7 @@ fn push_record(file: &mut Vec<u8>, line: Line) -> bool {
     file.extend_from_slice(&record).is_ok()
 }
 
-/// The journal of these reports behind this front, whose last gate has this byte.
+/// The journal of these reports after this front, whose last gate has this byte.
 fn with_records(front: Vec<u8>, rows: &[Line], last: u8) -> Option<Vec<u8>> {
     let mut file = front;
     for line in rows {

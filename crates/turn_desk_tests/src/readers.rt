@@ -96,7 +96,7 @@ fn leave_many(desk: &Desk<Notes>) {
     }
 }
 
-/// The number of the note behind those that two threads leave at once. None where there is no memory.
+/// The number of the note after those that two threads leave at once. None where there is no memory.
 fn number_behind_two<T: Threads>(rt: &T, alloc: Global) -> Option<u64> {
     let Ok((desk, passes)) = Desk::new(alloc, Notes::empty(alloc), 1) else {
         return None;

@@ -278,7 +278,7 @@ fn as_many_passes_as_are_asked_for_write_their_numbers_in_two_rounds(rt: HostRun
     }
 }
 
-/// The length of the note behind that of this number, where so many were left before, each of as many bytes as its number says, which all are
+/// The length of the note after that of this number, where so many were left before, each of as many bytes as its number says, which all are
 /// its number. Nothing where other bytes are found.
 fn length_behind(alloc: Global, left: u8, number: u64) -> Option<usize> {
     let Ok((desk, passes)) = Desk::new(alloc, Notes::empty(alloc), 1) else {

@@ -1,4 +1,4 @@
-//! Threads that wait for their turns: behind turns that last, and behind many short ones, which end while threads fall asleep.
+//! Threads that wait for their turns: after turns that last, and after many short ones, which end while threads fall asleep.
 ghost use Rattle.std.specs.Prelude.{◌≡◌, ◌≤◌, None};
 ghost use Rattle.turn_desk.specs.Passes.{AreAll};
 
@@ -17,7 +17,7 @@ use turn_desk::{Desk, Pass};
 /// How many short turns of each pass go before. The desk has 64 bells: with 60 tickets before, the next six go past the last bell.
 const BEFORE: u32 = 10;
 
-/// The most processor time that all waits behind turns that last may take together, in microseconds. Six threads that looked on would take
+/// The most processor time that all waits after turns that last may take together, in microseconds. Six threads that looked on would take
 /// some 200,000 on four processors; those that sleep take 2,000.
 const WAITS_TAKE: u64 = 20_000;
 
@@ -118,7 +118,7 @@ fn side_by_side<T: Threads + Wait + Clock + CpuClock + Sync>(
     );
 }
 
-/// What six threads write, behind short turns of one of them. None where there is no memory.
+/// What six threads write, after short turns of one of them. None where there is no memory.
 fn six_threads<T: Threads + Wait + Clock + CpuClock + Sync>(
     rt: &T,
     alloc: Global,
