@@ -15,6 +15,8 @@ use std::test::Fail;
 use two_way::{AwardRow, FloatFault, Floated, TwoWay, first_outside, float};
 use valuation::{Valuation, read};
 
+mod greatest;
+
 /// Three bidders, to whom no, one and two units are worth 0, 10 and 14, then 0, 8 and 11, then 0, 6 and 7.
 const THREE_BIDDERS: &str = "[[valuations]]
 form = \"table\"
@@ -55,6 +57,15 @@ values = [0, 0, 0, 3]
 [[valuations]]
 form = \"unit\"
 values = [2, 2]
+";
+
+/// The second bidder wants both goods or nothing.
+const SECOND_COMPLEMENTS: &str = "[[valuations]]
+form = \"unit\"
+values = [2, 2]
+[[valuations]]
+form = \"table\"
+values = [0, 0, 0, 3]
 ";
 
 /// An auction, the prices at which its clocks start, and what it comes to.
@@ -203,6 +214,15 @@ clock 1 up 0 down 3 prices [0, 0] choice
         start: &[1, 1],
         values: COMPLEMENTS,
         text: "not substitutes: bidder 1 x [1, 1] y [0, 0] good 0",
+    },
+    Case {
+        story: "complements of the second bidder are refused",
+        supply: &[1, 1],
+        opening: &[0, 0],
+        bidders: 2,
+        start: &[1, 1],
+        values: SECOND_COMPLEMENTS,
+        text: "not substitutes: bidder 2 x [1, 1] y [0, 0] good 0",
     },
 ];
 
