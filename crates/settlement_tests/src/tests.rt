@@ -6,9 +6,9 @@ ghost use Rattle.settlement.specs.Clocks.{AreClocksOf};
 
 use clock::{Clock, Judgement};
 use demand_set::{Demand, Report};
-use lot_base::{Bundle, Goods, Phase, Prices, RawDemand, Sequence, Terms, cost};
+use lot_base::{Bundle, Goods, NoMemory, Phase, Prices, RawDemand, Sequence, Terms, cost};
 use settlement::laws::{credit_example, explained_example, reserve_example};
-use settlement::{AwardRow, ClockRow, Outcome, Settlement, settle};
+use settlement::{AwardRow, ClockRow, Outcome, Settlement, row_of, settle};
 use std::alloc::Global;
 use std::process::Abort;
 use std::test::Fail;
@@ -43,7 +43,7 @@ fn append(quantities: &mut Vec<u16>, bundle: &Bundle) -> Result<(), Fail> {
     Ok(())
 }
 
-/// All bundles of the greatest surplus, by trying each. No bundle costs more than 1,000.
+/// All bundles of the greatest surplus, by trying each. No bundle costs more than 1,000,000.
 fn demand_at(
     rt: &impl Abort,
     alloc: Global,
@@ -58,7 +58,9 @@ fn demand_at(
     let mut quantities = Vec::new(alloc);
     for place in 0..goods.box_size() {
         let bundle = goods.bundle(place);
-        let surplus = (1_000 + values[place as usize] as u64).saturating_sub(cost(prices, &bundle));
+        let surplus = (1_000_000 + values[place as usize] as u64).saturating_sub(cost(
+            prices, &bundle,
+        ));
         if surplus > best {
             best = surplus;
             quantities = Vec::new(alloc);
@@ -128,7 +130,7 @@ fn full(
     ensures number { IfOk result (λ c. c.history.number ≡ number) }
 {
     let mut clock = Clock::new(alloc, terms, number)?;
-    for round in 1..100 {
+    for round in 1..10_001 {
         if clock.look().phase != Phase::Running {
             break;
         }
@@ -523,6 +525,25 @@ const TIE_TOLD: Told = (
     ],
 );
 
+// At price 0 the first wants both units and the second one; at price 1 the second alone wants units, and both. By its report the first
+// raised the price at which the second buys, and what the second left of the supply is its credit.
+const RAISED: Reports = Reports::Listed(&[
+    &[(1, 1, &[2]), (2, 1, ONE), (1, 2, &[0]), (2, 2, &[2])],
+    &[(2, 1, ONE)],
+    &[(1, 1, &[2])],
+]);
+
+const RAISED_TOLD: Told = (
+    &[],
+    &[1],
+    &[(&[0], 0, 1, -1), (&[2], 0, 0, 2)],
+    &[
+        (1, &[1], &[&[0], &[2]]),
+        (0, &[0], &[&[1]]),
+        (0, &[0], &[&[2]]),
+    ],
+);
+
 /// What happens, the supply, how many bidders there are, their reports, and the outcome.
 type Auction<'a> = (&'a str, &'a [u16], u8, Reports<'a>, Told<'a>);
 
@@ -557,6 +578,13 @@ const AUCTIONS: &[Auction] = &[
     ),
     ("a tie goes to the last bidder", &[1], 2, TIE, TIE_TOLD),
     (
+        "reports of no valuations pay a bidder",
+        &[2],
+        2,
+        RAISED,
+        RAISED_TOLD,
+    ),
+    (
         "six goods go to one bidder",
         ALL_OF_SIX,
         2,
@@ -574,18 +602,220 @@ fn auctions_with_a_ceiling_of_100_settle(rt: HostRuntime) -> Result<(), Fail> {
     Ok(())
 }
 
-// The first bidder wants both goods or nothing, the second one of them: at prices 2 and 2 no choice sells both.
-const COMPLEMENTS: Reports = Reports::Listed(&[
+const OPENED_TOLD: Told = (
+    &[2, 0],
+    &[3, 0],
+    &[(&[1, 0], 0, 0, 3), (&[0, 0], 0, 0, 0)],
     &[
-        (1, 1, &[1, 1]),
-        (2, 1, &[0, 1, 1, 0, 1, 1]),
-        (1, 2, &[1, 1]),
-        (2, 2, &[0, 1, 1, 0]),
-        (1, 3, &[0, 0]),
-        (2, 3, &[0, 0, 0, 1, 1, 0]),
+        (1, &[3, 0], &[&[1, 0], &[0, 0]]),
+        (0, &[2, 0], &[&[1, 0]]),
+        (0, &[2, 0], &[&[1, 0]]),
     ],
+);
+
+/// Terms of a unit of each of two goods for two bidders, of which the first opens at 2.
+fn first_opens_at_two(rt: &impl Abort) -> Result<Terms, Fail> {
+    let opening = Prices::read(&[2, 0]).ok_or("opening")?;
+    let goods = Goods::new(&[1, 1])?;
+    assert_eq!(rt; opening.count(), goods.count());
+    Ok(Terms::with_opening(goods, 2, 100, opening)?)
+}
+
+// The first good is worth 5 to the first bidder and 3 to the second, and the other nothing.
+#[test]
+fn an_auction_opens_at_two_prices(rt: HostRuntime) -> Result<(), Fail> {
+    let terms = first_opens_at_two(&rt)?;
+    let reports = Reports::True(&[&[0, 0, 5, 5], &[0, 0, 3, 3]]);
+    let settles = settles_so(&rt, rt.alloc(), &terms, reports, &OPENED_TOLD)?;
+    assert!(rt; settles);
+    Ok(())
+}
+
+/// The unit is worth 20 to each of twelve bidders.
+const TWELVE_EQUALS: &[&[u32]] = &[
+    &[0, 20],
+    &[0, 20],
+    &[0, 20],
+    &[0, 20],
+    &[0, 20],
+    &[0, 20],
+    &[0, 20],
+    &[0, 20],
+    &[0, 20],
+    &[0, 20],
+    &[0, 20],
+    &[0, 20],
+];
+
+/// The row of one of the twelve who gets nothing.
+const GETS_NONE: Award = (&[0], -200, -200, 0);
+
+/// The row of a clock of eleven of them.
+const OF_ELEVEN: Row = (
+    20,
+    &[20],
+    &[
+        &[0],
+        &[0],
+        &[0],
+        &[0],
+        &[0],
+        &[0],
+        &[0],
+        &[0],
+        &[0],
+        &[0],
+        &[1],
+    ],
+);
+
+// In each of 9,999 steps eleven bidders want ten units more than there are.
+const TWELVE_TOLD: Told = (
+    &[],
+    &[20],
+    &[
+        GETS_NONE,
+        GETS_NONE,
+        GETS_NONE,
+        GETS_NONE,
+        GETS_NONE,
+        GETS_NONE,
+        GETS_NONE,
+        GETS_NONE,
+        GETS_NONE,
+        GETS_NONE,
+        GETS_NONE,
+        (&[1], -200, -200, 20),
+    ],
+    &[
+        (
+            20,
+            &[20],
+            &[
+                &[0],
+                &[0],
+                &[0],
+                &[0],
+                &[0],
+                &[0],
+                &[0],
+                &[0],
+                &[0],
+                &[0],
+                &[0],
+                &[1],
+            ],
+        ),
+        OF_ELEVEN,
+        OF_ELEVEN,
+        OF_ELEVEN,
+        OF_ELEVEN,
+        OF_ELEVEN,
+        OF_ELEVEN,
+        OF_ELEVEN,
+        OF_ELEVEN,
+        OF_ELEVEN,
+        OF_ELEVEN,
+        OF_ELEVEN,
+        OF_ELEVEN,
+    ],
+);
+
+#[test]
+fn twelve_equals_settle(rt: HostRuntime) -> Result<(), Fail> {
+    let terms = terms_of(&[1], 12, 10_000)?;
+    let settles = settles_so(
+        &rt,
+        rt.alloc(),
+        &terms,
+        Reports::True(TWELVE_EQUALS),
+        &TWELVE_TOLD,
+    )?;
+    assert!(rt; settles);
+    Ok(())
+}
+
+// To each of two bidders the unit is worth as much as the greatest ceiling allows.
+const AT_THE_GREATEST: Told = (
+    &[],
+    &[9_999],
+    &[(&[0], 0, 0, 0), (&[1], 0, 0, 9_999)],
+    &[
+        (9_999, &[9_999], &[&[0], &[1]]),
+        (0, &[0], &[&[1]]),
+        (0, &[0], &[&[1]]),
+    ],
+);
+
+#[test]
+fn two_equals_settle_at_the_greatest_price(rt: HostRuntime) -> Result<(), Fail> {
+    let terms = terms_of(&[1], 2, 10_000)?;
+    let reports = Reports::True(&[&[0, 9_999], &[0, 9_999]]);
+    let settles = settles_so(&rt, rt.alloc(), &terms, reports, &AT_THE_GREATEST)?;
+    assert!(rt; settles);
+    Ok(())
+}
+
+/// What each quantity of 2,047 units is worth where so many units count, and each is worth so much.
+fn values_of(alloc: Global, worth: u32, cap: u32) -> Result<Vec<u32>, NoMemory>
+    requires worth { worth ≤ 100 }
+    requires cap { cap ≤ 2047 }
+{
+    let mut values = Vec::new(alloc);
+    for units in 0..2048u32 {
+        values.push(units.min(cap) * worth)?;
+    }
+    Ok(values)
+}
+
+// At 80 the second wants any quantity up to 1,000. The first pays what 1,000 units are worth to it.
+const MANY_UNITS_TOLD: Told = (
+    &[],
+    &[80],
+    &[(&[2047], 0, 83_760, 80_000), (&[0], 0, 0, 0)],
+    &[
+        (80, &[80], &[&[2047], &[0]]),
+        (0, &[0], &[&[1000]]),
+        (0, &[0], &[&[2047]]),
+    ],
+);
+
+#[test]
+fn the_greatest_supply_settles(rt: HostRuntime) -> Result<(), Fail> {
+    let alloc = rt.alloc();
+    let terms = terms_of(&[2047], 2, 10_000)?;
+    let first = values_of(alloc, 90, 2047)?;
+    let second = values_of(alloc, 80, 1000)?;
+    let reports = Reports::True(&[&first, &second]);
+    let settles = settles_so(&rt, alloc, &terms, reports, &MANY_UNITS_TOLD)?;
+    assert!(rt; settles);
+    Ok(())
+}
+
+// The first bidder wants both goods or nothing, the second one of them: at prices 2 and 2 no choice sells both.
+const BY_TWO: &[(u8, u32, &[u16])] = &[
+    (1, 1, &[1, 1]),
+    (2, 1, &[0, 1, 1, 0, 1, 1]),
+    (1, 2, &[1, 1]),
+    (2, 2, &[0, 1, 1, 0]),
+    (1, 3, &[0, 0]),
+    (2, 3, &[0, 0, 0, 1, 1, 0]),
+];
+
+const COMPLEMENTS: Reports = Reports::Listed(&[
+    BY_TWO,
     &[(2, 1, &[0, 1, 1, 0, 1, 1])],
     &[(1, 1, &[1, 1])],
+]);
+
+const NEITHER: &[u16] = &[0, 0];
+
+// Where the third takes part nobody wants anything. Without it the others report as above.
+const ONE_WITHOUT: Reports = Reports::Listed(&[
+    &[(1, 1, NEITHER), (2, 1, NEITHER), (3, 1, NEITHER)],
+    &[(2, 1, NEITHER), (3, 1, NEITHER)],
+    &[(1, 1, NEITHER), (3, 1, NEITHER)],
+    BY_TWO,
 ]);
 
 /// How an auction of this supply for two bidders stands.
@@ -605,6 +835,12 @@ fn complements_leave_no_award(rt: HostRuntime) -> Result<(), Fail> {
     let settlement = two_stand(&rt, rt.alloc(), &[1, 1], 10, COMPLEMENTS)?;
     assert!(rt;
         matches!(settlement, Settlement::NoAward { clock: 0 }),
+        "{settlement:?}"
+    );
+    let terms = terms_of(&[1, 1], 3, 10)?;
+    let settlement = settled(&rt, rt.alloc(), &terms, ONE_WITHOUT)?;
+    assert!(rt;
+        matches!(settlement, Settlement::NoAward { clock: 3 }),
         "{settlement:?}"
     );
     Ok(())
@@ -644,5 +880,100 @@ fn an_open_clock_comes_before_a_halted_one(rt: HostRuntime) -> Result<(), Fail> 
         matches!(halted, Settlement::Halted { clock: 0, good: 0 }),
         "{halted:?}"
     );
+    Ok(())
+}
+
+const THE_SECOND: &[u16] = &[0, 1];
+
+/// What the first two report until the price of the second good is at the ceiling, and the front of it.
+const SECOND_HALTS: &[(u8, u32, &[u16])] = &[
+    (1, 1, THE_SECOND),
+    (2, 1, THE_SECOND),
+    (1, 2, THE_SECOND),
+    (2, 2, THE_SECOND),
+    (1, 3, THE_SECOND),
+    (2, 3, THE_SECOND),
+];
+
+const SECOND_RISES: &[(u8, u32, &[u16])] = &[
+    (1, 1, THE_SECOND),
+    (2, 1, THE_SECOND),
+    (1, 2, THE_SECOND),
+];
+
+// Where the third takes part nobody wants anything. On the clock without it the price of the second good rises.
+const THIRD_OPEN: Reports = Reports::Listed(&[
+    &[(1, 1, NEITHER), (2, 1, NEITHER), (3, 1, NEITHER)],
+    &[(2, 1, NEITHER), (3, 1, NEITHER)],
+    &[(1, 1, NEITHER), (3, 1, NEITHER)],
+    SECOND_RISES,
+]);
+
+const THIRD_HALTED: Reports = Reports::Listed(&[
+    &[(1, 1, NEITHER), (2, 1, NEITHER), (3, 1, NEITHER)],
+    &[(2, 1, NEITHER), (3, 1, NEITHER)],
+    &[(1, 1, NEITHER), (3, 1, NEITHER)],
+    SECOND_HALTS,
+]);
+
+#[test]
+fn the_last_clock_is_open_and_halts(rt: HostRuntime) -> Result<(), Fail> {
+    let terms = terms_of(&[1, 1], 3, 2)?;
+    let open = settled(&rt, rt.alloc(), &terms, THIRD_OPEN)?;
+    assert!(rt;
+        matches!(
+            open,
+            Settlement::Open {
+                clock: 3,
+                round: 2,
+                missing: 2
+            }
+        ),
+        "{open:?}"
+    );
+    let halted = settled(&rt, rt.alloc(), &terms, THIRD_HALTED)?;
+    assert!(rt;
+        matches!(halted, Settlement::Halted { clock: 3, good: 1 }),
+        "{halted:?}"
+    );
+    Ok(())
+}
+
+/// Whether the clock of all, of this supply and for two bidders, has a row where it is told so.
+fn has_row(
+    rt: &impl Abort,
+    alloc: Global,
+    supply: &[u16],
+    ceiling: u32,
+    reports: &[(u8, u32, &[u16])],
+) -> Result<bool, Fail> {
+    let terms = terms_of(supply, 2, ceiling)?;
+    let clock = listed(rt, alloc, &terms, 0, reports)?;
+    Ok(row_of(alloc, &terms, &clock)?.is_some())
+}
+
+#[test]
+fn clocks_that_ended_with_a_choice_have_a_row(rt: HostRuntime) -> Result<(), Fail> {
+    for (story, supply, ceiling, reports, has) in [
+        (
+            "nobody has reported",
+            [1].as_slice(),
+            2,
+            [].as_slice(),
+            false,
+        ),
+        ("it has halted at its ceiling", &[1], 2, HALTING, false),
+        ("no choice clears", &[1, 1], 10, BY_TWO, false),
+        (
+            "one wants the unit",
+            &[1],
+            2,
+            &[(1, 1, ONE), (2, 1, &[0])],
+            true,
+        ),
+    ] {
+        let found = has_row(&rt, rt.alloc(), supply, ceiling, reports)?;
+        assert_eq!(rt; found, has, "{story}");
+    }
     Ok(())
 }
