@@ -36,6 +36,15 @@ form = \"unit\"
 values = [2, 2]
 ";
 
+/// The second bidder wants both goods or nothing.
+const SECOND_COMPLEMENTS: &str = "[[valuations]]
+form = \"unit\"
+values = [2, 2]
+[[valuations]]
+form = \"table\"
+values = [0, 0, 0, 3]
+";
+
 /// The terms of this supply and so many bidders, with a ceiling of 100.
 fn terms_of(rt: &impl Abort, supply: &[u16], bidders: u8) -> Terms {
     match Goods::new(supply) {
@@ -119,6 +128,8 @@ fn complements_are_refused(rt: HostRuntime) -> Result<(), Fail> {
     for workers in [1, 2, 64] {
         assert!(&rt; gives(&rt, rt.alloc(), &terms, COMPLEMENTS, workers, line)?);
     }
+    let line = "bidder 2 [1, 1] [0, 0] good 0";
+    assert!(&rt; gives(&rt, rt.alloc(), &terms, SECOND_COMPLEMENTS, 1, line)?);
     Ok(())
 }
 
@@ -145,7 +156,16 @@ fn seven_makes_its_first_bidder(rt: HostRuntime) -> Result<(), Fail> {
 /// The box of four, three and two units has 60 bundles.
 #[test]
 fn each_number_makes_a_market(rt: HostRuntime) -> Result<(), Fail> {
-    for number in [0, 1, 65_536, u32::MAX] {
+    for number in [
+        0,
+        1,
+        65_536,
+        1_000_000,
+        16_777_216,
+        2_147_483_647,
+        2_147_483_648,
+        u32::MAX,
+    ] {
         let values = first_values(rt.alloc(), number)?;
         assert_eq!(&rt; values.len(), 60, "{number}");
     }
