@@ -198,6 +198,58 @@ fn a_journal_that_has_grown_lays_the_next_record(rt: HostRuntime) {
     }
 }
 
+/// The longest payload that is laid, and after which the next one is.
+const LONGEST_LAID: [u8; 1_024] = [5; 1_024];
+
+/// One byte more.
+const TOO_LONG: [u8; 1_025] = [6; 1_025];
+
+/// What is appended last with what is likely to come next, an offset after its payload, and what is written there.
+type Laying = (&'static [Step<'static>], usize, &'static [u8]);
+
+const LAYINGS: [Laying; 4] = [
+    (
+        &[
+            Step::Appends(&LONG, Ok(1)),
+            Step::Lays(&PAYLOAD, &LONGEST_LAID, Ok(2)),
+        ],
+        4_152,
+        &[0, 0, 0, 4, 0, 5],
+    ),
+    (
+        &[
+            Step::Appends(&LONG, Ok(1)),
+            Step::Lays(&PAYLOAD, &TOO_LONG, Ok(2)),
+        ],
+        4_152,
+        &[0, 0, 0, 0, 0, 0],
+    ),
+    (
+        &[
+            Step::Appends(&LONG, Ok(1)),
+            Step::Lays(&LONGEST_LAID, &PAYLOAD, Ok(2)),
+        ],
+        5_166,
+        &[0, 0, 0, 0, 10, 1],
+    ),
+    (
+        &[
+            Step::Appends(&LONG, Ok(1)),
+            Step::Lays(&TOO_LONG, &PAYLOAD, Ok(2)),
+        ],
+        5_167,
+        &[0, 0, 0, 0, 0, 0],
+    ),
+];
+
+#[test]
+fn what_is_laid_and_what_it_is_laid_after_have_1024_bytes_at_most(rt: HostRuntime) {
+    for (steps, at, bytes) in LAYINGS {
+        assert_eq!(rt; has_at(rt.alloc(), steps, at, bytes), Some(true), "at {at}");
+        assert_eq!(rt; length_after(rt.alloc(), plain(), steps), Some(8_233));
+    }
+}
+
 /// A short journal lays nothing.
 const SHORT: &[Step] = &[Step::Lays(&PAYLOAD, &LONGER, Ok(1))];
 
@@ -351,6 +403,26 @@ fn is_longer_at(alloc: Global, at: u32) -> Option<bool> {
 #[test]
 fn a_payload_is_read_at_its_place(rt: HostRuntime) {
     assert_eq!(rt; is_longer_at(rt.alloc(), 67), Some(true));
+}
+
+/// What is read of so many bytes from this offset on.
+fn read_from(alloc: Global, at: u32, length: u32) -> Option<Vec<u8>> {
+    let mut disk = disk_of(alloc, &PRICED)?;
+    read_at(alloc, &mut disk, Place { at, length })
+}
+
+/// Whether just these are.
+fn reads(alloc: Global, at: u32, bytes: &[u8]) -> Option<bool> {
+    let length = u32::try_from(bytes.len()).ok()?;
+    let found = read_from(alloc, at, length)?;
+    Some(found.as_slice() == bytes)
+}
+
+/// The file has 80 bytes.
+#[test]
+fn bytes_that_a_disk_has_not_are_zeros(rt: HostRuntime) {
+    assert_eq!(rt; reads(rt.alloc(), 77, &[0, 3, 0, 0, 0, 0]), Some(true));
+    assert_eq!(rt; reads(rt.alloc(), 81, &[0, 0]), Some(true));
 }
 
 /// The longest payload, of a byte that says which it is.
