@@ -566,9 +566,9 @@ fn each_crash_behind_a_stop_leaves_what_was_taken(rt: HostRuntime) {
 
 /// Whether both bidders' reports of so many rounds are taken, each of both units, so that the price rises.
 fn takes_rounds(stand: &mut Stand, rounds: u32) -> bool {
-    for round in 1..rounds + 1 {
+    for before in 0..rounds {
         for bidder in [1, 2] {
-            if stand.offer(report(bidder, round, 2)) != Some(Offered::Taken) {
+            if stand.offer(report(bidder, before + 1, 2)) != Some(Offered::Taken) {
                 return false;
             }
         }
