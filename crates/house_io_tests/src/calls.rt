@@ -62,6 +62,8 @@ pub(crate) struct Question {
     pub(crate) stands: bool,
     pub(crate) asked: &'static [Asked],
     pub(crate) failing: &'static [usize],
+    /// The system's number of the error by which they fail.
+    pub(crate) code: i32,
 }
 
 /// How many of what was asked for failed, or why nothing was opened, with how many files are open at the end, the calls that were made
@@ -176,7 +178,7 @@ pub(crate) const BROKEN: i32 = 5;
 
 pub(crate) fn found(alloc: Global, question: &Question) -> Option<Outcome> {
     let mut room = vec![in alloc; 7; most_asked(question.asked)].ok()?;
-    let calls = notes_of(alloc, question.failing, BROKEN)?;
+    let calls = notes_of(alloc, question.failing, question.code)?;
     let folder = folder_of(alloc, question, Arc::clone(&calls).ok()?)?;
     let (outcome, open) = outcome_of(alloc, &folder, question, &mut room);
     Some(Outcome {
@@ -198,7 +200,7 @@ struct Row {
     said: &'static str,
 }
 
-fn question_of(row: &Row) -> Question {
+fn question_of(row: &Row, code: i32) -> Question {
     Question {
         parent: "/",
         folder: ".",
@@ -207,11 +209,12 @@ fn question_of(row: &Row) -> Question {
         stands: row.stands,
         asked: row.asked,
         failing: row.failing,
+        code,
     }
 }
 
 fn holds(alloc: Global, row: &Row) -> bool {
-    match found(alloc, &question_of(row)) {
+    match found(alloc, &question_of(row, BROKEN)) {
         Some(found) => {
             found.outcome == row.outcome
                 && found.open == 0
@@ -296,7 +299,7 @@ const CLAIMING: [Row; 6] = [
         ],
         said: "",
     },
-    // A write of no bytes behind the end lengthens the file.
+    // A write of no bytes after the end lengthens the file.
     Row {
         stands: true,
         asked: &[Asked::Writes(200_001, 0), Asked::Writes(2, 0)],
@@ -404,7 +407,7 @@ const FAULTS: [Row; 7] = [
         calls: &[OPENED, Call::SeekEnd, SYNCED, SYNCED],
         said: "journal: size: Input/output error (os error 5)\njournal: sync: Input/output error (os error 5)\n",
     },
-    // A write that fails behind its first bytes.
+    // A write that fails after its first bytes.
     Row {
         stands: true,
         asked: &[Asked::Writes(5, 4)],
@@ -676,7 +679,7 @@ const PIECES: [Row; 11] = [
         ],
         said: "journal: write: Input/output error (os error 5)\n",
     },
-    // Each sync is a call, also behind some that failed.
+    // Each sync is a call, also after some that failed.
     Row {
         stands: true,
         asked: &[
@@ -708,7 +711,7 @@ fn first_other(alloc: Global, rows: &[Row]) -> usize {
 /// What is found of the row of this number.
 fn found_at(alloc: Global, rows: &[Row], number: usize) -> Option<Outcome> {
     match rows.get(number) {
-        Some(row) => found(alloc, &question_of(row)),
+        Some(row) => found(alloc, &question_of(row, BROKEN)),
         None => None,
     }
 }
@@ -735,4 +738,55 @@ fn a_fault_is_said_once_for_each_cause_in_a_row(rt: HostRuntime) {
 fn pieces_go_where_they_are_to_by_these_calls(rt: HostRuntime) {
     let number = first_other(rt.alloc(), &PIECES);
     assert_eq!(rt; number, 11, "{:?}", found_at(rt.alloc(), &PIECES, number));
+}
+
+/// The greatest number of a cause.
+pub(crate) const MOST_CAUSES: i32 = 133;
+
+/// No such file or directory.
+const ABSENT: i32 = 2;
+
+/// Interrupted system call.
+const INTERRUPTED: i32 = 4;
+
+/// Whether another cause is another case: an absent name is one, and a write that was interrupted is made once more by the standard library.
+fn is_another_case(row: &Row, code: i32) -> bool {
+    match row.asked {
+        [Asked::Writes(_, _), ..] => code == INTERRUPTED,
+        _ => code == ABSENT && row.failing == [0].as_slice(),
+    }
+}
+
+/// Whether a row holds where its calls fail by this cause: as many fail, the same calls are made, and something is said or nothing.
+fn holds_by(alloc: Global, row: &Row, code: i32) -> bool {
+    match found(alloc, &question_of(row, code)) {
+        Some(found) => {
+            found.outcome == row.outcome
+                && found.calls.as_slice() == row.calls
+                && found.said.is_empty() == row.said.is_empty()
+        }
+        None => false,
+    }
+}
+
+/// The first cause by which a row with calls that fail does not hold.
+fn other_cause(alloc: Global, row: &Row) -> Option<i32> {
+    if row.failing.is_empty() {
+        return None;
+    }
+    for code in 1..MOST_CAUSES + 1 {
+        if !is_another_case(row, code) && !holds_by(alloc, row, code) {
+            return Some(code);
+        }
+    }
+    None
+}
+
+#[test]
+fn a_call_that_fails_is_a_fault_whatever_its_cause(rt: HostRuntime) {
+    for rows in [READING.as_slice(), &CLAIMING, &FAULTS, &PIECES] {
+        for row in rows {
+            assert_eq!(rt; other_cause(rt.alloc(), row), None, "{:?}", row.asked);
+        }
+    }
 }

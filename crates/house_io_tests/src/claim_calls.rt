@@ -1,7 +1,7 @@
 //! What no clause says of names: which file is opened as a source, which folders are synced for a claim, and that a shelf tells whether it
 //! found a disk.
 use crate::calls::{
-    Asked, BROKEN, FOLDER, MADE, OPENED, Outcome, Question, failures, folder_of, found,
+    Asked, BROKEN, FOLDER, MADE, MOST_CAUSES, OPENED, Outcome, Question, failures, folder_of, found,
 };
 use crate::noted_folder::{Call, Place};
 use crate::notes::notes_of;
@@ -15,6 +15,7 @@ fn claimed_in(
     folder: &'static str,
     name: &'static str,
     failing: &'static [usize],
+    code: i32,
 ) -> Option<Outcome> {
     found(
         alloc,
@@ -26,6 +27,7 @@ fn claimed_in(
             stands: false,
             asked: &[Asked::Claims],
             failing,
+            code,
         },
     )
 }
@@ -37,7 +39,7 @@ fn is_claimed_in(
     folder: &'static str,
     name: &'static str,
 ) -> Option<(bool, usize)> {
-    match claimed_in(alloc, parent, folder, name, &[]) {
+    match claimed_in(alloc, parent, folder, name, &[], BROKEN) {
         Some(found) => Some((found.outcome == Ok(0), found.calls.len())),
         None => None,
     }
@@ -56,11 +58,20 @@ fn a_claim_syncs_the_folder_of_its_name(rt: HostRuntime) {
             "the-journal-of-an-auction-of-forty-eight-letters",
             (true, 7),
         ),
+        (".", "k", "k/journal", (true, 9)),
+        (".", "..", "../journal", (true, 9)),
+        ("kept", "kept/..", "kept/../journal", (true, 9)),
         (".", "kept", "kept/journal", (true, 9)),
         (".", "kept ", "kept / journal", (true, 9)),
         ("a", "a/b", "a/b/journal", (true, 9)),
         ("/a", "/a/b", "/a/b/journal", (true, 9)),
         ("/", "/a", "/a/journal", (true, 9)),
+        (
+            "a-folder-with-the-journals",
+            "a-folder-with-the-journals/of-an-auction-of-which-the-name-is-long",
+            "a-folder-with-the-journals/of-an-auction-of-which-the-name-is-long/journal",
+            (true, 9),
+        ),
         ("no parent", "/", "/journal", (true, 7)),
         (".", "kept", "absent/journal", (false, 2)),
     ] {
@@ -84,6 +95,7 @@ fn is_read_as(alloc: Global, name: &'static str) -> Option<(bool, bool)> {
             stands: true,
             asked: &[Asked::Pulls(9)],
             failing: &[],
+            code: BROKEN,
         },
     )?;
     let is_read = found.calls.as_slice() == [OPENED, Call::Read(9)].as_slice();
@@ -115,13 +127,15 @@ const KEPT: [Call; 9] = [
     Call::SyncAll(Place::Parent),
 ];
 
-/// Whether a journal in a folder of the working directory is claimed by the first so many of these calls, and how often that fails.
+/// Whether a journal in a folder of the working directory is claimed by the first so many of these calls, and how often that fails. The calls that
+/// fail do so by this cause.
 fn is_kept_by(
     alloc: Global,
     count: usize,
     failing: &'static [usize],
+    code: i32,
 ) -> Option<(bool, Result<u64, Refusal>)> {
-    match claimed_in(alloc, ".", "kept", "kept/journal", failing) {
+    match claimed_in(alloc, ".", "kept", "kept/journal", failing, code) {
         Some(found) => Some((
             Some(found.calls.as_slice()) == KEPT.get(..count),
             found.outcome,
@@ -140,11 +154,13 @@ fn a_claim_fails_where_a_folder_is_not_synced(rt: HostRuntime) {
         (9, &[8], 1),
     ];
     for (count, failing, failed) in failing {
-        assert_eq!(rt;
-            is_kept_by(rt.alloc(), count, failing),
-            Some((true, Ok(failed))),
-            "{count}"
-        );
+        for code in 1..MOST_CAUSES + 1 {
+            assert_eq!(rt;
+                is_kept_by(rt.alloc(), count, failing, code),
+                Some((true, Ok(failed))),
+                "{count} by {code}"
+            );
+        }
     }
 }
 
@@ -158,10 +174,11 @@ fn question_of(stands: bool, asked: &'static [Asked]) -> Question {
         stands,
         asked,
         failing: &[],
+        code: BROKEN,
     }
 }
 
-/// Whether a shelf has found no disk, before anything is asked of it and behind that.
+/// Whether a shelf has found no disk, before anything is asked of it and after that.
 fn finds_no_disk(alloc: Global, stands: bool, asked: &'static [Asked]) -> Option<(bool, bool)> {
     let question = question_of(stands, asked);
     let folder = folder_of(alloc, &question, notes_of(alloc, &[], BROKEN)?)?;

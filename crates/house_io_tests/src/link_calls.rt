@@ -1,5 +1,6 @@
 //! What no clause says of real doors and links: each call that is made of them, one by one, with its arguments, what is said of one that
 //! fails, and that what is closed is let go of.
+use crate::calls::MOST_CAUSES;
 use crate::noted_net::{Call, NotedListener, NotedNet, NotedStream};
 use crate::notes::{notes_of, open_ones};
 use house_io::{Door, Failed, Link, Net, TcpDoor, TcpLink, TcpNet};
@@ -781,4 +782,43 @@ fn a_link_talks_by_these_calls(rt: HostRuntime) {
 fn a_link_is_hung_up_by_these_calls(rt: HostRuntime) {
     let number = first_other(rt.alloc(), &CLOSING);
     assert_eq!(rt; number, 10, "{:?}", found_at(rt.alloc(), &CLOSING, number));
+}
+
+/// Whether a row holds where its calls fail by this cause: as many fail, and the same calls are made.
+fn holds_by(alloc: Global, row: &Row, code: i32) -> bool {
+    match found(alloc, &Row { code, ..*row }) {
+        Some(found) => found.outcome == row.outcome && found.calls.as_slice() == row.calls,
+        None => false,
+    }
+}
+
+/// The first cause by which a row with calls that fail does not hold. A connection that was given up before it was accepted is another case.
+fn other_cause(alloc: Global, row: &Row) -> Option<i32> {
+    if row.failing.is_empty() || row.code == ABORTED {
+        return None;
+    }
+    for code in 1..MOST_CAUSES + 1 {
+        if code != ABORTED && !holds_by(alloc, row, code) {
+            return Some(code);
+        }
+    }
+    None
+}
+
+/// The first cause by which one of these rows does not hold.
+fn other_cause_in(alloc: Global, rows: &[Row]) -> Option<i32> {
+    for row in rows {
+        if let Some(code) = other_cause(alloc, row) {
+            return Some(code);
+        }
+    }
+    None
+}
+
+#[test]
+fn a_call_that_fails_is_one_call_whatever_its_cause(rt: HostRuntime) {
+    assert_eq!(rt; other_cause_in(rt.alloc(), DOORS.as_slice()), None);
+    assert_eq!(rt; other_cause_in(rt.alloc(), LINKS.as_slice()), None);
+    assert_eq!(rt; other_cause_in(rt.alloc(), TALKS.as_slice()), None);
+    assert_eq!(rt; other_cause_in(rt.alloc(), CLOSING.as_slice()), None);
 }

@@ -431,7 +431,7 @@ fn pulls<L: Link>(link: &mut L, text: &[u8]) -> Result<bool, Failed> {
     Ok(count == text.len() && found.get(..count) == Some(text))
 }
 
-/// Dials a door, sends more than it reads, and tells whether the reply comes whole, and the end behind it.
+/// Dials a door, sends more than it reads, and tells whether the reply comes whole, and the end after it.
 fn is_answered<N: Net, D: Door>(net: &mut N, alloc: Global, address: &str, door: &mut D) -> bool {
     let Ok(mut near) = net.dial(alloc, address) else {
         return false;

@@ -3,7 +3,7 @@ use crate::notes::{Notes, unsupported};
 use house_io::LockFile;
 use std::alloc::Allocator;
 use std::fmt::Display;
-use std::fs::{Metadata, OpenFile, OpenOptions};
+use std::fs::{FileTimes, Metadata, OpenFile, OpenOptions, Permissions};
 use std::io::{self, ErrorKind, Read, Seek, SeekFrom, Write};
 use std::rt::Files;
 use std::sync::Arc;
@@ -34,7 +34,7 @@ pub(crate) enum Call {
     SyncAll(Place),
     SyncData(Place),
     Lock,
-    /// Any other, as one that removes a file, renames it or copies it.
+    /// Any other, as one that removes a file, renames it, copies it, links it or gives it to another owner.
     Other,
 }
 
@@ -111,6 +111,18 @@ impl OpenFile for NotedFile {
 
     fn sync_data(&self) -> io::Result<()> {
         self.calls.note(Call::SyncData(self.place))
+    }
+
+    fn set_permissions(&self, _leave: Permissions) -> io::Result<()> {
+        self.calls.note_other(Call::Other)
+    }
+
+    fn set_times(&self, _times: FileTimes) -> io::Result<()> {
+        self.calls.note_other(Call::Other)
+    }
+
+    fn try_clone(&self) -> io::Result<NotedFile> {
+        self.calls.note_other(Call::Other)
     }
 }
 
@@ -213,6 +225,30 @@ impl Files for NotedFolder {
     }
 
     fn remove_dir_all<B: Allocator>(&self, _alloc: B, _path: &str) -> io::Result<()> {
+        self.calls.note_other(Call::Other)
+    }
+
+    fn hard_link(&self, _original: &str, _link: &str) -> io::Result<()> {
+        self.calls.note_other(Call::Other)
+    }
+
+    fn symlink(&self, _original: &str, _link: &str) -> io::Result<()> {
+        self.calls.note_other(Call::Other)
+    }
+
+    fn set_permissions(&self, _path: &str, _leave: Permissions) -> io::Result<()> {
+        self.calls.note_other(Call::Other)
+    }
+
+    fn chown(&self, _path: &str, _owner: Option<u32>, _group: Option<u32>) -> io::Result<()> {
+        self.calls.note_other(Call::Other)
+    }
+
+    fn lchown(&self, _path: &str, _owner: Option<u32>, _group: Option<u32>) -> io::Result<()> {
+        self.calls.note_other(Call::Other)
+    }
+
+    fn create_dir_with_mode(&self, _path: &str, _mode: u32) -> io::Result<()> {
         self.calls.note_other(Call::Other)
     }
 }

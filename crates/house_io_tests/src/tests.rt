@@ -1,4 +1,5 @@
 //! What no clause says: that the calls succeed with ample memory, and what the real streams do.
+use crate::calls::{BROKEN, MOST_CAUSES};
 use house_io::{
     Failed, FileSource, FolderShelf, ListFile, ListShelf, ListSink, ListSource, ReadWhole, Refusal,
     Shelf, Sink, Source, StdoutSink, SureFile, SureShelf, SureSink, SureSource, read_whole,
@@ -378,11 +379,13 @@ fn a_read_that_fails_in_mid_stream_is_a_counted_fault(rt: HostRuntime) {
     }
 }
 
-/// An output that takes at most so many bytes a call, and so many in all. A full stop it refuses.
+/// An output that takes at most so many bytes a call, and so many in all. A full stop it refuses, by this cause.
 #[derive(Drop)]
 struct SmallOutput {
     a_call: usize,
     room: Cell<usize>,
+    /// The system's number of it.
+    code: i32,
 }
 
 impl Print for SmallOutput {
@@ -400,7 +403,7 @@ impl Print for SmallOutput {
 
     fn write_some(&self, bytes: &[u8]) -> io::Result<usize> {
         if !bytes.is_empty() && bytes[0] == b'.' {
-            return Err(io::ErrorKind::Other.into());
+            return Err(io::Error::from_raw_os_error(self.code));
         }
         let room = self.room.get();
         let count = bytes.len().min(self.a_call).min(room);
@@ -414,6 +417,7 @@ fn a_write_that_takes_nothing_is_a_fault(rt: HostRuntime) {
     let output = SmallOutput {
         a_call: 1,
         room: Cell::new(4),
+        code: BROKEN,
     };
     let rows = [
         (".", Err(Failed)),
@@ -424,6 +428,24 @@ fn a_write_that_takes_nothing_is_a_fault(rt: HostRuntime) {
     let mut sink = StdoutSink::new(&output);
     assert_eq!(rt; first_other_push(&mut sink, &rows), 4);
     assert_eq!(rt; output.room.get(), 0);
+}
+
+/// Whether a push that the output refuses by this cause is a fault.
+fn is_fault_by(code: i32) -> bool {
+    let output = SmallOutput {
+        a_call: 1,
+        room: Cell::new(4),
+        code,
+    };
+    let mut sink = StdoutSink::new(&output);
+    sink.push(b".") == Err(Failed)
+}
+
+#[test]
+fn a_write_that_fails_is_a_fault_whatever_its_cause(rt: HostRuntime) {
+    for code in 1..MOST_CAUSES + 1 {
+        assert!(rt; is_fault_by(code), "{code}");
+    }
 }
 
 /// How much of a text of so many bytes one push takes.
@@ -437,6 +459,7 @@ fn pushed(alloc: Global, length: usize) -> Option<(Result<usize, Failed>, usize)
     let output = SmallOutput {
         a_call: usize::MAX,
         room: Cell::new(usize::MAX),
+        code: BROKEN,
     };
     let mut sink = StdoutSink::new(&output);
     let taken = taken(alloc, &mut sink, length)?;
