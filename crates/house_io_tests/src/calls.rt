@@ -10,12 +10,15 @@ use std::sync::atomic::AtomicU64;
 /// What is asked for.
 #[derive(Clone, Copy, Debug)]
 pub(crate) enum Asked {
+    /// How long the disk is.
     Size,
     /// So many bytes at this offset.
     Reads(u64, usize),
+    /// A disk is claimed.
     Claims,
     /// So many bytes at this offset, of a disk that is claimed first.
     Writes(u64, usize),
+    /// A disk is synced.
     Syncs,
     /// So many bytes of a source in place of a disk.
     Pulls(usize),
@@ -55,12 +58,19 @@ fn pulls<S: Source>(source: &mut S, asked: Asked, room: &mut [u8]) -> bool {
 /// A name that a shelf opens in a folder with one journal, what is asked of the disk or the source, and which calls on the files fail.
 #[derive(Clone, Copy)]
 pub(crate) struct Question {
+    /// The folder that names the folder.
     pub(crate) parent: &'static str,
+    /// The folder of the shelf.
     pub(crate) folder: &'static str,
+    /// The journal that stands in it, or may be made.
     pub(crate) journal: &'static str,
+    /// The name that is opened.
     pub(crate) name: &'static str,
+    /// Whether the journal stands.
     pub(crate) stands: bool,
+    /// What is asked of the disk or the source, in order.
     pub(crate) asked: &'static [Asked],
+    /// The calls that fail, by their numbers from 0 on.
     pub(crate) failing: &'static [usize],
     /// The system's number of the error by which they fail.
     pub(crate) code: i32,
@@ -70,9 +80,13 @@ pub(crate) struct Question {
 /// and what was said.
 #[derive(Debug, Drop)]
 pub(crate) struct Outcome {
+    /// How many of what was asked for failed, or why nothing was opened.
     pub(crate) outcome: Result<u64, Refusal>,
+    /// How many files are open at the end.
     open: usize,
+    /// The calls that were made, in order.
     pub(crate) calls: Vec<Call>,
+    /// What was said on standard error.
     said: String,
 }
 
@@ -192,11 +206,17 @@ pub(crate) fn found(alloc: Global, question: &Question) -> Option<Outcome> {
 /// What is asked of a journal in the working directory, and what comes of it.
 #[derive(Clone, Copy)]
 struct Row {
+    /// Whether the journal stands.
     stands: bool,
+    /// What is asked of the disk or the source, in order.
     asked: &'static [Asked],
+    /// The calls that fail, by their numbers from 0 on.
     failing: &'static [usize],
+    /// How many of what was asked for fail, or why nothing is opened.
     outcome: Result<u64, Refusal>,
+    /// The calls that are to be made, in order.
     calls: &'static [Call],
+    /// What is to be said, but for the cause.
     said: &'static str,
 }
 

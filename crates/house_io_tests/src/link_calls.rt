@@ -13,23 +13,30 @@ use std::sync::Arc;
 enum Asked {
     /// So many doors at this address. The last of them is the one that is spoken of below.
     Doors(&'static str, u32),
+    /// A link to this address.
     Dials(&'static str),
+    /// A link at the last door.
     Accepts,
     /// So many bytes of the link that was given last.
     Pulls(usize),
+    /// So many bytes of the link that was given last.
     Pushes(usize),
     /// The link is hung up at its door.
     HangsUp,
     /// The link is given back to the net.
     GoesBack,
+    /// The last door closes.
     ClosesDoor,
 }
 
 /// A net, the doors that it gave, and the link that was given last.
 #[derive(Drop)]
 struct Talk<'a> {
+    /// Where doors and links come from.
     net: TcpNet<'a, NotedNet>,
+    /// In the order in which they were given.
     doors: Vec<TcpDoor<'a, NotedNet, NotedListener>>,
+    /// None before the first, and after it was given back.
     link: Option<TcpLink<'a, NotedNet, NotedStream>>,
 }
 
@@ -148,21 +155,30 @@ fn failures(alloc: Global, net: &NotedNet, asked: &[Asked], room: &mut [u8]) -> 
 /// What is asked for, of a peer that sends so many bytes over each connection, which calls fail, by which error, and what comes of it.
 #[derive(Clone, Copy)]
 struct Row {
+    /// What is asked for, in order.
     asked: &'static [Asked],
+    /// How many bytes the peer sends.
     sent: u64,
+    /// The calls that fail, by their numbers from 0 on.
     failing: &'static [usize],
+    /// The system's number of the error by which they fail.
     code: i32,
     /// How many of what was asked for failed, and how many listeners and connections are open at the end.
     outcome: (u64, usize),
+    /// The calls that are to be made, in order.
     calls: &'static [Call],
+    /// What is to be said on standard error.
     said: &'static str,
 }
 
 /// The same as it was found.
 #[derive(Debug, Drop)]
 struct Outcome {
+    /// How many of what was asked for failed, and how many listeners and connections are open at the end.
     outcome: (u64, usize),
+    /// The calls that were made, in order.
     calls: Vec<Call>,
+    /// What was said on standard error.
     said: String,
 }
 

@@ -12,10 +12,13 @@ use std::sync::atomic::{AtomicU64, Ordering};
 /// What a call is on.
 #[derive(Clone, Copy, Debug, PartialEq, Eq)]
 pub(crate) enum Place {
+    /// The journal's file.
     Journal,
+    /// The folder in which it stands.
     Folder,
     /// The folder that names the folder.
     Parent,
+    /// Any other path.
     Elsewhere,
 }
 
@@ -24,15 +27,21 @@ pub(crate) enum Place {
 pub(crate) enum Call {
     /// Whether it is opened to be read, to be written, and made where it is absent.
     Open(Place, bool, bool, bool),
+    /// To the end, so that the offset tells the length.
     SeekEnd,
+    /// To this offset.
     SeekStart(u64),
     /// The length of the buffer.
     Read(usize),
     /// The length of the piece.
     Write(usize),
+    /// The file gets this length.
     SetLength(u64),
+    /// With the file's length and times.
     SyncAll(Place),
+    /// Its bytes alone.
     SyncData(Place),
+    /// The exclusive lock, without waiting.
     Lock,
     /// Any other, as one that removes a file, renames it, copies it, links it or gives it to another owner.
     Other,
@@ -41,10 +50,13 @@ pub(crate) enum Call {
 /// A folder in which a journal stands, or may be made.
 #[derive(Drop)]
 pub(crate) struct NotedFolder {
+    /// The calls that came.
     pub(crate) calls: Arc<Notes<Call>>,
     /// The folder that names the folder.
     pub(crate) parent: String,
+    /// The path of the folder.
     pub(crate) folder: String,
+    /// The path of the journal.
     pub(crate) journal: String,
     /// 1 where the journal stands.
     pub(crate) stands: AtomicU64,
@@ -53,8 +65,11 @@ pub(crate) struct NotedFolder {
 /// A file of 200,000 bytes that gives at most 65,536 at a time, and takes at most 3 of a piece of up to 16.
 #[derive(Drop)]
 pub(crate) struct NotedFile {
+    /// The folder's notes.
     calls: Arc<Notes<Call>>,
+    /// What it is open on.
     place: Place,
+    /// The offset at which the next call reads or writes.
     at: u64,
 }
 

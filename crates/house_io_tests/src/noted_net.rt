@@ -12,9 +12,13 @@ use std::time::Duration;
 pub(crate) enum Call {
     /// The address and the port.
     Bind([u8; 4], u16),
+    /// The address and the port.
     Connect([u8; 4], u16),
+    /// Another listener of the same socket.
     CloneListener,
+    /// A caller is waited for.
     Accept,
+    /// Whether a short piece is sent at once.
     NoDelay(bool),
     /// The length of the buffer.
     Read(usize),
@@ -22,30 +26,39 @@ pub(crate) enum Call {
     Write(usize),
     /// The length of the buffer.
     Peek(usize),
+    /// Whether calls on it do not wait.
     NonBlocking(bool),
     /// In milliseconds.
     ReadTimeout(Option<u128>),
+    /// Which directions are shut.
     Shutdown(Shutdown),
+    /// Any other call.
     Other,
 }
 
 /// A network on which a peer sends so many bytes over each connection.
 #[derive(Drop)]
 pub(crate) struct NotedNet {
+    /// The calls that came.
     pub(crate) calls: Arc<Notes<Call>>,
+    /// How many bytes the peer sends over each connection.
     pub(crate) sent: u64,
 }
 
 #[derive(Drop)]
 pub(crate) struct NotedListener {
+    /// The net's notes.
     calls: Arc<Notes<Call>>,
+    /// How many bytes the peer sends over each connection.
     sent: u64,
 }
 
 /// A connection that gives at most 5,000 bytes at a time, and takes at most 3.
 #[derive(Drop)]
 pub(crate) struct NotedStream {
+    /// The net's notes.
     calls: Arc<Notes<Call>>,
+    /// How many bytes of the peer are still to come.
     left: u64,
 }
 

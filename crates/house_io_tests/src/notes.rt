@@ -7,12 +7,15 @@ use std::sync::{Arc, Mutex};
 /// The calls that came, in order, and what was said on standard error.
 #[derive(Drop)]
 pub(crate) struct Notes<C> {
+    /// The calls, in order.
     list: Mutex<Vec<C>>,
+    /// What was said on standard error.
     said: Mutex<String>,
     /// The calls that fail, by their numbers from 0 on.
     failing: Vec<usize>,
     /// The system's number of the error by which they fail.
     code: i32,
+    /// Where the lists take their memory.
     alloc: Global,
 }
 
