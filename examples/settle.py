@@ -79,7 +79,7 @@ def report_in(payload, auction):
 
 
 def first_gate(file, clock, auction):
-    """Where the gate of record 1 lies, behind the header of this clock of the auction."""
+    """Where the gate of record 1 lies, after the header of this clock of the auction."""
     version = HEADERS.get(file[1:5])
     gate = 41
     if version == 2:

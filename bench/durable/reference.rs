@@ -1,10 +1,10 @@
 //! Bare pairs in plain Rust, and reports at clock books beside them: what an append of a journal asks of the disk, and what the books make
-//! of it. A pair is a write of the record behind its gate, which stays closed, and a write of the one byte that opens it, each with its
+//! of it. A pair is a write of the record after its gate, which stays closed, and a write of the one byte that opens it, each with its
 //! fdatasync. By one thread on one file, and by 13 threads on a file each, in the folder in which it runs.
 //!
 //! It starts the program of the books and takes turns with it in short spells, now the one first and now the other, since the disk's
 //! speed moves within minutes. Each spell's ratio is told, and the middle of them. At the end the length of each journal is compared with
-//! that of a journal in which every report stands, with zeros behind.
+//! that of a journal in which every report stands, with zeros after it.
 use std::fs::{metadata, read_to_string, remove_file, File, OpenOptions};
 use std::io::{BufRead, BufReader, Lines, Write};
 use std::os::unix::fs::FileExt;

@@ -92,7 +92,7 @@ def records(file):
 
 
 def front(file, count):
-    """The first so many records, with room laid behind as a house does."""
+    """The first so many records, with room laid after them, as a house does."""
     gates = records(file)
     return (file[: gates[min(count, len(gates) - 1)]] + b"\0").ljust(SPACE, b"\0")
 

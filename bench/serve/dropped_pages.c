@@ -4,7 +4,7 @@
        LD_PRELOAD=dropped_pages.so DROP_WHEN=FILE PROGRAM ..
 
    Beside each journal X.ahj stands X.ahj.disk, what the disk has: a good fdatasync carries over the pages of 4,096 bytes that were written
-   since the last. Where FILE is there, it has a number of syncs of journals that go well still; the one behind these fails with EIO, carries
+   since the last. Where FILE is there, it has a number of syncs of journals that go well still; the one after these fails with EIO, carries
    nothing over, and forgets what was written, as ext4 does. FILE is gone then. A read gives what was written all the same. */
 #define _GNU_SOURCE
 #include <dlfcn.h>

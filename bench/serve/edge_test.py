@@ -159,7 +159,7 @@ def looks(program, fresh, count, of_copies):
 
 
 def failed_sync(program, folder, shim, bundles, before, goes_on):
-    """A sync of a journal fails once, the house goes on, or is killed behind the report's acknowledgement, and the file system is mounted anew: each
+    """A sync of a journal fails once, the house goes on, or is killed after the report's acknowledgement, and the file system is mounted anew: each
     acknowledged report is on the disk."""
     when = folder / "when"
     house = serve(program, folder, LD_PRELOAD=str(shim), DROP_WHEN=str(when))
@@ -185,7 +185,7 @@ def failed_sync(program, folder, shim, bundles, before, goes_on):
     _, said = house.communicate()
     found = entries(journal(folder / "journals", 0).with_suffix(".ahj.disk"))
     lost = len(set(acknowledged) - set(found))
-    print(f"a failed sync behind {before}, {bundles} bundles, goes on {goes_on}: faults {faults}, said {said.strip()!r}, acknowledged {len(acknowledged)}, lost {lost}, doubled {len(found) - len(set(found))}")
+    print(f"a failed sync after {before}, {bundles} bundles, goes on {goes_on}: faults {faults}, said {said.strip()!r}, acknowledged {len(acknowledged)}, lost {lost}, doubled {len(found) - len(set(found))}")
     return faults == 1 and lost == 0 and len(found) == len(set(found)) and said.count("sync") == 1
 
 

@@ -9,7 +9,7 @@ than bidders, each comes for one report a session. The house runs over syncs.c, 
 each fdatasync begins and ends; cc and rustc have to be there. Printed are the reports a second, as the bidders count them, and of how many in
 100 one sync was all; the microseconds of a report from its first sync to its last and from there to the next report's first sync, in the middle
 and on the average; and the pairs that one thread alone makes, in a file that grows by them and in one that has their bytes, before the house and
-behind it. Of the averages those above a millisecond are left out, and told apart: they are spells in which the machine or its disk stood still.
+after it. Of the averages those above a millisecond are left out, and told apart: they are spells in which the machine or its disk stood still.
 Each figure is the middle of the runs. Below it stands for each run what share of the pairs the house had, and how many milliseconds the machine
 under this one took from its processors while the house ran, as /proc/stat tells it.
 """

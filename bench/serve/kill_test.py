@@ -5,7 +5,7 @@ Again has to be in its clock's journal just once, and no report may be there tha
     kill_test.py PROGRAM [--kills N] [--clocks N] [--faults]
 
 PROGRAM is the built house_main. The bidders report to the first so many of the thirteen clocks. With --faults one call on a file fails in each life of
-the house, behind the opening; gcc has to be there. It ends with status 1 where a report was lost or doubled, or none came.
+the house, after the opening; gcc has to be there. It ends with status 1 where a report was lost or doubled, or none came.
 """
 import argparse
 import multiprocessing

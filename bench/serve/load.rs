@@ -2,8 +2,8 @@
 //!
 //! For so many seconds it looks at each of the clocks 0 to CLOCKS - 1 but its own, in turns, and reports once in each round that it sees. Where STAY is
 //! 1 it does so in one session; where it is 0 each look, with its report, is a session of its own. Between two turns of all clocks it waits PAUSE
-//! microseconds. In one session without pauses it sends the next look behind a report, in one piece; in a session for one report it sends the look
-//! behind the hello and the quit behind the report. Such a look is timed from the reply before it on. It prints how many reports were taken, and in
+//! microseconds. In one session without pauses it sends the next look after a report, in one piece; in a session for one report it sends the look
+//! after the hello and the quit after the report. Such a look is timed from the reply before it on. It prints how many reports were taken, and in
 //! a second line how many microseconds each look took.
 use std::env;
 use std::io::{BufReader, Error, ErrorKind, Read, Result, Write};
@@ -30,7 +30,7 @@ const TOLD: usize = 20_000;
 /// A link to the house, whose replies are read as many at once as have come.
 type Link = BufReader<TcpStream>;
 
-/// Puts a frame behind others.
+/// Puts a frame after others.
 fn put(frames: &mut Vec<u8>, kind: u8, payload: &[u8]) {
     frames.extend_from_slice(&(payload.len() as u32).to_be_bytes());
     frames.push(kind);
@@ -77,7 +77,7 @@ fn connect(port: u16) -> Result<Link> {
     }
 }
 
-/// A session of this bidder. Behind the hello goes a look at this clock, if there is one.
+/// A session of this bidder. After the hello goes a look at this clock, if there is one.
 fn begin(port: u16, bidder: u8, clock: Option<u8>) -> Result<Link> {
     let mut link = connect(port)?;
     let mut hello = vec![bidder];

@@ -1,6 +1,6 @@
 //! The measure for `serve`: a plain server of the same promise, plain PORT DOORS CLOCKS FILE. It speaks the frames that load.rs sends, with
 //! so many threads that serve one session at a time each. A report is a row of one table in SQLite, with a write-ahead log and full
-//! synchronisation, in a transaction of its own, and is acknowledged behind its commit; one lock stands round the rounds and the table.
+//! synchronisation, in a transaction of its own, and is acknowledged after its commit; one lock stands round the rounds and the table.
 //!
 //!     rustc -O --edition 2021 -o plain plain.rs
 //!

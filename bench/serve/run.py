@@ -13,7 +13,7 @@ same bidders, where its library is there to build it.
 
 A machine has spells, above all one that is shared, and its disk. So all rows are measured in turns, TURNS times (7 where it is left out), and in
 each turn each server and measure runs for a second: pairs, the house, pairs, and then the others. Printed are the middles of the turns, and
-what share of the pairs before and behind it the house had: the middle, the least and the most. The last column tells a spell: how many
+what share of the pairs before and after it the house had: the middle, the least and the most. The last column tells a spell: how many
 milliseconds the machine under this one took from its processors while the house ran, by /proc/stat.
 """
 import os

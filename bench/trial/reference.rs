@@ -114,7 +114,7 @@ fn run_clock(auction: &Auction, all: &[Vec<u16>], units: &[Vec<i32>], number: us
     }
 }
 
-/// The first choice that clears, by places: back from the last member the totals from which the members behind can still clear.
+/// The first choice that clears, by places: back from the last member the totals from which the members after can still clear.
 fn assemble(auction: &Auction, all: &[Vec<u16>], ended: &Ended) -> Vec<u32> {
     let fits = |x: &[u16], y: &[u16]| x.iter().zip(y).zip(&auction.supply).all(|((a, b), units)| (a + b) as usize <= *units);
     let clears = |x: &[u16]| x.iter().zip(&auction.supply).zip(&ended.prices).all(|((a, units), price)| *price == 0 || *a as usize == *units);

@@ -4,7 +4,7 @@
 Rows are `make 7`, and auctions of twelve bidders whose valuations stand in tables: random ones with strong substitutes over a box of 2,048
 bundles, a price that rises for 9,700 rounds, and demand sets of a thousand bundles in as many rounds. Where glpsol and cbc are there, the
 same auctions are settled as n + 1 integer programs each, as a user would do otherwise. Of each the least of five runs is taken, in turns.
-Behind them stand the times by the clock with one worker and with four, which tell something only where four processors are idle. The program
+After them stand the times by the clock with one worker and with four, which tell something only where four processors are idle. The program
 is proved and built where it stands, by `rt run`; give --no-build to measure the program that was built before, --program FILE to measure
 another one, and --programs to run the integer programs too, which take long. With --makes, bench/makes, which makes the market of 7 again and
 again in one process, is proved and run beside the reference that does so too; --makes FILE takes it as it was built before.
@@ -190,7 +190,7 @@ def solve(supply, tables, folder):
 
 
 def word_behind(flag):
-    """The word behind a flag, if there is one that is no flag."""
+    """The word after a flag, if there is one that is no flag."""
     behind = sys.argv[sys.argv.index(flag) + 1 :][:1] if flag in sys.argv else []
     return behind[0] if behind and not behind[0].startswith("--") else None
 

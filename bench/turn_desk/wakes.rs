@@ -1,5 +1,5 @@
 //! What it costs to wake whose turn is next: threads take turns by ticket. Where all that wait sleep on one word, the end of a turn wakes all of
-//! them; where each sleeps on the bell of its ticket, it wakes one, or that one and the one behind. Twelve threads make turns of two writes with
+//! them; where each sleeps on the bell of its ticket, it wakes one, or that one and the one after. Twelve threads make turns of two writes with
 //! an fdatasync each, as an append to a journal is, beside one thread alone; four threads make empty turns. Plain Rust, the middle of nine short
 //! spells each, in turns of all rows:
 //!

@@ -67,7 +67,7 @@ def header(version, clock, digest, opening):
 
 
 def journal(head, payloads):
-    """Behind the header an open gate, a length and a payload for each report, and then a closed gate."""
+    """After the header an open gate, a length and a payload for each report, and then a closed gate."""
     return head + b"".join(b"\xa5" + struct.pack(">I", len(payload)) + payload for payload in payloads) + b"\0"
 
 

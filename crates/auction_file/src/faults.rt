@@ -10,16 +10,27 @@ use toml_tree::KeyText;
 /// A key of an auction file, or a table of one of its arrays. Goods are counted from 0, bidders from 1.
 #[derive(Clone, Copy, Debug, PartialEq, Eq)]
 pub enum Key {
+    /// `version`.
     Version,
+    /// `ceiling`.
     Ceiling,
+    /// The array of tables `goods`.
     Goods,
+    /// The array of tables `bidders`.
     Bidders,
+    /// The table of this good.
     GoodTable(u32),
+    /// Its `name`.
     GoodName(u32),
+    /// Its `supply`.
     Supply(u32),
+    /// Its `opening`.
     Opening(u32),
+    /// The table of this bidder.
     BidderTable(u32),
+    /// His `name`.
     BidderName(u32),
+    /// His `token`, by its digest.
     Token(u32),
 }
 

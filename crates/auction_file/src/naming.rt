@@ -8,7 +8,7 @@ use std::marker::Model;
 /// The name of a good or a bidder, seen as the list of its bytes.
 #[derive(Clone, Copy, Debug)]
 pub struct Name {
-    /// The bytes of the name, and zeros behind them.
+    /// The bytes of the name, and zeros after them.
     cells: [u8; 32],
     /// How many bytes the name has, 1 to 32: so many cells are seen.
     count: u8,

@@ -1,4 +1,4 @@
-//! What the demands behind can still make clear.
+//! What the later demands can still make clear.
 ghost use Rattle.std.specs.Prelude.{◌≡◌, ◌<◌, ◌≤◌, ℕ, ◌+◌, ◌^◌, Bool, List, [], ◌∷◌, true, false, find, length, slice_index, slice_index_or, IfOk};
 ghost use Rattle.lot_base.specs.Goods.{plus, is_within, box_size, AtMost};
 ghost use Rattle.lot_base.specs.Box.{bundle_at, index_of};
@@ -16,7 +16,7 @@ use std::marker::Model;
 /// The key of a total that is not true: two bundles of the box have 4,094 units at most.
 const NO_TOTAL: u16 = u16::MAX;
 
-/// A truth value for each bundle of the box, at the bundle's place: whether the demands behind can make a choice that
+/// A truth value for each bundle of the box, at the bundle's place: whether the later demands can make a choice that
 /// clears where the bundle is taken already.
 #[derive(Drop)]
 pub(crate) struct Reach {
@@ -34,7 +34,7 @@ impl Model for Reach {
 impl Reach {
     ghost use Rattle.award_assembly.specs.Remaining.{IsReach, has_total};
 
-    /// With no demand behind, the totals that clear.
+    /// With no later demand, the totals that clear.
     pub(crate) fn last(
         alloc: Global,
         goods: &Goods,
@@ -52,7 +52,7 @@ impl Reach {
         Ok(Reach { totals })
     }
 
-    /// With this demand before those behind.
+    /// With this demand before the later ones.
     pub(crate) fn before(
         &self,
         alloc: Global,

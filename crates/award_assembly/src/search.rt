@@ -1,5 +1,5 @@
 //! The search for the first choice that clears: back from the last demand, what can still clear; then forward from the
-//! first demand, the first bundle from which the demands behind can.
+//! first demand, the first bundle from which the later demands can.
 ghost use Rattle.std.specs.Prelude.{◌≡◌, length, IfOk};
 ghost use Rattle.std.specs.List.{AllByRecursion};
 ghost use Rattle.lot_base.specs.Choices.{first_choice};

@@ -292,7 +292,7 @@ impl Clock {
         prices_along(&self.terms.opening, &sets[..round as usize - 1])
     }
 
-    /// The prices of the round behind this one, from those of this one. Takes no memory, and raises them once.
+    /// The prices of the round after this one, from those of this one. Takes no memory, and raises them once.
     pub fn next_prices(&self, round: u32, prices: &Prices) -> Prices
         requires from_one { 1 ≤ round }
         requires before_last { round < last_round self.now.history }

@@ -38,6 +38,7 @@ pub enum Offered {
     Full(u32),
     /// The disk failed: the report may count once the journal is mended.
     DiskFault,
+    /// There was no memory: nothing was written.
     NoMemory,
 }
 

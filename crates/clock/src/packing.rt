@@ -108,7 +108,7 @@ impl Past {
         self.spare_quantities = quantities;
     }
 
-    /// Adds a report behind the others, in the room for it. Where one of the last so many reports is of the same bidder, and the
+    /// Adds a report after the others, in the room for it. Where one of the last so many reports is of the same bidder, and the
     /// first of these has the same demand, it shares its quantities.
     pub(crate) fn push(&mut self, report: &Report, recent: usize)
         requires reports { 1 ≤ self.old.spare_reports }

@@ -100,7 +100,7 @@ fn start_if_same(kept: &[u16], more: &[u16], start: u32) -> Option<u32>
     if kept == more { Some(start) } else { None }
 }
 
-/// Keeps these quantities behind the others, if they are not shared, and tells where they stand.
+/// Keeps these quantities after the others, if they are not shared, and tells where they stand.
 pub(crate) fn keep(quantities: &mut Vec<u16>, shared: Option<u32>, more: &[u16]) -> u32
     requires room { length quantities.old.items + length more.now ≤ vec_capacity quantities.old }
     requires few { length quantities.old.items + length more.now < 2 ^ 32 }

@@ -12,6 +12,7 @@ use std::alloc::Global;
 pub enum ReplayFault {
     /// This report, numbered from 1, is the first that the clock does not take. The number stands still at its type's end.
     NotTaken { number: u32, judgement: Judgement },
+    /// There was no memory for the clock.
     NoMemory,
 }
 

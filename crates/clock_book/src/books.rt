@@ -131,7 +131,7 @@ impl<D: Disk> ClockBook<D> {
     ghost use Rattle.clock_book.specs.Books.{IsKept};
     ghost use Rattle.clock_book.specs.Offers.{Answers, IsOffer, CountsOffer, Offers};
 
-    /// Judges a report behind those of the clock, where nothing is pending, and appends one that is to be taken.
+    /// Judges a report after those of the clock, where nothing is pending, and appends one that is to be taken.
     fn judge_and_append<H: Hint>(&mut self, alloc: Global, report: Report, hint: &H) -> Offered
         requires settled { self.old.state.pending ≡ None }
         requires fits { IsDemand self.old.state.clock.terms.goods report.demand }

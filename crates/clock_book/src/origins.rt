@@ -37,7 +37,7 @@ pub(crate) struct Start<D: Disk> {
     pub(crate) clock: u8,
     /// The SHA-256 of the auction's file.
     pub(crate) digest: [u8; 32],
-    /// The disk as it was behind the sync and the reading with which the opening began.
+    /// The disk as it was after the sync and the reading with which the opening began.
     pub(crate) synced: Snapshot<D>,
     /// How many reports its file stood for then.
     pub(crate) reports: u64,

@@ -14,7 +14,7 @@ use std::marker::Model;
 /// The payload of a report, in a buffer that has room for any.
 #[derive(Drop)]
 pub(crate) struct Payload {
-    /// 32,768 of them, whatever is filled. What stands behind the payload says nothing.
+    /// 32,768 of them, whatever is filled. What stands after the payload says nothing.
     bytes: Vec<u8>,
     /// How many of the bytes are the payload.
     filled: usize,

@@ -77,7 +77,7 @@ pub(crate) fn reserve<D: Disk>(
     })
 }
 
-/// Puts one more pass behind each row, in order.
+/// Puts one more pass after each row, in order.
 fn deal_column<D: Disk>(
     mut passes: Vec<Pass<HouseBook<D>>>,
     rows: &mut Vec<Vec<ClockPass<D>>>,

@@ -31,7 +31,7 @@ pub(crate) fn leave_payload<D: Disk>(
     desk.leave_note(&note, length)
 }
 
-/// The note behind that of a thread which has the turn.
+/// The note after that of a thread which has the turn.
 #[derive(Drop)]
 pub(crate) struct NoteBehind<'a, D: Disk> {
     /// Where the notes are left.

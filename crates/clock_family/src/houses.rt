@@ -151,7 +151,7 @@ impl<D: Disk> House<D> {
         }
     }
 
-    /// Looks at a clock: at once where this is the first look behind an offer by this pass and the clock has made no step since, else in
+    /// Looks at a clock: at once where this is the first look after an offer by this pass and the clock has made no step since, else in
     /// a turn at the clock's desk, for which it waits. Takes no memory.
     pub fn look<T: Wait>(&self, rt: &T, pass: &mut HousePass<D>, clock: u8) -> Look
         requires clock { clock ≤ self.now.terms.bidders }

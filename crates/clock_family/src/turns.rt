@@ -20,7 +20,7 @@ use std::sync::Wait;
 use turn_desk::Desk;
 
 /// Waits for the turn, and offers a report. Before it waits it leaves the report's payload in a note, for who has the turn before, and in its
-/// turn it hints at the note of who waits behind it.
+/// turn it hints at the note of who waits after it.
 pub(crate) fn offer_on<T: Wait, D: Disk>(
     rt: &T,
     alloc: Global,

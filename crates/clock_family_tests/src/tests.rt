@@ -121,7 +121,7 @@ fn empty_disk(alloc: Global, failing: Option<u64>) -> Option<ListDisk> {
     }
 }
 
-/// Puts an empty disk behind others, if there is memory.
+/// Puts an empty disk after others, if there is memory.
 fn push_disk(alloc: Global, disks: &mut Vec<ListDisk>, failing: Option<u64>) -> bool {
     match empty_disk(alloc, failing) {
         None => false,

@@ -21,6 +21,7 @@ pub enum DemandFault {
     OutsideSupply(u32),
     /// The bundles are of another number of goods, this one.
     WrongGoods(u8),
+    /// There was no memory for it.
     NoMemory,
 }
 

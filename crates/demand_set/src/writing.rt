@@ -31,7 +31,7 @@ impl Demand {
         }
     }
 
-    /// Writes the quantities of one bundle after another, and tells how many there are. What is behind them stays.
+    /// Writes the quantities of one bundle after another, and tells how many there are. What is after them stays.
     pub fn raw_to(&self, into: &mut [u16]) -> u32
         requires { length (concat self.now) ≤ length into.old }
         ensures count { result ≡ length (concat self.now) }

@@ -106,7 +106,7 @@ fn link_of(alloc: Global) -> Option<SureLink> {
     SureLink::new(alloc, ADA.to_vec(alloc).ok()?, 1000).ok()
 }
 
-/// Puts the door of a crowd behind others, if there is memory.
+/// Puts the door of a crowd after others, if there is memory.
 fn push_door<'a>(alloc: Global, crowd: &'a Crowd<'a>, doors: &mut Vec<CrowdDoor<'a>>) -> bool {
     match link_of(alloc) {
         None => false,

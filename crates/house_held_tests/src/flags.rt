@@ -8,7 +8,7 @@ use std::sync::atomic::Ordering::SeqCst;
 /// How often a gate looks for the flag that it waits for, before it gives up.
 const LOOKS: u64 = 1_000_000_000;
 
-/// Behind a welcome of seven bytes and a length in four, this one is the kind of the reply to a report.
+/// After a welcome of seven bytes and a length in four, this one is the kind of the reply to a report.
 const KIND_PLACE: usize = 11;
 
 /// The kind of the reply that a report was taken.

@@ -20,7 +20,7 @@ pub trait Disk {
         ensures cause { HasCause (shown self.old).faults (shown self.new).faults result };
 
     /// Fills a front of the buffer and answers its length, which is less than the buffer's only at the file's end. What stands in
-    /// the buffer behind it, or after a failure, is not said.
+    /// the buffer after it, or after a failure, is not said.
     fn read_at(&mut self, at: u64, into: &mut [u8]) -> Result<usize, Failed>
         ensures count { IfOk result (λ n. n ≤ length into.old) }
         ensures bytes { IfOk result (λ n. IfDiskTold (shown self.old) (shown self.new)

@@ -7,7 +7,9 @@ use std::alloc::Global;
 /// Why a file is not opened.
 #[derive(Clone, Copy, Debug, PartialEq, Eq)]
 pub enum Refusal {
+    /// A call on it failed; the shelf has counted it.
     Failed,
+    /// There was no memory for what the shelf keeps of it.
     NoMemory,
 }
 

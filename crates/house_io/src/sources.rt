@@ -17,7 +17,7 @@ pub trait Source {
     /// How often a call on it has failed.
     ghost faults: { Self → ℕ };
 
-    /// Fills a front of `into` and answers its length, which is 0 at the end. Behind that front `into` may hold
+    /// Fills a front of `into` and answers its length, which is 0 at the end. After that front `into` may hold
     /// anything. After `Failed` what is left is unchanged.
     fn pull(&mut self, into: &mut [u8]) -> Result<usize, Failed>
         ensures within { IfOk result (λ count. count ≤ length into.new) }
@@ -28,8 +28,11 @@ pub trait Source {
 /// Why a source was not read whole.
 #[derive(Clone, Copy, Debug, PartialEq, Eq)]
 pub enum ReadWhole {
+    /// A pull failed.
     Failed,
+    /// It has more bytes than were allowed.
     TooLong,
+    /// There was no memory for its bytes.
     NoMemory,
 }
 

@@ -44,7 +44,7 @@ pub(crate) fn send_reply<L: Link>(alloc: Global, link: &mut L, reply: &ToBidder)
     }
 }
 
-/// The end by a frame behind which the session does not go on.
+/// The end by a frame after which the session does not go on.
 fn end_by(frame: &ToHouse) -> SessionEnd
     ensures { result ≡ end_by frame.now }
 {

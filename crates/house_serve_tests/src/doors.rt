@@ -10,7 +10,7 @@ use session::ListHall;
 use std::alloc::Global;
 use std::sync::Wait;
 
-/// A session to its end, and one that stops behind its first frame.
+/// A session to its end, and one that stops after its first frame.
 fn sure_links(alloc: Global) -> Option<Vec<SureLink>> {
     let first = sure_link(alloc, &[HELLO, REPORT, QUIT])?;
     let second = sure_link(alloc, &[HELLO])?;
@@ -24,7 +24,7 @@ fn both_links(alloc: Global, first: SureLink, second: SureLink) -> Option<Vec<Su
     Some(links)
 }
 
-/// A door with a session to its end, and one that stops behind its first frame.
+/// A door with a session to its end, and one that stops after its first frame.
 fn sure_door(alloc: Global) -> Option<SureDoor> {
     match sure_links(alloc) {
         None => None,
@@ -113,7 +113,7 @@ fn serves_two<T: Wait>(rt: &T, alloc: Global) -> bool {
     }
 }
 
-/// The door has one link, and fails behind it.
+/// The door has one link, and fails after it.
 fn fails_behind_one<T: Wait>(rt: &T, alloc: Global) -> bool {
     match list_door(alloc) {
         None => false,
@@ -129,7 +129,7 @@ fn a_door_serves_one_link_after_another(rt: HostRuntime) {
     assert!(rt; fails_behind_one(&rt, rt.alloc()));
 }
 
-/// Puts the link of a session behind others, if there is memory.
+/// Puts the link of a session after others, if there is memory.
 fn push_link(alloc: Global, links: &mut Vec<SureLink>) -> bool {
     match sure_link(alloc, &[HELLO, QUIT]) {
         None => false,

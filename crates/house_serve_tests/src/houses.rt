@@ -77,7 +77,7 @@ fn empty_disk(alloc: Global) -> Option<SureDisk> {
     SureDisk::new(alloc, Vec::new(alloc), 10_000).ok()
 }
 
-/// Puts an empty disk behind others, if there is memory.
+/// Puts an empty disk after others, if there is memory.
 fn push_disk(alloc: Global, disks: &mut Vec<SureDisk>) -> bool {
     match empty_disk(alloc) {
         None => false,

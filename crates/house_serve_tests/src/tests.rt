@@ -54,7 +54,7 @@ pub(crate) fn auction(alloc: Global) -> Option<Auction> {
     }
 }
 
-/// The bytes of the pieces, one piece behind the other.
+/// The bytes of the pieces, one piece after the other.
 pub(crate) fn joined(alloc: Global, pieces: &[&[u8]]) -> Option<Vec<u8>> {
     let mut bytes = Vec::new(alloc);
     for piece in pieces {
@@ -65,7 +65,7 @@ pub(crate) fn joined(alloc: Global, pieces: &[&[u8]]) -> Option<Vec<u8>> {
     Some(bytes)
 }
 
-/// Whether the pieces, one behind the other, were written.
+/// Whether the pieces, one after the other, were written.
 pub(crate) fn is_written(alloc: Global, written: &[u8], pieces: &[&[u8]]) -> bool {
     match joined(alloc, pieces) {
         None => false,

@@ -15,7 +15,7 @@ use std::marker::Model;
 /// A quantity of each of 1 to 6 goods, seen as the list of the quantities.
 #[derive(Clone, Copy, Debug)]
 pub struct Bundle {
-    /// The quantity of each good, good 0 first, and zeros behind them.
+    /// The quantity of each good, good 0 first, and zeros after them.
     cells: [u16; 6],
     /// How many goods there are, 1 to 6: so many cells are seen.
     count: u8,
@@ -173,7 +173,7 @@ fn place_of(supply: &[u16], quantities: &[u16]) -> u32
     place
 }
 
-/// The quantities of the bundle at a place, and zeros behind them.
+/// The quantities of the bundle at a place, and zeros after them.
 fn six_digits(supply: &[u16], place: u32) -> [u16; 6]
     requires supply { IsSupply supply.now }
     requires below { place < box_size supply.now }

@@ -11,7 +11,7 @@ use std::marker::Model;
 /// A price of each of 1 to 6 goods, seen as the list of the prices.
 #[derive(Clone, Copy, Debug)]
 pub struct Prices {
-    /// The price of each good, good 0 first, and zeros behind them.
+    /// The price of each good, good 0 first, and zeros after them.
     cells: [u32; 6],
     /// How many goods there are, 1 to 6: so many cells are seen.
     count: u8,
@@ -139,7 +139,7 @@ fn six_prices(prices: &[u32]) -> [u32; 6]
     cells
 }
 
-/// One more at each place of the set, and zeros behind them.
+/// One more at each place of the set, and zeros after them.
 fn six_raised(prices: &[u32], set: u8) -> [u32; 6]
     requires few { length prices.now ≤ 6 }
     requires below { AllBelow (2 ^ 32 - 1) prices.now set }
@@ -165,7 +165,7 @@ fn raise_each(prices: &mut [u32], set: u8)
     }
 }
 
-/// One less at each place of the set, and zeros behind them.
+/// One less at each place of the set, and zeros after them.
 fn six_lowered(prices: &[u32], set: u8) -> [u32; 6]
     requires few { length prices.now ≤ 6 }
     requires priced { AllPriced prices.now set }

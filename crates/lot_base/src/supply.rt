@@ -12,6 +12,7 @@ use std::marker::Model;
 /// Why a list of supplies is refused.
 #[derive(Clone, Copy, Debug, PartialEq, Eq)]
 pub enum GoodsFault {
+    /// The list is empty.
     NoGoods,
     /// There are more than 6, so many.
     TooManyGoods(u64),
@@ -170,7 +171,7 @@ pub(crate) fn box_product(supply: &[u16]) -> u128
     product
 }
 
-/// The number of bundles of the goods behind each good.
+/// The number of bundles of the goods after each good.
 fn strides(supply: &[u16]) -> [usize; 6]
     requires few { length supply.now ≤ 6 }
     requires small { box_size supply.now ≤ 2048 }

@@ -32,7 +32,9 @@ pub struct Broken {
 /// Why a journal's reports are not read.
 #[derive(Clone, Copy, Debug, PartialEq, Eq)]
 pub enum RecoverFault {
+    /// The disk failed.
     DiskFault,
+    /// There was no memory for the reports.
     NoMemory,
 }
 

@@ -18,7 +18,7 @@ const WIDTH: usize = 65_536;
 /// Bytes of a file from an offset on.
 #[derive(Drop)]
 pub(crate) struct Window {
-    /// It has room for the longest payload. What stands behind the filled bytes says nothing.
+    /// It has room for the longest payload. What stands after the filled bytes says nothing.
     buffer: Vec<u8>,
     /// The offset of the first byte.
     at: u32,

@@ -133,7 +133,7 @@ fn each_shorter_file_is_unformed(rt: HostRuntime) {
     }
 }
 
-/// The bytes of the pieces, one piece behind the other.
+/// The bytes of the pieces, one piece after the other.
 fn joined(alloc: Global, pieces: &[&[u8]]) -> Option<Vec<u8>> {
     let mut bytes = Vec::new(alloc);
     for piece in pieces {
@@ -380,7 +380,7 @@ fn first_other_in(alloc: Global, file: &[u8], call: u64, steps: &[Step]) -> Opti
     first_other_on(alloc, &mut disk, steps)
 }
 
-/// The number of the call that reads payloads: after a sync, a read of the header, the size, a read of the first gate, the size behind its
+/// The number of the call that reads payloads: after a sync, a read of the header, the size, a read of the first gate, the size after its
 /// record, and a read of the second gate.
 const PAYLOADS: u64 = 6;
 

@@ -14,7 +14,7 @@ const CHUNK: usize = 65_536;
 /// Bytes of a file from an offset on, as many as are filled.
 #[derive(Drop)]
 pub struct Chunk {
-    /// The buffer, whose first bytes are the file's. What stands behind them says nothing.
+    /// The buffer, whose first bytes are the file's. What stands after them says nothing.
     pub bytes: Vec<u8>,
     /// The offset in the file of the first byte.
     pub at: u64,

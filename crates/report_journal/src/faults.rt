@@ -11,6 +11,7 @@ pub enum JournalFault {
     DiskFault,
     /// An earlier record is in doubt.
     NotMended,
+    /// There was no memory for it; nothing was written.
     NoMemory,
 }
 

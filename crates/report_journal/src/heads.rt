@@ -18,8 +18,11 @@ use std::alloc::Global;
 /// What stands at a gate: the end of the list, a record with a payload of this length, or no record.
 #[derive(Drop)]
 pub enum Next {
+    /// The gate is closed: the list ends here.
     Closed,
+    /// The gate is open, and a record stands after it.
     Record(u32),
+    /// The gate is open or no gate, and no record stands after it.
     Damaged,
 }
 
@@ -117,9 +120,9 @@ pub fn next_record<D: Disk>(
 pub struct Found {
     /// Those of the payloads, record 1 first.
     pub places: Vec<Place>,
-    /// The offset of the gate behind the last record, or of the first gate where there is none.
+    /// The offset of the gate after the last record, or of the first gate where there is none.
     pub gate: u32,
-    /// The list ends there. Where it is false the gate is open, and no record stands behind it.
+    /// The list ends there. Where it is false the gate is open, and no record stands after it.
     pub closed: bool,
 }
 

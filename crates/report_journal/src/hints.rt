@@ -4,7 +4,7 @@ ghost use Rattle.report_journal.specs.declared.hints.TheConstants.{LONGEST_HINT}
 
 use crate::padding::SHORT;
 
-/// The most bytes of a hint: behind another record no longer payload is laid.
+/// The most bytes of a hint: after another record no longer payload is laid.
 pub const LONGEST_HINT: usize = SHORT as usize;
 
 /// Who may know which payload comes next. A journal asks as late as it can: when the bytes of a record are on the disk, and before it opens

@@ -29,15 +29,15 @@ use std::marker::Model;
 pub struct Journal<D: Disk> {
     /// On it lies the journal's file, and nothing else.
     disk: D,
-    /// What the file begins with, behind its own gate: of version 1 or 2.
+    /// What the file begins with, after its own gate: of version 1 or 2.
     header: Header,
     /// Where the payloads that count lie, record 1 first. One in doubt is not among them.
     places: Vec<Place>,
     /// The gate that ends the list.
     end: u32,
-    /// The bytes of the record that was put last, behind its gate, and what was written behind it.
+    /// The bytes of the record that was put last, after its gate, and what was written after it.
     buffer: Vec<u8>,
-    /// From where on the buffer's bytes lie behind the gate that ends the list. None where that is not known.
+    /// From where on the buffer's bytes lie after the gate that ends the list. None where that is not known.
     ahead: Option<u32>,
     /// The length of the payload in doubt, which the record has: that of an append that failed on the disk and was not mended.
     pending: Option<u32>,
@@ -135,7 +135,7 @@ impl<D: Disk> Journal<D> {
     }
 
     /// Appends so, and asks the hint for the payload that is likely to be appended next. From 4,096 bytes on a journal writes the next record
-    /// behind this one, where both are short: where it comes, its gate alone is left to open, with one sync in place of two. Where it does not
+    /// after this one, where both are short: where it comes, its gate alone is left to open, with one sync in place of two. Where it does not
     /// come, what lies there is nothing. Such a journal also writes zeros where its file would end: a sync of bytes that a file has is the
     /// shorter.
     pub fn append_hinted<H: Hint>(
@@ -224,7 +224,7 @@ impl<D: Disk> Journal<D> {
         let Some(length) = self.pending else {
             return Ok(Mended::Nothing);
         };
-        // What lies behind the gate may not be on the disk either.
+        // What lies after the gate may not be on the disk either.
         self.ahead = None;
         match settle_gate(&mut self.disk, self.end as u64) {
             Err(Failed) => Err(JournalFault::DiskFault),
@@ -351,7 +351,7 @@ fn make_room(places: &mut Vec<Place>, buffer: &mut Vec<u8>, more: usize) -> Resu
     }
 }
 
-/// Whether the record of a payload lies behind the gate that ends the list.
+/// Whether the record of a payload lies after the gate that ends the list.
 fn is_ahead(buffer: &[u8], ahead: Option<u32>, payload: &[u8]) -> bool
     requires { length payload.now ≤ GREATEST_PAYLOAD }
     ensures { IsTrue result ↔ HasAhead ahead buffer.now payload.now }

@@ -20,6 +20,7 @@ use std::alloc::Global;
 /// What a journal's file is.
 #[derive(Drop)]
 pub enum Scanned {
+    /// No journal yet: the file is shorter than any, or its first gate is not open.
     Unformed,
     /// A journal of these records, and the offset of the gate that ends it.
     Formed {
@@ -39,9 +40,11 @@ pub enum Scanned {
 /// What the front of a file is.
 #[derive(Clone, Copy, Debug)]
 enum Front {
+    /// No journal yet.
     Unformed,
     /// It begins with no header that has a byte after it.
     Headless(Header),
+    /// It begins with this header, whole.
     Headed(Header),
 }
 

@@ -17,13 +17,13 @@ pub const OPEN: u8 = 0xa5;
 /// The byte with which a closed gate is written.
 pub const SHUT: u8 = 0;
 
-/// The bytes of the longest record behind its gate: a length, a payload and a closed gate.
+/// The bytes of the longest record after its gate: a length, a payload and a closed gate.
 pub const LONGEST_RECORD: usize = GREATEST_PAYLOAD as usize + 5;
 
 /// The bytes of the shortest file that is formed: its gate, a header of version 1, and the gate of record 1.
 pub const SHORTEST_FORMED: usize = 42;
 
-/// Fills the buffer with the record of a payload, behind its gate. Takes no memory.
+/// Fills the buffer with the record of a payload, after its gate. Takes no memory.
 pub fn fill_record(bytes: &mut Vec<u8>, payload: &[u8])
     requires short { length payload.now ≤ GREATEST_PAYLOAD }
     requires room { LONGEST_RECORD ≤ vec_capacity bytes.old }
@@ -34,7 +34,7 @@ pub fn fill_record(bytes: &mut Vec<u8>, payload: &[u8])
     push_record(bytes, payload);
 }
 
-/// Puts behind the record of a payload, put at this gate of a file that has bytes up to `laid`, what is written behind it: the record that
+/// Puts after the record of a payload, put at this gate of a file that has bytes up to `laid`, what is written after it: the record that
 /// is hinted at, and zeros. Takes no memory.
 pub fn lay_behind<H: Hint>(bytes: &mut Vec<u8>, gate: u32, laid: u32, payload: &[u8], hint: &H)
     requires fits { gate + 6 + length payload.now ≤ GREATEST_FILE }
@@ -49,7 +49,7 @@ pub fn lay_behind<H: Hint>(bytes: &mut Vec<u8>, gate: u32, laid: u32, payload: &
     push_behind(bytes, gate, laid, payload, &next[..length]);
 }
 
-/// Puts behind it what is written where `next` is the payload that is likely to come next. Takes no memory.
+/// Puts after it what is written where `next` is the payload that is likely to come next. Takes no memory.
 fn push_behind(bytes: &mut Vec<u8>, gate: u32, laid: u32, payload: &[u8], next: &[u8])
     requires fits { gate + 6 + length payload.now ≤ GREATEST_FILE }
     requires record { bytes.old.items ≡ body payload.now ++ 0 ∷ [] }
@@ -79,7 +79,7 @@ fn push_record(bytes: &mut Vec<u8>, payload: &[u8])
     let _gate = bytes.push(SHUT);
 }
 
-/// Whether bytes begin with the record of a payload, behind its gate, and a closed gate.
+/// Whether bytes begin with the record of a payload, after its gate, and a closed gate.
 pub fn begins_with_record(bytes: &[u8], payload: &[u8]) -> bool
     requires { length payload.now ≤ GREATEST_PAYLOAD }
     ensures { IsTrue result ↔ HasRecord payload.now bytes.now }

@@ -52,7 +52,7 @@ fn put_after_gate<D: Disk>(disk: &mut D, gate: u64, bytes: &[u8]) -> Result<(), 
     write_synced(disk, gate, &[OPEN])
 }
 
-/// Writes the bytes of a record behind its closed gate, unless they lie there.
+/// Writes the bytes of a record after its closed gate, unless they lie there.
 fn write_record<D: Disk>(
     disk: &mut D,
     gate: u64,
@@ -76,7 +76,7 @@ fn write_record<D: Disk>(
     write_synced(disk, gate + 1, bytes)
 }
 
-/// Opens the gate, and writes bytes at an offset behind it, if there are any, with one sync.
+/// Opens the gate, and writes bytes at an offset after it, if there are any, with one sync.
 fn open_and_lay<D: Disk>(disk: &mut D, gate: u64, from: u64, bytes: &[u8]) -> Result<(), Failed>
     requires claimed { IsTrue (D.shown disk.old).claimed }
     requires file { IfDiskTells (D.shown disk.old) (λ moments. IsSettledTo gate moments.now × IsSettledTo from moments.now) }
@@ -96,7 +96,7 @@ fn open_and_lay<D: Disk>(disk: &mut D, gate: u64, from: u64, bytes: &[u8]) -> Re
     Ok(())
 }
 
-/// Opens the gate of a record that lies there, and writes what comes behind it.
+/// Opens the gate of a record that lies there, and writes what comes after it.
 fn open_record<D: Disk>(disk: &mut D, gate: u64, payload: &[u8], bytes: &[u8]) -> Result<(), Failed>
     requires claimed { IsTrue (D.shown disk.old).claimed }
     requires room { (gate < 2 ^ 63) × (length payload.now ≤ GREATEST_PAYLOAD) }
@@ -111,9 +111,9 @@ fn open_record<D: Disk>(disk: &mut D, gate: u64, payload: &[u8], bytes: &[u8]) -
     open_and_lay(disk, gate, gate + 1 + size as u64, bytes.split_at(size).1)
 }
 
-/// Puts the record of a payload, which the buffer has, at the closed gate of a file that has bytes up to `laid`, with what is written behind
-/// it. Where the record lies there already, its gate is left to open: then one sync is for that and for what is written behind. The buffer
-/// gets what is written behind.
+/// Puts the record of a payload, which the buffer has, at the closed gate of a file that has bytes up to `laid`, with what is written after
+/// it. Where the record lies there already, its gate is left to open: then one sync is for that and for what is written after it. The buffer
+/// gets what is written after it.
 pub fn put_record<D: Disk, H: Hint>(
     disk: &mut D,
     gate: u32,
@@ -140,7 +140,7 @@ pub fn put_record<D: Disk, H: Hint>(
     // or a closed one. The other way round it could find an open gate and no record (must-fail/gate_first.edit), and before another record an
     // open gate would count what nobody appended (must-fail/a_gate_is_opened_before_another_record.edit).
     write_record(disk, gate as u64, bytes, lies_there)?;
-    // What comes next is asked behind that sync, since it may be told while it runs.
+    // What comes next is asked after that sync, since it may be told while it runs.
     lay_behind(bytes, gate, laid, payload, hint);
     open_record(disk, gate as u64, payload, bytes)
 }
@@ -233,7 +233,7 @@ pub fn settle_gate<D: Disk>(disk: &mut D, gate: u64) -> Result<bool, Failed>
 {
     let is_open = is_open_now(disk, gate)?;
     if is_open {
-        // A closed gate is not written: bytes behind it may be torn, and a crash could leave it open before them.
+        // A closed gate is not written: bytes after it may be torn, and a crash could leave it open before them.
         write_synced(disk, gate, &[OPEN])?;
     }
     Ok(is_open)

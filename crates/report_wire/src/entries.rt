@@ -44,7 +44,7 @@ pub fn write_entry(alloc: Global, report: &RawReport) -> Result<Vec<u8>, NoMemor
     }
 }
 
-/// Writes the payload of a report's entry at the front of `into`, leaves the bytes behind it, and answers its length.
+/// Writes the payload of a report's entry at the front of `into`, leaves the bytes after it, and answers its length.
 pub fn entry_to(bidder: u8, round: u32, goods: u8, quantities: &[u16], into: &mut [u8]) -> u32
     requires whole { IsWhole goods quantities.now }
     requires short { 8 + 2 * length quantities.now ≤ GREATEST_PAYLOAD }
@@ -62,7 +62,7 @@ pub fn entry_to(bidder: u8, round: u32, goods: u8, quantities: &[u16], into: &mu
     size as u32
 }
 
-/// Appends a payload of a report behind a first byte: the bidder, or the clock.
+/// Appends a payload of a report after a first byte: the bidder, or the clock.
 pub(crate) fn push_report(
     bytes: &mut Vec<u8>,
     first: u8,

@@ -14,8 +14,11 @@ use std::marker::{Model, PhantomData};
 /// What stands at the front of some bytes: a message and the length of its frame, less than a frame, or a fault.
 #[derive(Drop)]
 pub(crate) enum Found<M> {
+    /// A whole message, and how many bytes its frame takes up.
     Message(M, usize),
+    /// The front of a frame.
     Partial,
+    /// No frame, whatever follows.
     Fault(WireKind),
 }
 
@@ -50,12 +53,12 @@ fn next_frame<F: Frame>(alloc: Global, bytes: &[u8]) -> Result<Found<F>, NoMemor
     }
 }
 
-/// The messages at the front of some bytes, the length of their frames, and the fault that stands behind them.
+/// The messages at the front of some bytes, the length of their frames, and the fault that stands after them.
 #[derive(Drop)]
 pub(crate) struct Front<F> {
     /// In the order in which they stand there.
     pub frames: Vec<F>,
-    /// How many bytes the frames of these messages take up; the rest begins behind them.
+    /// How many bytes the frames of these messages take up; the rest begins after them.
     pub length: usize,
     /// What is wrong with the rest. None where it is less than a frame.
     pub fault: Option<WireKind>,
@@ -123,10 +126,10 @@ impl<F: Frame> Model for Reader<F> {
     ghost invariant = { λ r. MatchOption r.fault (IsPartial F.direction r.rest.items) (λ f. IsFault F.direction f r.rest.items) };
 }
 
-/// The messages that became whole, and the fault that stands behind them.
+/// The messages that became whole, and the fault that stands after them.
 #[derive(Drop)]
 pub struct Feed<F> {
-    /// In the order in which they came. None behind a fault.
+    /// In the order in which they came. None after a fault.
     pub frames: Vec<F>,
     /// The fault that ends the stream, with its place. It is told anew at each feed from the one that met it on.
     pub fault: Option<WireFault>,
@@ -218,7 +221,7 @@ fn fault_at(place: u64, fault: Option<WireKind>) -> Option<WireFault>
     }
 }
 
-/// One piece behind another.
+/// One piece after another.
 fn joined(alloc: Global, first: &[u8], second: &[u8]) -> Result<Vec<u8>, NoMemory>
     ensures { IfOk result (λ v. v.items ≡ first.now ++ second.now) }
 {

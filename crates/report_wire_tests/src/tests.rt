@@ -15,7 +15,7 @@ const TALK: [u8; 15] = [0, 0, 0, 4, 1, 1, 0x61, 0x62, 0x63, 0, 0, 0, 1, 2, 0];
 /// An entry of bidder 1 in round 1: two units of the one good.
 const ENTRY: [u8; 10] = [1, 0, 0, 0, 1, 1, 0, 1, 0, 2];
 
-/// How many messages a piece makes whole, and the fault that stands behind them.
+/// How many messages a piece makes whole, and the fault that stands after them.
 fn fed(reader: &mut Reader<ToHouse>, piece: &[u8]) -> Result<(usize, Option<WireFault>), NoMemory> {
     let Feed { frames, fault } = reader.feed(piece)?;
     Ok((frames.len(), fault))
@@ -37,7 +37,7 @@ fn whole_after(
     Ok(places)
 }
 
-/// The fault behind the talk, where these bytes follow it.
+/// The fault after the talk, where these bytes follow it.
 fn fault_behind(alloc: Global, bytes: &[u8]) -> Result<Option<WireFault>, Fail> {
     let mut reader = Reader::new(alloc);
     let _ = fed(&mut reader, &TALK)?;
@@ -54,7 +54,7 @@ fn a_message_is_whole_at_its_last_byte(rt: HostRuntime) -> Result<(), Fail> {
     Ok(())
 }
 
-/// Bytes behind the talk, and how they fail to be a frame.
+/// Bytes after the talk, and how they fail to be a frame.
 const FAULTS: &[(&[u8], WireKind)] = &[
     (&[0, 0, 0x80, 1], WireKind::TooLong(32_769)),
     (&[0, 0, 0, 0, 9], WireKind::UnknownKind(9)),

@@ -10,9 +10,11 @@ use std::sync::Wait;
 
 /// What is asked of a hall. Contracts alone speak of it.
 pub enum Question {
+    /// Where does the clock stand?
     Look {
         clock: u8,
     },
+    /// Does this report of the bidder count?
     Offer {
         clock: u8,
         bidder: u8,
@@ -23,10 +25,12 @@ pub enum Question {
 
 /// What was asked of a hall, with its answer. Contracts alone speak of it.
 pub enum Asked {
+    /// The clock was looked at.
     Look {
         clock: u8,
         look: Look,
     },
+    /// A report was offered, and judged.
     Offer {
         clock: u8,
         bidder: u8,

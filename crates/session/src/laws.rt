@@ -4,7 +4,7 @@ ghost use Rattle.auction_file.specs.declared.listing.Auction.{Auction as Auction
 ghost use Rattle.report_wire.specs.declared.messages.ToHouse.{ToHouse as Frame};
 ghost use Rattle.session.specs.Turns.{goes_on_behind, bidder_behind};
 
-/// Whether a session goes on behind frames, and its bidder then, depends on the frames and on the digests of the tokens alone.
+/// Whether a session goes on after frames, and its bidder then, depends on the frames and on the digests of the tokens alone.
 pub fn session_law()
     ensures goes_on { (auction other : AuctionValue) (frames : List Frame) → auction.token_digests ≡ other.token_digests →
         goes_on_behind auction None frames ≡ goes_on_behind other None frames }

@@ -32,7 +32,7 @@ impl Model for Session {
     ghost view = { λ session. session.bidder };
 }
 
-/// A reply, and whether the session goes on behind it.
+/// A reply, and whether the session goes on after it.
 #[derive(Drop)]
 pub struct Answer {
     /// The message that the bidder is sent for its frame.
@@ -113,7 +113,7 @@ impl Session {
     }
 }
 
-/// The reply to a fault of the stream, behind which the session ends.
+/// The reply to a fault of the stream, after which the session ends.
 pub fn wire_answer(fault: &WireFault) -> ToBidder
     ensures reply { result ≡ wire_reply fault.now.kind }
     ensures formed { IsMessage to_bidder (bidder_kind result) (bidder_payload result) }

@@ -16,9 +16,11 @@ use report_wire::{ToBidder, ToHouse};
 use sha2::{Digest, Sha256};
 use std::alloc::Global;
 
-/// A reply, and whether the session goes on behind it; or a question to the hall.
+/// A reply, and whether the session goes on after it; or a question to the hall.
 pub enum Line {
+    /// The reply, and whether the session goes on.
     Says(ToBidder, bool),
+    /// The hall's answer decides the reply.
     Asks(Question),
 }
 

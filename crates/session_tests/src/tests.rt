@@ -108,7 +108,7 @@ fn frame_of(rt: &impl Abort, alloc: Global, said: &[u8]) -> Result<ToHouse, Fail
     }
 }
 
-/// Whether the reply is the wanted one, behind its length.
+/// Whether the reply is the wanted one, after its length.
 fn replies<T: Wait + Abort>(
     rt: &T,
     alloc: Global,

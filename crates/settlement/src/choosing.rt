@@ -17,7 +17,9 @@ use std::alloc::Global;
 /// The rows of all clocks, or the first clock of which no choice clears.
 #[derive(Drop)]
 pub(crate) enum Choices {
+    /// One for each clock, that of clock 0 first.
     All(Sequence<ClockRow>),
+    /// This clock, counted from 0.
     NoneOf(u8),
 }
 

@@ -42,6 +42,7 @@ pub struct Outcome {
 /// Where the clocks of an auction stand together.
 #[derive(Debug, Drop)]
 pub enum Settlement {
+    /// Every clock has ended, and a choice clears on each.
     Settled(Outcome),
     /// A clock, the first such one, is running in this round; this is its smallest member without a report there.
     Open { clock: u8, round: u32, missing: u8 },

@@ -4,7 +4,7 @@ use crate::choose;
 use lot_base::{Excess, GoodSet, Goods};
 use std::test::Fail;
 
-/// A table of these entries, and zeros behind them.
+/// A table of these entries, and zeros after them.
 fn table(entries: &[i64]) -> Excess
     requires { length entries.now ≤ 64 }
 {
@@ -35,7 +35,7 @@ fn takes_no_good_where_none_is_in_excess(rt: HostRuntime) -> Result<(), Fail> {
     let two = Goods::new(&[1, 1])?;
     // One bidder reports (0,1), (1,0), (1,1), the other (1,0), (1,1): the empty set ties with good 0 and with both goods.
     assert_eq!(rt; choose(&two, &table(&[0, 0, -1, 0])), GoodSet(0));
-    // Nobody bids. Entries behind the last set mean nothing.
+    // Nobody bids. Entries after the last set mean nothing.
     assert_eq!(rt; choose(&two, &table(&[0, -1, -1, -2, 9])), GoodSet(0));
     Ok(())
 }

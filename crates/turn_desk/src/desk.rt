@@ -209,7 +209,7 @@ impl<B: Book> Desk<B> {
         self.board.notes.leave(note, length)
     }
 
-    /// Takes the note behind that of this number into the buffer, and answers its length: 0 where it is not there. It is a guess at what comes
+    /// Takes the note after that of this number into the buffer, and answers its length: 0 where it is not there. It is a guess at what comes
     /// next, and may say anything: notes are left, written over and read with no turn.
     pub fn next_note(&self, number: u64, into: &mut [u8; LONGEST_NOTE]) -> usize
         ensures { result ≤ LONGEST_NOTE }

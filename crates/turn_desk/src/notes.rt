@@ -12,7 +12,7 @@ pub const LONGEST_NOTE: usize = 120;
 /// The words of a note: eight bytes in each.
 const WORDS: usize = LONGEST_NOTE / 8;
 
-/// How many notes are kept: one is written over by that which comes so many behind it.
+/// How many notes are kept: one is written over by that which comes so many after it.
 const KEPT: usize = 16;
 
 /// How many numbers of notes are told apart.
@@ -24,10 +24,10 @@ const NUMBERS: u64 = 0x100_0000_0000_0000;
 pub(crate) struct Notes {
     /// The number of the next note.
     next: AtomicU64,
-    /// The number of each, modulo `NUMBERS`, and in the low byte its length. It is written behind the words and read before them, so that a
+    /// The number of each, modulo `NUMBERS`, and in the low byte its length. It is written after the words and read before them, so that a
     /// note which is whole when it is taken is taken whole.
     heads: [AtomicU64; KEPT],
-    /// The bytes of each, eight in a word, those of one note behind those of the other.
+    /// The bytes of each, eight in a word, those of one note after those of the other.
     words: [AtomicU64; KEPT * WORDS],
 }
 

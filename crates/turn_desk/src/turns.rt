@@ -52,7 +52,7 @@ impl<B: Book> Board<B> {
     }
 
     /// Puts the book back, makes its last `more` entries the seat's own, shows them, passes the turn on, and wakes the thread whose turn is
-    /// next and the one behind it: turns that are shorter than a wake would else each wait for one.
+    /// next and the one after it: turns that are shorter than a wake would else each wait for one.
     pub(crate) fn leave(&self, seat: &mut Place<B>, book: B, more: u64)
         requires desk { seat.old.table_id ≡ self.now.table.shared.table_id }
         requires turn { (holding seat.old.me.0.stage ≡ 1) × (unsteady seat.old.me.0.stage ≡ 0) × (seat.old.me.1 ≡ (0, None) ∷ []) }

@@ -3,6 +3,7 @@ use std::collections::LinkedList;
 
 /// Where a seat stands in the line.
 pub enum Stage<E> {
+    /// It asks for no turn.
     Rests,
     /// With this ticket.
     Waits(u64),

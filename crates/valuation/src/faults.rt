@@ -9,11 +9,17 @@ use toml_tree::KeyText;
 /// A key of a valuation file, or a table of its array. Bidders are counted from 1.
 #[derive(Clone, Copy, Debug, PartialEq, Eq)]
 pub enum ValueKey {
+    /// The array of tables `valuations`.
     Valuations,
+    /// The table of this bidder.
     Table(u32),
+    /// His `form`.
     Form(u32),
+    /// His `values`.
     Values(u32),
+    /// His `lists`.
     Lists(u32),
+    /// His `cap`.
     Cap(u32),
 }
 

@@ -3,7 +3,7 @@ ghost use Rattle.std.specs.Prelude.{◌≡◌, ◌≤◌, ◌<◌, ◌+◌, ◌+
 
 use std::collections::VecDeque;
 
-/// Moves the first so many of a row, or all where there are fewer, behind those that were given.
+/// Moves the first so many of a row, or all where there are fewer, after those that were given.
 pub(crate) fn first_of<T>(row: &mut VecDeque<T>, count: usize, given: &mut Vec<T>)
     requires { vec_len given.old + count ≤ vec_capacity given.old }
     ensures given { given.new.items ≡ given.old.items ++ take count row.old.items }

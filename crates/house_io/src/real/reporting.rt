@@ -11,14 +11,23 @@ use std::sync::ArcStr;
 /// A call on a file or on the net, as it is said where it fails.
 #[derive(Clone, Copy, Debug, PartialEq, Eq)]
 pub(crate) enum Call {
+    /// A file is opened, or found absent.
     Open,
+    /// The length of a file is asked.
     Size,
+    /// Bytes of a file are read.
     Read,
+    /// A file is opened for writing, made where it is absent, and locked.
     Claim,
+    /// Bytes of a file are written.
     Write,
+    /// A file's bytes are to be on the disk.
     Sync,
+    /// Doors are opened at an address.
     Bind,
+    /// An address is dialled.
     Connect,
+    /// A door waits for a caller.
     Accept,
 }
 

@@ -175,8 +175,11 @@ where
 /// What a net said last: the address, the call, and the system's number of its cause.
 #[derive(Drop)]
 struct Said {
+    /// As it was asked for.
     address: ArcStr,
+    /// The call that failed.
     call: Call,
+    /// None where the system gave no number.
     cause: Option<i32>,
 }
 

@@ -118,7 +118,7 @@ fn damages(alloc: Global, after: &[u8], gate: usize) -> Option<u32> {
     Some(told)
 }
 
-/// Before a record, a header or the gate behind the last is called damaged for want of bytes, the file is asked again.
+/// Before a record, a header or the gate after the last is called damaged for want of bytes, the file is asked again.
 #[test]
 fn a_scan_beside_a_house_tells_no_damage(rt: HostRuntime) {
     for gate in [0, 47, 62] {
@@ -225,7 +225,7 @@ fn mends(alloc: Global, failing: u64, answer: Mended, last: &[Call]) -> Option<b
     Some(found == Ok(answer) && end == last)
 }
 
-/// The gate in doubt is at 41, and the record behind it ends at 57.
+/// The gate in doubt is at 41, and the record after it ends at 57.
 const BODY: [Call; 2] = [Call::Write(42, 15, Some(0)), Call::Sync];
 
 /// An open gate is written once more, before the sync by which its record counts; and of a closed one no byte is.

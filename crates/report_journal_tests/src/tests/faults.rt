@@ -113,7 +113,7 @@ fn a_record_whose_body_fails_is_dropped_and_put_again(rt: HostRuntime) {
     assert_eq!(rt; stepped(rt.alloc(), 8, PUT_AGAIN), Some((3, true)));
 }
 
-/// The second record has zeros behind it.
+/// The second record has zeros after it.
 const PADDED_AGAIN: &[Step] = &[
     Step::Appends(&LONG, Ok(1)),
     Step::Appends(&PAYLOAD, Err(JournalFault::DiskFault)),
@@ -124,7 +124,7 @@ const PADDED_AGAIN: &[Step] = &[
     Step::Holds(2, &PAYLOAD),
 ];
 
-/// The third lies behind the second, and its append fails.
+/// The third lies after the second, and its append fails.
 const LIES_THERE_STILL: &[Step] = &[
     Step::Appends(&LONG, Ok(1)),
     Step::Lays(&PAYLOAD, &PAYLOAD, Ok(2)),
@@ -177,7 +177,7 @@ enum Came {
     Acknowledged(u32),
 }
 
-/// What a run appends, each with what is likely to come next: the second has the third and zeros behind it, and the third another that does
+/// What a run appends, each with what is likely to come next: the second has the third and zeros after it, and the third another that does
 /// not come.
 const THREE: [(&[u8], &[u8]); 3] = [(&LONG, &[]), (&PAYLOAD, &PAYLOAD), (&PAYLOAD, &LONGER)];
 
@@ -318,7 +318,7 @@ fn first_other_failing(alloc: Global, failing: u64, steps: &[Step]) -> Option<us
     Some(first_other(alloc, &mut journal, steps))
 }
 
-/// The third record lies behind the second, and the fourth behind the third: each takes a write of its gate, one of what is laid behind it,
+/// The third record lies after the second, and the fourth after the third: each takes a write of its gate, one of what is laid after it,
 /// if there is any, and a sync.
 const LIE_THERE: &[Step] = &[
     Step::Appends(&LONG, Ok(1)),

@@ -17,7 +17,7 @@ pub(super) const PAYLOAD: [u8; 10] = [1, 0, 0, 0, 1, 1, 0, 1, 0, 2];
 /// A longer one, on two bundles.
 pub(super) const LONGER: [u8; 12] = [1, 0, 0, 0, 1, 1, 0, 2, 0, 2, 0, 3];
 
-/// A payload with which a journal has grown: behind it, as the first record, the gate is at 4,137 in version 1, and at 4,143 with one
+/// A payload with which a journal has grown: after it, as the first record, the gate is at 4,137 in version 1, and at 4,143 with one
 /// opening price.
 pub(super) const LONG: [u8; 4_091] = [9; 4_091];
 

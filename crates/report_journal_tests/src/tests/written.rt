@@ -104,7 +104,7 @@ fn length_after(alloc: Global, opening: Option<Prices>, steps: &[Step]) -> Optio
     Some(file.len())
 }
 
-/// From byte 4,096 on a record with which its file would end is filled up to 4,096 bytes, from its gate to the zeros behind it. The records that
+/// From byte 4,096 on a record with which its file would end is filled up to 4,096 bytes, from its gate to the zeros after it. The records that
 /// follow lie in these, and one that is longer gets none.
 const LENGTHS: [(&[Step], usize); 4] = [
     (&[Step::Appends(&LONG, Ok(1))], 4_138),
@@ -134,7 +134,7 @@ const LENGTHS: [(&[Step], usize); 4] = [
     ),
 ];
 
-/// The second record, and zeros behind it.
+/// The second record, and zeros after it.
 const OVER_ZEROS: [u8; 20] = [
     0xa5, 0, 0, 0, 10, 1, 0, 0, 0, 1, 1, 0, 1, 0, 2, 0, 0, 0, 0, 0,
 ];
@@ -156,7 +156,7 @@ fn a_journal_that_has_grown_writes_zeros_behind_a_record(rt: HostRuntime) {
     }
 }
 
-/// A record behind which the next one is laid, and that one comes.
+/// A record after which the next one is laid, and that one comes.
 const COMES: &[Step] = &[
     Step::Appends(&LONG, Ok(1)),
     Step::Lays(&PAYLOAD, &LONGER, Ok(2)),
@@ -175,7 +175,7 @@ const COMES_NOT: &[Step] = &[
     Step::Holds(3, &PAYLOAD),
 ];
 
-/// The second record from its gate on, and the next one laid behind its closed gate.
+/// The second record from its gate on, and the next one laid after its closed gate.
 const LAID: [u8; 33] = [
     0xa5, 0, 0, 0, 10, 1, 0, 0, 0, 1, 1, 0, 1, 0, 2, 0, 0, 0, 0, 12, 1, 0, 0, 0, 1, 1, 0, 2, 0, 2,
     0, 3, 0,

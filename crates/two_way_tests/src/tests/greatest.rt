@@ -118,7 +118,7 @@ fn case_line(rt: &impl Abort, alloc: Global, case: &Case) -> Result<String, Fail
     Ok(brief(alloc, &answer)?)
 }
 
-/// One unit of one of two goods, and behind it maybe one unit of each.
+/// One unit of one of two goods, and after it maybe one unit of each.
 fn one_unit(alloc: Global, good: u8, or_both: bool) -> Result<Vec<u16>, AllocError> {
     let mut quantities = Vec::new(alloc);
     quantities.extend_from_slice(if good == 0 { &[1, 0] } else { &[0, 1] })?;
@@ -128,7 +128,7 @@ fn one_unit(alloc: Global, good: u8, or_both: bool) -> Result<Vec<u16>, AllocErr
     Ok(quantities)
 }
 
-/// Maybe nothing, and behind it one unit of the other of two goods.
+/// Maybe nothing, and after it one unit of the other of two goods.
 fn other_unit(alloc: Global, good: u8, or_none: bool) -> Result<Vec<u16>, AllocError> {
     let mut quantities = Vec::new(alloc);
     if or_none {
