@@ -514,7 +514,8 @@ fn read_terms(
 /// The prices that a word lists, joined by commas: those of 1 to 6 goods, each at most 10,000.
 fn read_prices(alloc: Global, word: &str) -> Result<Option<Prices>, NoMemory>
     ensures some { IfOk result (λ o. IfSome o (λ prices. (word.now ≡ comma_list prices) × AreNumbers 0 GREATEST_CEILING prices)) }
-    ensures none { IfOk result (λ o. IfNone o ((prices : List ℕ) → AreNumbers 0 GREATEST_CEILING prices → word.now ≡ comma_list prices → ⊥)) }
+    ensures none { IfOk result (λ o. IfNone o ((prices : List ℕ) → AreNumbers 0 GREATEST_CEILING prices
+        → word.now ≡ comma_list prices → ⊥)) }
 {
     match read_numbers(alloc, word, 0, GREATEST_CEILING as u16)? {
         None => Ok(None),

@@ -7,6 +7,9 @@ use std::alloc::Global;
 use std::sync::Arc;
 use std::sync::atomic::AtomicU64;
 
+/// An offset far past the end of the file.
+const FAR: u64 = 1_048_576;
+
 /// What is asked for.
 #[derive(Clone, Copy, Debug)]
 pub(crate) enum Asked {
@@ -302,7 +305,7 @@ const CLAIMING: [Row; 6] = [
     // A claim opens it once more, locks it, and syncs it and its folder; a second one does nothing.
     Row {
         stands: false,
-        asked: &[Asked::Claims, Asked::Claims, Asked::Writes(1_048_576, 4)],
+        asked: &[Asked::Claims, Asked::Claims, Asked::Writes(FAR, 4)],
         failing: &[],
         outcome: Ok(0),
         calls: &[
@@ -313,7 +316,7 @@ const CLAIMING: [Row; 6] = [
             Call::SyncAll(Place::Journal),
             FOLDER,
             Call::SyncAll(Place::Folder),
-            Call::SeekStart(1_048_576),
+            Call::SeekStart(FAR),
             Call::Write(4),
             Call::Write(1),
         ],
@@ -510,7 +513,7 @@ const PIECES: [Row; 11] = [
         stands: true,
         asked: &[
             Asked::Writes(1_048_575, 2),
-            Asked::Writes(1_048_576, 2),
+            Asked::Writes(FAR, 2),
             Asked::Writes(67_108_863, 2),
         ],
         failing: &[],
@@ -524,7 +527,7 @@ const PIECES: [Row; 11] = [
             Call::SyncAll(Place::Folder),
             Call::SeekStart(1_048_575),
             Call::Write(2),
-            Call::SeekStart(1_048_576),
+            Call::SeekStart(FAR),
             Call::Write(2),
             Call::SeekStart(67_108_863),
             Call::Write(2),
@@ -538,7 +541,7 @@ const PIECES: [Row; 11] = [
             Asked::Reads(4_096, 8),
             Asked::Reads(4_097, 8),
             Asked::Reads(1_048_575, 2),
-            Asked::Reads(1_048_576, 2),
+            Asked::Reads(FAR, 2),
             Asked::Reads(67_108_863, 2),
         ],
         failing: &[],
@@ -551,7 +554,7 @@ const PIECES: [Row; 11] = [
             Call::Read(8),
             Call::SeekStart(1_048_575),
             Call::Read(2),
-            Call::SeekStart(1_048_576),
+            Call::SeekStart(FAR),
             Call::Read(2),
             Call::SeekStart(67_108_863),
             Call::Read(2),
@@ -659,7 +662,7 @@ const PIECES: [Row; 11] = [
     Row {
         stands: true,
         asked: &[
-            Asked::Writes(1_048_576, 0),
+            Asked::Writes(FAR, 0),
             Asked::Writes(16_777_216, 0),
             Asked::Writes(67_108_863, 0),
         ],
@@ -673,7 +676,7 @@ const PIECES: [Row; 11] = [
             FOLDER,
             Call::SyncAll(Place::Folder),
             Call::SeekEnd,
-            Call::SetLength(1_048_576),
+            Call::SetLength(FAR),
             Call::SeekEnd,
             Call::SetLength(16_777_216),
             Call::SeekEnd,

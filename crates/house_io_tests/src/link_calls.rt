@@ -8,6 +8,12 @@ use std::alloc::Global;
 use std::net::Shutdown;
 use std::sync::Arc;
 
+/// As many bytes as a house takes at once.
+const PIECE: usize = 65_536;
+
+/// More bytes than are given or taken at once.
+const LONG: usize = 1_048_576;
+
 /// What is asked for.
 #[derive(Clone, Copy, Debug)]
 enum Asked {
@@ -444,11 +450,11 @@ const TALKS: [Row; 5] = [
     Row {
         asked: &[
             Asked::Dials(ADDRESS),
-            Asked::Pulls(65_536),
+            Asked::Pulls(PIECE),
             Asked::Pulls(9),
             Asked::Pushes(1),
             Asked::Pushes(10),
-            Asked::Pushes(65_536),
+            Asked::Pushes(PIECE),
         ],
         sent: 60000,
         failing: &[],
@@ -457,11 +463,11 @@ const TALKS: [Row; 5] = [
         calls: &[
             CONNECT,
             Call::NoDelay(true),
-            Call::Read(65_536),
+            Call::Read(PIECE),
             Call::Read(9),
             Call::Write(1),
             Call::Write(10),
-            Call::Write(65_536),
+            Call::Write(PIECE),
         ],
         said: "",
     },
@@ -469,10 +475,10 @@ const TALKS: [Row; 5] = [
     Row {
         asked: &[
             Asked::Dials(ADDRESS),
-            Asked::Pulls(1_048_576),
+            Asked::Pulls(LONG),
             Asked::Pulls(33_554_432),
             Asked::Pushes(131_072),
-            Asked::Pushes(1_048_576),
+            Asked::Pushes(LONG),
             Asked::Pushes(33_554_432),
         ],
         sent: 60000,
@@ -482,10 +488,10 @@ const TALKS: [Row; 5] = [
         calls: &[
             CONNECT,
             Call::NoDelay(true),
-            Call::Read(1_048_576),
+            Call::Read(LONG),
             Call::Read(33_554_432),
             Call::Write(131_072),
-            Call::Write(1_048_576),
+            Call::Write(LONG),
             Call::Write(33_554_432),
         ],
         said: "",

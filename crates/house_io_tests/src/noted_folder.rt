@@ -75,10 +75,13 @@ pub(crate) struct NotedFile {
 
 const LENGTH: u64 = 200_000;
 
+/// The most bytes that one reading gives.
+const GIVEN: u64 = 65_536;
+
 impl Read for NotedFile {
     fn read(&mut self, into: &mut [u8]) -> io::Result<usize> {
         self.calls.note(Call::Read(into.len()))?;
-        let left = LENGTH.saturating_sub(self.at).min(65_536) as usize;
+        let left = LENGTH.saturating_sub(self.at).min(GIVEN) as usize;
         let count = into.len().min(left);
         self.at = self.at.saturating_add(count as u64);
         Ok(count)

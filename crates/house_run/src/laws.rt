@@ -22,7 +22,8 @@ pub fn journal_names_law()
 /// A bidder whose others report their demand sets, in the journals of the clock of all and of the clock without it, is among truthful others,
 /// whatever stands in the journals of its own. Where it tells the truth too, no journals with other reports of its own gain it more.
 pub fn truth_law()
-    ensures among { (i : ℕ) (u : ℕ → List ℕ → ℤ) (shelf : ShelfSeen) (auction journals : List ℕ) (terms : Terms) (histories : List ClockHistory) →
+    ensures among { (i : ℕ) (u : ℕ → List ℕ → ℤ) (shelf : ShelfSeen) (auction journals : List ℕ) (terms : Terms)
+        (histories : List ClockHistory) →
         1 ≤ i → i ≤ terms.bidders → AreHistories shelf auction journals terms histories → AllByRecursion (AreOthersTrue i u) histories →
         IsAmongTruthful i u terms histories }
     ensures best { (i : ℕ) (u : ℕ → List ℕ → ℤ) (shelf other : ShelfSeen) (auction journals file folder : List ℕ) (terms : Terms)

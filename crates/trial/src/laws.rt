@@ -33,11 +33,13 @@ pub fn explained_law()
 /// Truth pays: what the trial of other values of one bidder settles gains that bidder no more than what the trial of its true values
 /// settles, by what bundles are truly worth to it; and by the truth it loses nothing.
 pub fn truth_law()
-    ensures best { (i : ℕ) (terms : Terms) (values told : List (List ℕ)) (cs ds : List ClockHistory) (s t : Settlement) → 1 ≤ i → i ≤ terms.bidders →
+    ensures best { (i : ℕ) (terms : Terms) (values told : List (List ℕ)) (cs ds : List ClockHistory) (s t : Settlement) →
+        1 ≤ i → i ≤ terms.bidders →
         AreValuationsOf terms values → AreValuationsOf terms told → IsMisreport i values told →
         IsTried terms (bidders_of terms.goods values) cs s → IsTried terms (bidders_of terms.goods told) ds t →
         gain_by (bidders_of terms.goods values) terms t i ≤ℤ gain_by (bidders_of terms.goods values) terms s i }
-    ensures no_loss { (i : ℕ) (terms : Terms) (values : List (List ℕ)) (cs : List ClockHistory) (s : Settlement) → 1 ≤ i → i ≤ terms.bidders →
+    ensures no_loss { (i : ℕ) (terms : Terms) (values : List (List ℕ)) (cs : List ClockHistory) (s : Settlement) →
+        1 ≤ i → i ≤ terms.bidders →
         AreValuationsOf terms values → IsTried terms (bidders_of terms.goods values) cs s →
         pos 0 ≤ℤ gain_by (bidders_of terms.goods values) terms s i }
 {}

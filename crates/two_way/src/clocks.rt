@@ -42,7 +42,8 @@ impl Model for TwoWay {
 
     ghost view = { λ c. record { terms = c.terms; number = c.number; start = c.start; reports = c.past.reports } };
 
-    ghost invariant = { λ c. IsKept (record { terms = c.terms; number = c.number; start = c.start; reports = c.past.reports }) c.begin c.standing
+    ghost invariant = { λ c. IsKept (record { terms = c.terms; number = c.number; start = c.start; reports = c.past.reports })
+        c.begin c.standing
         × KeepsPast (record { terms = c.terms; number = c.number; start = c.start; reports = c.past.reports }) c.past.goods c.last c.begin
         c.standing };
 }

@@ -124,7 +124,8 @@ impl Past {
     /// What is kept of the demand of a bidder in a round, if one of the reports from a place on says it.
     pub(crate) fn kept_in(&self, from: usize, round: u32, bidder: u8) -> Option<&Kept>
         requires { from ≤ length self.now.reports }
-        ensures demand { option_map (λ (k : KeptValue). k.demand) (option_copied result) ≡ demand_in (drop from self.now.reports) round bidder }
+        ensures demand { option_map (λ (k : KeptValue). k.demand) (option_copied result)
+            ≡ demand_in (drop from self.now.reports) round bidder }
         ensures table { IfSome (option_copied result) (λ (k : KeptValue). IsTable (length self.now.goods) (least k.demand) k.least.0) }
     {
         match place_of(self.places.split_at(from).1, round, bidder) {
@@ -164,7 +165,8 @@ fn place_of(places: &[Place], round: u32, bidder: u8) -> Option<&Place>
 
 /// Where the demand of a bidder in a round is kept, by the first such place.
 fn number_in(places: &[Place], round: u32, bidder: u8) -> usize
-    ensures { (p : PlaceValue) → find (λ (q : PlaceValue). (q.round == round) && (q.bidder == bidder)) places.now ≡ Some p → result ≡ p.number }
+    ensures { (p : PlaceValue) → find (λ (q : PlaceValue). (q.round == round) && (q.bidder == bidder)) places.now ≡ Some p
+        → result ≡ p.number }
 {
     match place_of(places, round, bidder) {
         Some(place) => place.number,

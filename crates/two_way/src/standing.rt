@@ -74,11 +74,14 @@ impl Standing {
         requires from { from ≤ length reports.now.reports }
         requires fit { AllByRecursion (λ (r : ReportValue). IsDemand terms.now.goods r.demand) (drop from reports.now.reports) }
         requires room { is_full (members terms.now.bidders clock) (drop from reports.now.reports) (self.old.steps + 1) ≡ true
-            → HasRoom terms.now (demands_in (drop from reports.now.reports) (self.old.steps + 1)) (members terms.now.bidders clock) self.old }
+            → HasRoom terms.now (demands_in (drop from reports.now.reports) (self.old.steps + 1))
+            (members terms.now.bidders clock) self.old }
         requires few { self.old.steps ≤ 120000 }
-        ensures open { is_full (members terms.now.bidders clock) (drop from reports.now.reports) (self.old.steps + 1) ≡ false → self.new ≡ self.old }
+        ensures open { is_full (members terms.now.bidders clock) (drop from reports.now.reports) (self.old.steps + 1) ≡ false
+            → self.new ≡ self.old }
         ensures full { is_full (members terms.now.bidders clock) (drop from reports.now.reports) (self.old.steps + 1) ≡ true
-            → IsTurned terms.now (demands_in (drop from reports.now.reports) (self.old.steps + 1)) (members terms.now.bidders clock) self.old self.new }
+            → IsTurned terms.now (demands_in (drop from reports.now.reports) (self.old.steps + 1))
+            (members terms.now.bidders clock) self.old self.new }
     {
         if is_open(terms.bidders, clock, reports, from, self.steps + 1) {
             return;
@@ -91,8 +94,10 @@ impl Standing {
         requires goods { reports.now.goods ≡ terms.now.goods }
         requires from { from ≤ length reports.now.reports }
         requires fit { AllByRecursion (λ (r : ReportValue). IsDemand terms.now.goods r.demand) (drop from reports.now.reports) }
-        requires room { HasRoom terms.now (demands_in (drop from reports.now.reports) (self.old.steps + 1)) (members terms.now.bidders clock) self.old }
-        ensures { IsTurned terms.now (demands_in (drop from reports.now.reports) (self.old.steps + 1)) (members terms.now.bidders clock) self.old self.new }
+        requires room { HasRoom terms.now (demands_in (drop from reports.now.reports) (self.old.steps + 1))
+            (members terms.now.bidders clock) self.old }
+        ensures { IsTurned terms.now (demands_in (drop from reports.now.reports) (self.old.steps + 1))
+            (members terms.now.bidders clock) self.old self.new }
     {
         if self.was_down {
             self.turn_down(terms, clock, reports, from);
@@ -125,14 +130,19 @@ impl Standing {
         set: GoodSet,
         least: &Quantities,
     )
-        requires room { HasRoom terms.now (demands_in (drop from reports.now.reports) (self.old.steps + 1)) (members terms.now.bidders clock) self.old }
+        requires room { HasRoom terms.now (demands_in (drop from reports.now.reports) (self.old.steps + 1))
+            (members terms.now.bidders clock) self.old }
         requires up { self.old.was_down ≡ false }
-        requires set { set.0 ≡ set_up terms.now (demands_in (drop from reports.now.reports) (self.old.steps + 1)) (members terms.now.bidders clock) }
+        requires set { set.0 ≡ set_up terms.now (demands_in (drop from reports.now.reports) (self.old.steps + 1))
+            (members terms.now.bidders clock) }
         requires some { set.0 ≢ 0 }
-        requires least { AddUp terms.now.goods (λ j. amount_in Least (demands_in (drop from reports.now.reports) (self.old.steps + 1) j)) terms.now.bidders
+        requires least { AddUp terms.now.goods (λ j. amount_in Least (demands_in (drop from reports.now.reports) (self.old.steps + 1) j))
+            terms.now.bidders
             clock least.now }
-        ensures { Rises terms.now (demands_in (drop from reports.now.reports) (self.old.steps + 1)) (members terms.now.bidders clock) self.old self.new
-            ⊎ Halts terms.now (demands_in (drop from reports.now.reports) (self.old.steps + 1)) (members terms.now.bidders clock) self.old self.new }
+        ensures { Rises terms.now (demands_in (drop from reports.now.reports) (self.old.steps + 1))
+            (members terms.now.bidders clock) self.old self.new
+            ⊎ Halts terms.now (demands_in (drop from reports.now.reports) (self.old.steps + 1))
+            (members terms.now.bidders clock) self.old self.new }
     {
         match first_at(&self.prices, terms.ceiling, set) {
             Some(good) => self.phase = Phase::Halted(good),
@@ -149,10 +159,14 @@ impl Standing {
         requires goods { reports.now.goods ≡ terms.now.goods }
         requires from { from ≤ length reports.now.reports }
         requires fit { AllByRecursion (λ (r : ReportValue). IsDemand terms.now.goods r.demand) (drop from reports.now.reports) }
-        requires room { HasRoom terms.now (demands_in (drop from reports.now.reports) (self.old.steps + 1)) (members terms.now.bidders clock) self.old }
-        requires down { GoesDown terms.now (demands_in (drop from reports.now.reports) (self.old.steps + 1)) (members terms.now.bidders clock) self.old }
-        ensures { Falls terms.now (demands_in (drop from reports.now.reports) (self.old.steps + 1)) (members terms.now.bidders clock) self.old self.new
-            ⊎ Ends terms.now (demands_in (drop from reports.now.reports) (self.old.steps + 1)) (members terms.now.bidders clock) self.old self.new }
+        requires room { HasRoom terms.now (demands_in (drop from reports.now.reports) (self.old.steps + 1))
+            (members terms.now.bidders clock) self.old }
+        requires down { GoesDown terms.now (demands_in (drop from reports.now.reports) (self.old.steps + 1))
+            (members terms.now.bidders clock) self.old }
+        ensures { Falls terms.now (demands_in (drop from reports.now.reports) (self.old.steps + 1))
+            (members terms.now.bidders clock) self.old self.new
+            ⊎ Ends terms.now (demands_in (drop from reports.now.reports) (self.old.steps + 1))
+            (members terms.now.bidders clock) self.old self.new }
     {
         let greatest = demanded(
             &terms.goods,

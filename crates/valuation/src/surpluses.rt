@@ -173,7 +173,8 @@ fn steady_for(goods: &Goods, set: GoodSet, worth: &[u16], best: u16, units: &[u1
     requires best { best ≡ greatest worth.now }
     requires column { IsColumn goods.now set.0 units.now }
     ensures few { result < 2 ^ 16 }
-    ensures steady { (u : List ℕ → ℤ) (p : List ℕ) → length p ≡ length goods.now → CarriesAt goods.now worth.now u p → (n : ℕ) → n ≤ result →
+    ensures steady { (u : List ℕ → ℤ) (p : List ℕ) → length p ≡ length goods.now → CarriesAt goods.now worth.now u p →
+        (n : ℕ) → n ≤ result →
         demand goods.now u (raised_by n set.0 p) ≡ demand goods.now u p }
 {
     let least = fewest_of_best(worth, units, best);
