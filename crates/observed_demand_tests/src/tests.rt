@@ -1,13 +1,12 @@
 //! What no clause says: that observing succeeds where there is memory, also at the limits.
 ghost use Rattle.std.specs.Prelude.{◌≡◌, ◌≤◌, IfOk};
 ghost use Rattle.std.specs.List.{AllByRecursion};
-ghost use Rattle.lot_base.specs.Demands.{IsDemand};
 ghost use Rattle.clock.specs.Reports.{ClockHistory, histories};
 
-use clock::{Clock, Judgement};
-use demand_set::{Demand, Report};
+use clock::Clock;
 use lot_base::{Goods, Terms};
 use observed_demand::{Observed, observe};
+use reported_clocks::{demand_of, offer};
 use std::alloc::{AllocError, Global};
 use std::process::Abort;
 use std::test::Fail;
@@ -16,46 +15,8 @@ fn terms_of(supply: &[u16], bidders: u8, ceiling: u32) -> Result<Terms, Fail> {
     Ok(Terms::new(Goods::new(supply)?, bidders, ceiling)?)
 }
 
-fn read(rt: &impl Abort, alloc: Global, goods: &Goods, quantities: &[u16]) -> Result<Demand, Fail>
-    ensures { IfOk result (λ d. IsDemand goods.now d) }
-{
-    let count = goods.count();
-    assert!(rt; count >= 1 && count <= 6);
-    assert_eq!(rt; quantities.len() % count as usize, 0);
-    Ok(Demand::read_quantities(alloc, goods, count, quantities)?)
-}
-
-/// The clock takes a report.
-fn offer(
-    rt: &impl Abort,
-    alloc: Global,
-    terms: &Terms,
-    clock: &mut Clock,
-    bidder: u8,
-    round: u32,
-    quantities: &[u16],
-) -> Result<(), Fail>
-    requires { clock.old.history.terms ≡ terms.now }
-    ensures { clock.new.history.terms ≡ terms.now }
-{
-    let demand = read(rt, alloc, &terms.goods, quantities)?;
-    match clock.judge(bidder, round, &demand) {
-        Judgement::Take => clock.apply(
-            alloc,
-            Report {
-                bidder,
-                round,
-                demand,
-            },
-        )?,
-        judgement => panic!(rt; "bidder {bidder} round {round}: {judgement:?}"),
-    }
-    Ok(())
-}
-
 /// The clock takes a report of each member in a round, each of the same demand.
 fn fill(
-    rt: &impl Abort,
     alloc: Global,
     terms: &Terms,
     clock: &mut Clock,
@@ -69,7 +30,8 @@ fn fill(
     for step in 0..terms.bidders {
         let bidder = step + 1;
         if bidder != number {
-            offer(rt, alloc, terms, clock, bidder, round, quantities)?;
+            let demand = demand_of(alloc, &terms.goods, quantities)?;
+            offer(alloc, clock, bidder, round, demand)?;
         }
     }
     Ok(())
@@ -77,7 +39,6 @@ fn fill(
 
 /// The clock of this number, to which each member reported this demand in each of so many rounds.
 fn clock_of(
-    rt: &impl Abort,
     alloc: Global,
     terms: &Terms,
     number: u8,
@@ -89,7 +50,7 @@ fn clock_of(
 {
     let mut clock = Clock::new(alloc, terms, number)?;
     for before in 0..rounds {
-        fill(rt, alloc, terms, &mut clock, before + 1, quantities)?;
+        fill(alloc, terms, &mut clock, before + 1, quantities)?;
     }
     Ok(clock)
 }
@@ -104,15 +65,15 @@ fn last_of(observed: &Observed) -> (usize, Option<(u8, u32)>) {
 }
 
 /// What bidder 2 of two reported to the clock of both, who wanted a unit in each of so many rounds.
-fn observed_rounds(rt: &impl Abort, alloc: Global, rounds: u32) -> Result<Observed, Fail> {
+fn observed_rounds(alloc: Global, rounds: u32) -> Result<Observed, Fail> {
     let terms = terms_of(&[1], 2, 10_000)?;
-    let clocks = [clock_of(rt, alloc, &terms, 0, rounds, &[1])?];
+    let clocks = [clock_of(alloc, &terms, 0, rounds, &[1])?];
     Ok(observe(alloc, &terms, &clocks, 2)?)
 }
 
 #[test]
 fn a_clock_of_many_rounds_is_observed(rt: HostRuntime) -> Result<(), Fail> {
-    let observed = observed_rounds(&rt, rt.alloc(), 10_000)?;
+    let observed = observed_rounds(rt.alloc(), 10_000)?;
     assert_eq!(rt; last_of(&observed), (10_000, Some((0, 10_000))));
     Ok(())
 }
@@ -128,27 +89,27 @@ fn all_quantities(alloc: Global, units: u16) -> Result<Vec<u16>, AllocError> {
 }
 
 /// What the one bidder reported who wants any of 2,048 bundles.
-fn observed_box(rt: &impl Abort, alloc: Global) -> Result<Observed, Fail> {
+fn observed_box(alloc: Global) -> Result<Observed, Fail> {
     let terms = terms_of(&[2047], 1, 10)?;
     let all = all_quantities(alloc, 2047)?;
-    let clocks = [clock_of(rt, alloc, &terms, 0, 1, &all)?];
+    let clocks = [clock_of(alloc, &terms, 0, 1, &all)?];
     Ok(observe(alloc, &terms, &clocks, 1)?)
 }
 
 #[test]
 fn the_largest_demand_is_observed(rt: HostRuntime) -> Result<(), Fail> {
-    let observed = observed_box(&rt, rt.alloc())?;
+    let observed = observed_box(rt.alloc())?;
     assert_eq!(rt; last_of(&observed), (1, Some((0, 1))));
     Ok(())
 }
 
 /// The clocks of these terms, of which each member wants none of six goods.
-fn clocks_of(rt: &impl Abort, alloc: Global, terms: &Terms) -> Result<Vec<Clock>, Fail>
+fn clocks_of(alloc: Global, terms: &Terms) -> Result<Vec<Clock>, Fail>
     ensures { IfOk result (λ v. AllByRecursion (λ (c : ClockHistory). c.terms ≡ terms.now) (histories v.items)) }
 {
     let mut clocks = Vec::new(alloc);
     for number in 0..terms.bidders + 1 {
-        clocks.push(clock_of(rt, alloc, terms, number, 1, &[0; 6])?)?;
+        clocks.push(clock_of(alloc, terms, number, 1, &[0; 6])?)?;
     }
     Ok(clocks)
 }
@@ -156,7 +117,7 @@ fn clocks_of(rt: &impl Abort, alloc: Global, terms: &Terms) -> Result<Vec<Clock>
 /// What bidder 12 of twelve reported to these clocks.
 fn observed_clocks(rt: &impl Abort, alloc: Global) -> Result<Observed, Fail> {
     let terms = terms_of(&[1, 1, 1, 1, 1, 1], 12, 10)?;
-    let clocks = clocks_of(rt, alloc, &terms)?;
+    let clocks = clocks_of(alloc, &terms)?;
     assert!(rt; clocks.len() <= 13);
     Ok(observe(alloc, &terms, &clocks, 12)?)
 }

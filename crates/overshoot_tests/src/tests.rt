@@ -1,11 +1,7 @@
 //! What no clause says: that calls succeed where there is memory, and clocks and demands that were worked by hand.
-ghost use Rattle.std.specs.Prelude.{◌≡◌, ◌≤◌, IfOk};
-ghost use Rattle.lot_base.specs.Demands.{IsDemand};
-
-use clock::{Clock, Judgement};
-use demand_set::{Demand, Report};
-use lot_base::{Goods, Prices, RawDemand, Sequence, Terms};
+use lot_base::{Goods, Prices, Terms};
 use overshoot::{Explained, SetVerdict, exchange, explain, greatest};
+use reported_clocks::{clock_of, demand_of};
 use std::alloc::{AllocError, Global};
 use std::process::Abort;
 use std::test::Fail;
@@ -251,65 +247,6 @@ fn terms_of(rt: &impl Abort, case: &Case) -> Result<Terms, Fail> {
     Ok(Terms::with_opening(goods, case.bidders, case.ceiling, opening)?)
 }
 
-fn read(rt: &impl Abort, alloc: Global, goods: &Goods, quantities: &[u16]) -> Result<Demand, Fail>
-    ensures { IfOk result (λ d. IsDemand goods.now d) }
-{
-    let count = goods.count();
-    let quantities = quantities.to_vec(alloc)?;
-    assert!(rt; count >= 1 && count <= 6);
-    assert_eq!(rt; quantities.len() % count as usize, 0);
-    let raw = RawDemand {
-        goods: count,
-        quantities: Sequence::from_vec(quantities),
-    };
-    Ok(Demand::read(alloc, goods, &raw)?)
-}
-
-/// The clock takes a report.
-fn offer(
-    rt: &impl Abort,
-    alloc: Global,
-    clock: &mut Clock,
-    bidder: u8,
-    round: u32,
-    demand: Demand,
-) -> Result<(), Fail>
-    requires { IsDemand clock.old.history.terms.goods demand }
-    ensures { clock.new.history.terms ≡ clock.old.history.terms }
-{
-    match clock.judge(bidder, round, &demand) {
-        Judgement::Take => clock.apply(
-            alloc,
-            Report {
-                bidder,
-                round,
-                demand,
-            },
-        )?,
-        judgement => panic!(rt; "bidder {bidder} round {round}: {judgement:?}"),
-    }
-    Ok(())
-}
-
-/// The clock of these reports.
-fn clock_of(
-    rt: &impl Abort,
-    alloc: Global,
-    terms: &Terms,
-    number: u8,
-    reports: &[Told],
-) -> Result<Clock, Fail>
-    requires { number ≤ terms.now.bidders }
-    ensures { IfOk result (λ c. c.history.terms ≡ terms.now) }
-{
-    let mut clock = Clock::new(alloc, terms, number)?;
-    for (bidder, round, quantities) in reports {
-        let demand = read(rt, alloc, &terms.goods, quantities)?;
-        offer(rt, alloc, &mut clock, *bidder, *round, demand)?;
-    }
-    Ok(clock)
-}
-
 /// What a clock has come to, in words.
 fn line_of(alloc: Global, explained: &Explained) -> Result<String, AllocError> {
     match explained {
@@ -331,7 +268,7 @@ fn line_of(alloc: Global, explained: &Explained) -> Result<String, AllocError> {
 fn check_case(rt: &(impl AllocGlobal + Abort), case: &Case) -> Result<(), Fail> {
     let terms = terms_of(rt, case)?;
     assert!(rt; case.clock <= terms.bidders);
-    let clock = clock_of(rt, rt.alloc(), &terms, case.clock, case.reports)?;
+    let clock = clock_of(rt.alloc(), &terms, case.clock, case.reports)?;
     let line = line_of(rt.alloc(), &explain(rt.alloc(), &terms, &clock)?)?;
     assert_eq!(rt; line.as_str(), case.line, "{}", case.story);
     let (set, short) = greatest(&terms, &clock);
@@ -421,7 +358,7 @@ const DEMANDS: &[Listed] = &[
 fn check_verdict(rt: &(impl AllocGlobal + Abort), listed: &Listed) -> Result<(), Fail> {
     let (supply, quantities, words) = *listed;
     let goods = Goods::new(supply)?;
-    let demand = read(rt, rt.alloc(), &goods, quantities)?;
+    let demand = demand_of(rt.alloc(), &goods, quantities)?;
     let told = words_of(rt.alloc(), &exchange(rt.alloc(), &goods, &demand)?)?;
     assert_eq!(rt; told.as_str(), words, "{quantities:?}");
     Ok(())

@@ -4,9 +4,10 @@ ghost use Rattle.lot_base.specs.Demands.{IsDemand};
 ghost use Rattle.clock.specs.Reports.{histories};
 ghost use Rattle.settlement.specs.Clocks.{AreClocksOf};
 
-use clock::{Clock, Judgement};
-use demand_set::{Demand, Report};
-use lot_base::{Bundle, Goods, NoMemory, Phase, Prices, RawDemand, Sequence, Terms, cost};
+use clock::Clock;
+use demand_set::Demand;
+use lot_base::{Bundle, Goods, NoMemory, Phase, Prices, Terms, cost};
+use reported_clocks::{demand_of, offer};
 use settlement::laws::{credit_example, explained_example, reserve_example};
 use settlement::{AwardRow, ClockRow, Outcome, Settlement, row_of, settle};
 use std::alloc::Global;
@@ -20,20 +21,6 @@ enum Reports<'a> {
     Listed(&'a [&'a [(u8, u32, &'a [u16])]]),
     /// Each bidder values the bundles of the box so, and reports its demand sets.
     True(&'a [&'a [u32]]),
-}
-
-fn read(rt: &impl Abort, alloc: Global, goods: &Goods, quantities: &[u16]) -> Result<Demand, Fail>
-    ensures { IfOk result (λ d. IsDemand goods.now d) }
-{
-    let count = goods.count();
-    let quantities = quantities.to_vec(alloc)?;
-    assert!(rt; count >= 1 && count <= 6);
-    assert_eq!(rt; quantities.len() % count as usize, 0);
-    let raw = RawDemand {
-        goods: count,
-        quantities: Sequence::from_vec(quantities),
-    };
-    Ok(Demand::read(alloc, goods, &raw)?)
 }
 
 fn append(quantities: &mut Vec<u16>, bundle: &Bundle) -> Result<(), Fail> {
@@ -69,52 +56,7 @@ fn demand_at(
             append(&mut quantities, &bundle)?;
         }
     }
-    read(rt, alloc, goods, &quantities)
-}
-
-fn offer(
-    rt: &impl Abort,
-    alloc: Global,
-    clock: &mut Clock,
-    bidder: u8,
-    round: u32,
-    demand: Demand,
-) -> Result<(), Fail>
-    requires { IsDemand clock.old.history.terms.goods demand }
-    ensures terms { clock.new.history.terms ≡ clock.old.history.terms }
-    ensures number { clock.new.history.number ≡ clock.old.history.number }
-{
-    match clock.judge(bidder, round, &demand) {
-        Judgement::Take => clock.apply(
-            alloc,
-            Report {
-                bidder,
-                round,
-                demand,
-            },
-        )?,
-        judgement => panic!(rt; "bidder {bidder} round {round}: {judgement:?}"),
-    }
-    Ok(())
-}
-
-fn listed(
-    rt: &impl Abort,
-    alloc: Global,
-    terms: &Terms,
-    number: u8,
-    reports: &[(u8, u32, &[u16])],
-) -> Result<Clock, Fail>
-    requires { number ≤ terms.now.bidders }
-    ensures terms { IfOk result (λ c. c.history.terms ≡ terms.now) }
-    ensures number { IfOk result (λ c. c.history.number ≡ number) }
-{
-    let mut clock = Clock::new(alloc, terms, number)?;
-    for (bidder, round, quantities) in reports {
-        let demand = read(rt, alloc, &terms.goods, quantities)?;
-        offer(rt, alloc, &mut clock, *bidder, *round, demand)?;
-    }
-    Ok(clock)
+    demand_of(alloc, goods, &quantities)
 }
 
 /// A clock of which each round was full with demand sets, as long as it ran.
@@ -156,7 +98,7 @@ fn fill(
         let bidder = (place % 12) as u8 + 1;
         if bidder != clock.number() {
             let demand = demand_at(rt, alloc, &terms.goods, &prices, values[place])?;
-            offer(rt, alloc, clock, bidder, round, demand)?;
+            offer(alloc, clock, bidder, round, demand)?;
         }
     }
     Ok(())
@@ -176,7 +118,7 @@ fn clock_of(
     match reports {
         Reports::Listed(lists) => {
             assert!(rt; (number as usize) < lists.len());
-            listed(rt, alloc, terms, number, lists[number as usize])
+            reported_clocks::clock_of(alloc, terms, number, lists[number as usize])
         }
         Reports::True(values) => full(rt, alloc, terms, number, values),
     }

@@ -11,6 +11,6 @@ all-more terms [] clock all same = (same, tt)
 all-more terms (first ∷ clocks) clock all same = (all.0, all-more terms clocks clock all.1 same)
 
 pub loop-number-preserved : goal.loop-number-preserved
-loop-number-preserved g c =
+loop-number-preserved c =
     subst (λ (clocks : List ClockOf). AllByRecursion (λ (h : ClockHistory). h.terms ≡ c.args.terms.now) (histories clocks)) (sym c.in_ok-push.ensures.items)
     (all-more c.args.terms.now c.loop-number.clocks.items c.in_ok-clock_of.field-0 c.loop-number.invariant c.in_ok-clock_of.ensures)

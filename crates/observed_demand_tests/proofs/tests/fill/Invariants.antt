@@ -2,4 +2,4 @@ use Rattle.std.proofs.Common.{◌≡◌}
 use Rattle.observed_demand_tests.proofs.tests.fill.Given as goal
 
 abbrev pub invariant-loop-step : goal.invariant-loop-step
-invariant-loop-step g l = l.clock.history.terms ≡ l.terms
+invariant-loop-step l = l.clock.history.terms ≡ l.terms
