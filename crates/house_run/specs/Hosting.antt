@@ -28,7 +28,7 @@ use Rattle.house_run.specs.ClockRuns.{BeginNew, ClockRun, IsClockRun, IsJournalR
 use Rattle.house_run.specs.declared.ends.Ended.{Ended}
 use Rattle.house_run.specs.declared.ends.Ended.TheVariants as how
 use Rattle.house_run.specs.declared.hosting.Hosted.{Hosted}
-use Rattle.house_run.specs.declared.hosting.Room.{Room}
+use Rattle.house_run.specs.declared.hosting.Reserved.{Reserved}
 use Rattle.house_serve.specs.declared.houses.DoorLog.{DoorLog}
 use Rattle.house_io.specs.declared.shelves.Refusal.{Refusal}
 use Rattle.house_io.specs.declared.shelves.Refusal.TheVariants as refusal
@@ -123,7 +123,7 @@ module _ {D R L M : Type 0} (shown : D → DiskShown) (told : R → Option (Door
       HouseServed desks passes disks (Err end) told_before told_after counted_before counted ⊎ HouseNotServed desks disks end told_before told_after counted_before counted
 
 -- empty lists with room for so many clocks, their disks, and the ends at so many doors
-pub record IsRoom {D : Type 0} (clocks doors : ℕ) (room : Room D) : Type 0 where
+pub record IsReserved {D : Type 0} (clocks doors : ℕ) (room : Reserved D) : Type 0 where
   pub no_clock : length room.clocks.items ≡ 0
   pub no_disk : length room.disks.items ≡ 0
   pub no_end : length room.ends.items ≡ 0

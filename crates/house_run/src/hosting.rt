@@ -6,7 +6,7 @@ ghost use Rattle.clock_family.specs.Houses.{AreAllOf, IsNewPass};
 ghost use Rattle.clock.specs.Reports.{histories};
 ghost use Rattle.clock_book.specs.Books.{IsKept};
 ghost use Rattle.house_run.specs.GivingBack.{HasTaken, CountsDoors};
-ghost use Rattle.house_run.specs.Hosting.{AreUnfailed, GivenOutcomeBy, HostOutcomeBy, HouseOutcomeBy, HouseUnused, IsRoom, LogsOutcome, net_end};
+ghost use Rattle.house_run.specs.Hosting.{AreUnfailed, GivenOutcomeBy, HostOutcomeBy, HouseOutcomeBy, HouseUnused, IsReserved, LogsOutcome, net_end};
 
 use crate::ends::{Ended, end_at};
 use crate::giving_back::{close_doors, close_logs, has_failed, take_apart};
@@ -32,7 +32,7 @@ pub(crate) struct Hosted {
 }
 
 /// Room for what is left of a house once it was closed. All lists are empty.
-pub(crate) struct Room<D> {
+pub(crate) struct Reserved<D> {
     /// Room for each clock.
     clocks: Vec<Clock>,
     /// Room for a list of each door.
@@ -42,13 +42,13 @@ pub(crate) struct Room<D> {
 }
 
 /// Room for so many clocks and doors.
-fn reserve<D>(alloc: Global, clocks: usize, doors: usize) -> Result<Room<D>, NoMemory>
-    ensures { IfOk result (IsRoom clocks doors) }
+fn reserve<D>(alloc: Global, clocks: usize, doors: usize) -> Result<Reserved<D>, NoMemory>
+    ensures { IfOk result (IsReserved clocks doors) }
 {
     let clock_list = Vec::with_capacity(alloc, clocks)?;
     let ends = Vec::with_capacity(alloc, doors)?;
     let disks = Vec::with_capacity(alloc, clocks)?;
-    Ok(Room {
+    Ok(Reserved {
         clocks: clock_list,
         ends,
         disks,
@@ -66,13 +66,13 @@ pub(crate) fn net_end(refusal: Refusal) -> Ended
 }
 
 /// Closes a house that was not served, and gives the disks of its books.
-fn close_house<D: Disk>(house: House<D>, passes: Vec<HousePass<D>>, room: Room<D>) -> Vec<D>
+fn close_house<D: Disk>(house: House<D>, passes: Vec<HousePass<D>>, room: Reserved<D>) -> Vec<D>
     requires all { AreAllOf house.desks passes.items }
     requires new { AllByRecursion (IsNewPass house) passes.items }
-    requires room { IsRoom (length house.desks) 0 room }
+    requires room { IsReserved (length house.desks) 0 room }
     ensures { HouseUnused D.shown house.desks result.items }
 {
-    let Room {
+    let Reserved {
         mut clocks,
         mut disks,
         ends: _,
@@ -86,9 +86,9 @@ fn close_served<D: Disk, N: Net>(
     books: Vec<ClockBook<D>>,
     logs: Vec<DoorLog<N::Door>>,
     net: &mut N,
-    room: Room<D>,
+    room: Reserved<D>,
 ) -> (Result<Hosted, Ended>, Vec<D>)
-    requires { IsRoom (length books.items) (length logs.items) room }
+    requires { IsReserved (length books.items) (length logs.items) room }
     ensures disks { result.1.items ≡ map (λ book. book.disk) books.items }
     ensures kept { AllByRecursion (λ book. IsKept D.shown book) books.items }
     ensures lists { HasTaken N.Net (map (λ log. log.door) logs.items) net.old net.new }
@@ -96,7 +96,7 @@ fn close_served<D: Disk, N: Net>(
     ensures outcome { LogsOutcome books.items logs.items result.0 }
 {
     let failed = has_failed(&logs);
-    let Room {
+    let Reserved {
         mut clocks,
         mut disks,
         mut ends,
@@ -119,14 +119,14 @@ fn host_doors<T: Threads + Wait + Sync, D: Disk + Send, N: Net>(
     doors: Vec<N::Door>,
     sessions: u32,
     net: &mut N,
-    room: Room<D>,
+    room: Reserved<D>,
 ) -> (Result<Hosted, Ended>, Vec<D>)
     requires auction { house.terms ≡ auction.now.terms }
     requires passes { AreAllOf house.desks passes.items }
     requires new { AllByRecursion (IsNewPass house) passes.items }
     requires doors { (length doors.items ≡ length passes.items) × AreUnfailed N.Door.Door doors.items }
     requires sessions { (1 ≤ sessions) × (sessions ≤ MOST_SESSIONS) }
-    requires room { IsRoom (length house.desks) (length doors.items) room }
+    requires room { IsReserved (length house.desks) (length doors.items) room }
     ensures { (address : List ℕ) → GivenOutcomeBy D.shown N.Net N.Door.Door N.Door.Link.Link auction.now address (length doors.items)
         sessions doors.items house.desks passes.items result.0 result.1.items net.old net.new }
 {
@@ -158,14 +158,14 @@ fn host_house<T: Threads + Wait + Sync, D: Disk + Send, N: Net>(
     doors: u32,
     sessions: u32,
     net: &mut N,
-    room: Room<D>,
+    room: Reserved<D>,
 ) -> (Result<Hosted, Ended>, Vec<D>)
     requires auction { house.terms ≡ auction.now.terms }
     requires passes { AreAllOf house.desks passes.items }
     requires new { AllByRecursion (IsNewPass house) passes.items }
     requires doors { length passes.items ≡ doors }
     requires sessions { (1 ≤ sessions) × (sessions ≤ MOST_SESSIONS) }
-    requires room { IsRoom (length house.desks) doors room }
+    requires room { IsReserved (length house.desks) doors room }
     ensures { HouseOutcomeBy D.shown N.Net N.Door.Door N.Door.Link.Link auction.now address.now doors sessions house.desks passes.items
         result.0 result.1.items net.old net.new }
 {
@@ -214,10 +214,10 @@ pub(crate) fn host<T: Threads + Wait + Sync, D: Disk + Send, N: Net>(
 }
 
 /// Lets go of room that was not used.
-fn release<D>(room: Room<D>)
+fn release<D>(room: Reserved<D>)
     requires { length room.disks.items ≡ 0 }
 {
-    let Room {
+    let Reserved {
         clocks: _,
         ends: _,
         disks,

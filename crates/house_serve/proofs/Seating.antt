@@ -1,4 +1,4 @@
--- What holds of each pass, or of each list of ends, holds at its counter.
+-- What holds of each pass, or of each list of ends, holds at its booth.
 use Rattle.std.proofs.Common.{◌≡◌, List, length, map, get_or, sym, ◌∙◌, ap, subst, arith}
 use Rattle.std.specs.Prelude.{All}
 use Rattle.std.specs.List.{AllByRecursion}

@@ -3,4 +3,4 @@ pub mod Pieces
 pub mod Serving
 pub mod Doors
 pub mod Houses
-pub mod Counters
+pub mod Booths

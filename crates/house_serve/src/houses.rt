@@ -5,9 +5,9 @@ ghost use Rattle.std.specs.List.{AllByRecursion};
 ghost use Rattle.clock_family.specs.Houses.{AreAllOf, IsNewPass};
 ghost use Rattle.house_serve.specs.Houses.{IsServedBy};
 
-use crate::counters::serve_counters;
+use crate::booths::serve_booths;
 use crate::ends::SessionEnd;
-use crate::rooms::{Room, reserve, seat_all, unseat_all};
+use crate::reserved::{Reserved, reserve, seat_all, unseat_all};
 use auction_file::Auction;
 use clock_book::ClockBook;
 use clock_family::{House, HousePass};
@@ -78,15 +78,15 @@ where
         }
         Ok(room) => room,
     };
-    let Room {
+    let Reserved {
         notes,
-        counters,
+        booths,
         rows,
         logs,
     } = room;
-    let mut counters = seat_all(passes, doors, notes, counters);
-    serve_counters(rt, alloc, auction, &house, &mut counters, sessions);
-    let (passes, doors) = unseat_all(counters, rows, logs);
+    let mut booths = seat_all(passes, doors, notes, booths);
+    serve_booths(rt, alloc, auction, &house, &mut booths, sessions);
+    let (passes, doors) = unseat_all(booths, rows, logs);
     let books = house.close(passes);
     Ok(Served { books, doors })
 }

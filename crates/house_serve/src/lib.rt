@@ -3,13 +3,13 @@
 #![tactic(auto)]
 
 mod answering;
-mod counters;
+mod booths;
 pub mod doors;
 pub mod ends;
 pub mod houses;
 pub mod links;
 mod pieces;
-mod rooms;
+mod reserved;
 pub mod serving;
 
 pub use doors::serve_door;

@@ -4,14 +4,14 @@ use Rattle.std.proofs.Common.{◌≡◌, ◌≤◌, length, vec_len, vec_capacit
 use Rattle.std.proofs.Crossing.{crosses}
 use Rattle.clock_family.proofs.Sending.{house-sync, house_pass-send}
 use Rattle.clock_family.specs.Turns.{AreOf}
-use Rattle.house_serve.proofs.counters.Common.TheSendSync as common
-use Rattle.house_serve.proofs.counters.Counter.TheSendSync as counter
-use Rattle.house_serve.proofs.counters.serve_counters.Goals as goal
+use Rattle.house_serve.proofs.booths.Common.TheSendSync as common
+use Rattle.house_serve.proofs.booths.Booth.TheSendSync as booth
+use Rattle.house_serve.proofs.booths.serve_booths.Goals as goal
 
 pub for_each_mut-requires-send-T : goal.for_each_mut-requires-send-T
 for_each_mut-requires-send-T g c κs within =
     let p = house_pass-send (param 0 g.row.D) g.D.Disk (search sendable) in
-    search (sendable, crosses, counter.the_send) depth 20
+    search (sendable, crosses, booth.the_send) depth 20
 
 pub for_each_mut-requires-sync-F : goal.for_each_mut-requires-sync-F
 for_each_mut-requires-sync-F g c κs within =

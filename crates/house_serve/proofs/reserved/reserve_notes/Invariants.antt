@@ -1,6 +1,6 @@
 use Rattle.std.proofs.Common.{◌≡◌, ◌≤◌, length, vec_len, vec_capacity}
 use Rattle.std.specs.Prelude.{All}
-use Rattle.house_serve.proofs.rooms.reserve_notes.Given as goal
+use Rattle.house_serve.proofs.reserved.reserve_notes.Given as goal
 
 abbrev pub invariant-loop-door : goal.invariant-loop-door
 invariant-loop-door l = record {

@@ -1,20 +1,20 @@
-//! The lists by which passes and doors are brought to their counters and back. They are reserved first, so that serving takes none.
+//! The lists by which passes and doors are brought to their booths and back. They are reserved first, so that serving takes none.
 ghost use Rattle.std.specs.Prelude.{◌≡◌, ◌≤◌, [], All, map, length, vec_len, vec_capacity, IfOk};
-ghost use Rattle.house_serve.specs.Counters.{log_of};
+ghost use Rattle.house_serve.specs.Booths.{log_of};
 
-use crate::counters::Counter;
+use crate::booths::Booth;
 use crate::ends::SessionEnd;
 use crate::houses::DoorLog;
 use lot_base::NoMemory;
 use std::alloc::Global;
 
 /// Lists that are empty, with room for an element of each door.
-pub(crate) struct Room<P, R> {
+pub(crate) struct Reserved<P, R> {
     /// For each door an empty list, with room for the ends of its sessions.
     pub(crate) notes: Vec<Vec<SessionEnd>>,
-    /// For the counters, each with a pass and its door.
-    pub(crate) counters: Vec<Counter<P, R>>,
-    /// For the passes, when they come back from the counters.
+    /// For the booths, each with a pass and its door.
+    pub(crate) booths: Vec<Booth<P, R>>,
+    /// For the passes, when they come back from the booths.
     pub(crate) rows: Vec<P>,
     /// For what became of the doors.
     pub(crate) logs: Vec<DoorLog<R>>,
@@ -25,30 +25,30 @@ pub(crate) fn reserve<P, R>(
     alloc: Global,
     doors: usize,
     sessions: u32,
-) -> Result<Room<P, R>, NoMemory>
+) -> Result<Reserved<P, R>, NoMemory>
     ensures notes { IfOk result (λ r. (length r.notes.items ≡ doors)
         × All (λ e. (length e.items ≡ 0) × (vec_len e ≡ 0) × (sessions ≤ vec_capacity e)) r.notes.items) }
-    ensures empty { IfOk result (λ r. (r.counters.items ≡ []) × (r.rows.items ≡ []) × (r.logs.items ≡ [])) }
-    ensures room { IfOk result (λ r. (vec_capacity r.counters ≡ doors) × (vec_capacity r.rows ≡ doors) × (vec_capacity r.logs ≡ doors)) }
+    ensures empty { IfOk result (λ r. (r.booths.items ≡ []) × (r.rows.items ≡ []) × (r.logs.items ≡ [])) }
+    ensures room { IfOk result (λ r. (vec_capacity r.booths ≡ doors) × (vec_capacity r.rows ≡ doors) × (vec_capacity r.logs ≡ doors)) }
 {
     let Ok(notes) = reserve_notes(alloc, doors, sessions) else {
         return Err(NoMemory);
     };
-    let Ok(counters) = Vec::with_capacity(alloc, doors) else {
+    let Ok(booths) = Vec::with_capacity(alloc, doors) else {
         return Err(NoMemory);
     };
     let Ok(rows) = Vec::with_capacity(alloc, doors) else {
-        counters.destroy_empty();
+        booths.destroy_empty();
         return Err(NoMemory);
     };
     let Ok(logs) = Vec::with_capacity(alloc, doors) else {
         rows.destroy_empty();
-        counters.destroy_empty();
+        booths.destroy_empty();
         return Err(NoMemory);
     };
-    Ok(Room {
+    Ok(Reserved {
         notes,
-        counters,
+        booths,
         rows,
         logs,
     })
@@ -75,16 +75,16 @@ fn reserve_notes(
     Ok(notes)
 }
 
-/// Brings each pass and its door to a counter, in order.
+/// Brings each pass and its door to a booth, in order.
 pub(crate) fn seat_all<P, R>(
     passes: Vec<P>,
     doors: Vec<R>,
     notes: Vec<Vec<SessionEnd>>,
-    counters: Vec<Counter<P, R>>,
-) -> Vec<Counter<P, R>>
+    booths: Vec<Booth<P, R>>,
+) -> Vec<Booth<P, R>>
     requires counts { (length doors.items ≡ length passes.items) × (length notes.items ≡ length passes.items) }
-    requires empty { counters.items ≡ [] }
-    requires room { length passes.items ≤ vec_capacity counters }
+    requires empty { booths.items ≡ [] }
+    requires room { length passes.items ≤ vec_capacity booths }
     ensures passes { map (λ c. c.pass) result.items ≡ passes.items }
     ensures doors { map (λ c. c.door) result.items ≡ doors.items }
     ensures notes { map (λ c. c.ends) result.items ≡ notes.items }
@@ -92,14 +92,14 @@ pub(crate) fn seat_all<P, R>(
     let mut passes = passes;
     let mut doors = doors;
     let mut notes = notes;
-    let mut counters = counters;
+    let mut booths = booths;
     passes.reverse();
     doors.reverse();
     notes.reverse();
     while let Some(pass) = passes.pop() {
         let door = doors.pop().unwrap();
         let ends = notes.pop().unwrap();
-        counters.push_reserved(Counter {
+        booths.push_reserved(Booth {
             pass,
             door,
             ends,
@@ -108,34 +108,34 @@ pub(crate) fn seat_all<P, R>(
     }
     passes.destroy_empty();
     doors.destroy_empty();
-    counters
+    booths
 }
 
-/// Brings the passes back from their counters, and what became of the doors, in order.
+/// Brings the passes back from their booths, and what became of the doors, in order.
 pub(crate) fn unseat_all<P, R>(
-    counters: Vec<Counter<P, R>>,
+    booths: Vec<Booth<P, R>>,
     rows: Vec<P>,
     logs: Vec<DoorLog<R>>,
 ) -> (Vec<P>, Vec<DoorLog<R>>)
     requires empty { (rows.items ≡ []) × (logs.items ≡ []) }
-    requires room { (length counters.items ≤ vec_capacity rows) × (length counters.items ≤ vec_capacity logs) }
-    ensures passes { result.0.items ≡ map (λ c. c.pass) counters.items }
-    ensures logs { result.1.items ≡ map log_of counters.items }
+    requires room { (length booths.items ≤ vec_capacity rows) × (length booths.items ≤ vec_capacity logs) }
+    ensures passes { result.0.items ≡ map (λ c. c.pass) booths.items }
+    ensures logs { result.1.items ≡ map log_of booths.items }
 {
-    let mut counters = counters;
+    let mut booths = booths;
     let mut rows = rows;
     let mut logs = logs;
-    counters.reverse();
-    while let Some(counter) = counters.pop() {
-        let Counter {
+    booths.reverse();
+    while let Some(booth) = booths.pop() {
+        let Booth {
             pass,
             door,
             ends,
             failed,
-        } = counter;
+        } = booth;
         rows.push_reserved(pass);
         logs.push_reserved(DoorLog { door, ends, failed });
     }
-    counters.destroy_empty();
+    booths.destroy_empty();
     (rows, logs)
 }
