@@ -62,7 +62,7 @@ pub fn agree<D: Demands, L: Link>(
         }
         let place = clock as usize;
         let before = known[place];
-        match visit(
+        let after = match visit(
             alloc,
             auction,
             demands,
@@ -74,15 +74,14 @@ pub fn agree<D: Demands, L: Link>(
             link,
             &mut seen.looks,
         ) {
-            Ok(after) => {
-                looked = looked.saturating_add(1);
-                if after.is_new() {
-                    pause.news();
-                }
-                known[place] = after;
-            }
+            Ok(after) => after,
             Err(end) => return Err(end),
+        };
+        looked = looked.saturating_add(1);
+        if after.is_new() {
+            pause.news();
         }
+        known[place] = after;
         from = clock + 1;
     }
     match exchange(alloc, auction, None, &ToHouse::Quit, link) {

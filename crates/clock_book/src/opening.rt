@@ -68,7 +68,7 @@ pub(crate) fn read_into<D: Disk>(
     'reports: loop {
         match reader.next(alloc, disk)? {
             Next::Report(report) => match take(alloc, &mut taken, report, reader.given()) {
-                Ok(()) => {}
+                Ok(()) => continue,
                 Err(fault) => return Err(fault),
             },
             Next::Broken(broken) => return Err(OpenFault::Broken(broken)),

@@ -91,18 +91,20 @@ pub(crate) fn lay_all<D: Disk>(
     rest.reverse();
     for clock in 0..terms.bidders + 1 {
         let disk = rest.pop().unwrap();
-        match lay(alloc, disk, terms, clock, digest, passes) {
-            Ok(stand) => laid.push_reserved(stand),
-            Err(Unopened { disk, fault }) => {
-                rest.push_reserved(disk);
-                let disks = given_back(rest, laid);
-                return Err(NotOpen {
-                    disks,
-                    clock,
-                    fault,
-                });
+        let Unopened { disk, fault } = match lay(alloc, disk, terms, clock, digest, passes) {
+            Ok(stand) => {
+                laid.push_reserved(stand);
+                continue;
             }
-        }
+            Err(unopened) => unopened,
+        };
+        rest.push_reserved(disk);
+        let disks = given_back(rest, laid);
+        return Err(NotOpen {
+            disks,
+            clock,
+            fault,
+        });
     }
     rest.destroy_empty();
     Ok(laid)

@@ -47,16 +47,18 @@ pub(crate) fn open_journals<H: Shelf>(
         });
     };
     for (clock, name) in names.iter().enumerate() {
-        match shelf.disk(alloc, name) {
-            Ok(disk) => disks.push_reserved(disk),
-            Err(refusal) => {
-                close_journals(shelf, &names[..clock], disks);
-                return Err(Unread {
-                    clock: clock as u8,
-                    fault: fault_of(refusal),
-                });
+        let refusal = match shelf.disk(alloc, name) {
+            Ok(disk) => {
+                disks.push_reserved(disk);
+                continue;
             }
-        }
+            Err(refusal) => refusal,
+        };
+        close_journals(shelf, &names[..clock], disks);
+        return Err(Unread {
+            clock: clock as u8,
+            fault: fault_of(refusal),
+        });
     }
     Ok(disks)
 }

@@ -46,15 +46,12 @@ pub(crate) fn read_clocks<H: Shelf>(
             Ok(read) => read,
             Err(fault) => return Err(Unread { clock, fault }),
         };
-        match clocks.push(read) {
-            Ok(()) => {}
-            Err(_) => {
-                return Err(Unread {
-                    clock,
-                    fault: OpenFault::NoMemory,
-                });
-            }
-        }
+        let Ok(()) = clocks.push(read) else {
+            return Err(Unread {
+                clock,
+                fault: OpenFault::NoMemory,
+            });
+        };
     }
     Ok(clocks)
 }

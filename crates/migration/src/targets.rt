@@ -51,17 +51,19 @@ pub(crate) fn open_books<D: Disk>(
     rest.reverse();
     for clock in 0..terms.bidders + 1 {
         let disk = rest.pop().unwrap();
-        match ClockBook::open(alloc, disk, terms, clock, digest) {
-            Ok(book) => books.push_reserved(book),
-            Err(Unopened { disk, fault }) => {
-                rest.push_reserved(disk);
-                let disks = close_books(books, rest);
-                return Err(GivenBack {
-                    disks,
-                    fault: MoveFault::NotOpened { clock, fault },
-                });
+        let Unopened { disk, fault } = match ClockBook::open(alloc, disk, terms, clock, digest) {
+            Ok(book) => {
+                books.push_reserved(book);
+                continue;
             }
-        }
+            Err(unopened) => unopened,
+        };
+        rest.push_reserved(disk);
+        let disks = close_books(books, rest);
+        return Err(GivenBack {
+            disks,
+            fault: MoveFault::NotOpened { clock, fault },
+        });
     }
     Ok(Targets { books, room: rest })
 }

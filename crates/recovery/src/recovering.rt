@@ -45,22 +45,18 @@ pub fn read_reports<D: Disk>(
     let mut reader = Reports::begin(alloc, disk, terms, clock, digest)?;
     let mut reports = Vec::new(alloc);
     'reports: loop {
-        match reader.next(alloc, disk)? {
-            Next::Report(report) => reports.push(report)?,
-            Next::Broken(broken) => {
-                return Ok(Recovered {
-                    scan: reader.into_scan(),
-                    reports,
-                    broken: Some(broken),
-                });
+        let broken = match reader.next(alloc, disk)? {
+            Next::Report(report) => {
+                reports.push(report)?;
+                continue;
             }
-            Next::End => {
-                return Ok(Recovered {
-                    scan: reader.into_scan(),
-                    reports,
-                    broken: None,
-                });
-            }
-        }
+            Next::Broken(broken) => Some(broken),
+            Next::End => None,
+        };
+        return Ok(Recovered {
+            scan: reader.into_scan(),
+            reports,
+            broken,
+        });
     }
 }

@@ -143,21 +143,19 @@ fn read_pieces<R: Source>(
     let mut held = 0;
     'pulls: while so_far <= LIMIT {
         let room = (LIMIT - so_far).min(PIECE as u64 - 1) as usize + 1;
-        match pull_behind(source, buffer, held, room) {
+        let count = match pull_behind(source, buffer, held, room) {
             Err(Failed) => return Err(LogFault::Failed),
             Ok(0) => return reader.finish(so_far, held),
-            Ok(count) => {
-                let end = held + count;
-                so_far += count as u64;
-                match reader.take(alloc, terms, &buffer[..end], so_far) {
-                    Err(NoMemory) => return Err(LogFault::NoMemory),
-                    Ok(left) => {
-                        keep_end(buffer, end, left);
-                        held = left;
-                    }
-                }
-            }
-        }
+            Ok(count) => count,
+        };
+        let end = held + count;
+        so_far += count as u64;
+        let left = match reader.take(alloc, terms, &buffer[..end], so_far) {
+            Err(NoMemory) => return Err(LogFault::NoMemory),
+            Ok(left) => left,
+        };
+        keep_end(buffer, end, left);
+        held = left;
     }
     Err(LogFault::TooLong)
 }

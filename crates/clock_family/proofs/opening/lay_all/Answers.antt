@@ -4,14 +4,14 @@ use Rattle.clock_family.proofs.Places.{taken-next, laid-more, not-open}
 use Rattle.clock_family.proofs.Openings.{laid-unused}
 use Rattle.clock_family.proofs.opening.lay_all.Goals as goal
 
-pub returns-in-Err-clause-err : goal.returns-in-Err-clause-err
-returns-in-Err-clause-err g c =
+pub returns-in-loop-clock-clause-err : goal.returns-in-loop-clock-clause-err
+returns-in-loop-clock-clause-err g c =
     let i = c.loop-clock.invariant in
     let is : c.loop-clock.rest.items ≡ c.pop.new.self.items ++ c.unwrap-disk.result ∷ [] = search rules in
     let next = taken-next c.args.disks.items c.loop-clock.rest.items c.pop.new.self.items c.loop-clock.clock c.unwrap-disk.result is i.rest in
     let back = c.given_back-disks.ensures in
-    not-open g.D.Disk.shown c.args.terms.now c.args.digest.now c.args.passes c.args.disks.items c.pop.new.self.items back.0 c.given_back-disks.result.items c.loop-clock.laid.items c.loop-clock.clock c.unwrap-disk.result c.in-Err.field-0.disk c.in-Err.field-0.fault
-    i.are i.count next c.in-Err.ensures.err back.1 (back.2 ∙ ap (λ l. back.0 ++ reverse l) c.push_reserved-in-Err.ensures.items)
+    not-open g.D.Disk.shown c.args.terms.now c.args.digest.now c.args.passes c.args.disks.items c.pop.new.self.items back.0 c.given_back-disks.result.items c.loop-clock.laid.items c.loop-clock.clock c.unwrap-disk.result c.in-Err.unopened.disk c.in-Err.unopened.fault
+    i.are i.count next c.in-Err.ensures.err back.1 (back.2 ∙ ap (λ l. back.0 ++ reverse l) c.push_reserved-in-loop-clock.ensures.items)
 
 pub loop-clock-preserved : goal.loop-clock-preserved
 loop-clock-preserved g c =

@@ -16,8 +16,8 @@ close_journals-requires-clause-opened g c κs within =
     opened-front c.args.names.now c.loop-clock.clock (g.H.Shelf.opened c.disk.new.self) (omega arith)
     (λ j name below. c.disk.ensures.opening.kept (string_bytes (get_or c.args.names.now j name)) (c.loop-clock.invariant.opening.opened j name below))
 
-pub returns-in-Err-clause-refused : goal.returns-in-Err-clause-refused
-returns-in-Err-clause-refused g c = λ journals are.
+pub returns-in-loop-clock-clause-refused : goal.returns-in-loop-clock-clause-refused
+returns-in-loop-clock-clause-refused g c = λ journals are.
     let names = c.args.names.now in
     let clock = c.loop-clock.clock in
     let below : clock < length names = c.loop-clock-test.true in

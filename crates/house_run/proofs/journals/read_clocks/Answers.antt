@@ -15,8 +15,8 @@ returns-in-Err-clause-synced g c =
     let whole = shelf_seen g.H.Shelf c.args.shelf.now c.read_journal.new.shelf in
     tried c.args.journals.now c.clocks.clock (c.args.terms.now.bidders + 1) whole (g.H.Shelf.files c.clocks.shelf) (g.H.Shelf.faults c.clocks.shelf) (g.H.Shelf.opened c.clocks.shelf) (let t = c.clocks-test.true in omega arith) (let t = c.clocks-test.true in let b = c.args.terms.now.bidders_in_range.at_most in omega arith) c.clocks.invariant.done.files c.clocks.invariant.done.names c.read_journal.ensures.step
 
-pub returns-in-Err-push-clause-synced : goal.returns-in-Err-push-clause-synced
-returns-in-Err-push-clause-synced g c =
+pub returns-in_default-clause-synced : goal.returns-in_default-clause-synced
+returns-in_default-clause-synced g c =
     let whole = shelf_seen g.H.Shelf c.args.shelf.now c.read_journal.new.shelf in
     tried c.args.journals.now c.clocks.clock (c.args.terms.now.bidders + 1) whole (g.H.Shelf.files c.clocks.shelf) (g.H.Shelf.faults c.clocks.shelf) (g.H.Shelf.opened c.clocks.shelf) (let t = c.clocks-test.true in omega arith) (let t = c.clocks-test.true in let b = c.args.terms.now.bidders_in_range.at_most in omega arith) c.clocks.invariant.done.files c.clocks.invariant.done.names c.read_journal.ensures.step
 

@@ -16,16 +16,16 @@ close_books-disks-requires g c =
     let i = c.loop-clock.invariant in
     let is : c.loop-clock.rest.items ≡ c.pop.new.self.items ++ c.unwrap-disk.result ∷ [] = search rules in
     let all = length-append c.pop.new.self.items (c.unwrap-disk.result ∷ []) in
-    let back = length-append c.pop.new.self.items (c.in-Err.field-0.disk ∷ []) in
-    omega (arith, i.room, i.count, ap length i.rest, length-reverse c.loop-clock.rest.items, length-drop c.loop-clock.clock c.args.disks.items, c.loop-clock-test.true, c.requires, ap length is, all, back, ap length c.push_reserved-in-Err.ensures.items, c.pop.ensures.capacity, c.push_reserved-in-Err.ensures.capacity)
+    let back = length-append c.pop.new.self.items (c.in-Err.unopened.disk ∷ []) in
+    omega (arith, i.room, i.count, ap length i.rest, length-reverse c.loop-clock.rest.items, length-drop c.loop-clock.clock c.args.disks.items, c.loop-clock-test.true, c.requires, ap length is, all, back, ap length c.push_reserved-in-loop-clock.ensures.items, c.pop.ensures.capacity, c.push_reserved-in-loop-clock.ensures.capacity)
 
-pub returns-in-Err-clause-err : goal.returns-in-Err-clause-err
-returns-in-Err-clause-err g c =
+pub returns-in-loop-clock-clause-err : goal.returns-in-loop-clock-clause-err
+returns-in-loop-clock-clause-err g c =
     let i = c.loop-clock.invariant in
     let is : c.loop-clock.rest.items ≡ c.pop.new.self.items ++ c.unwrap-disk.result ∷ [] = search rules in
     let next = taken-next c.args.disks.items c.loop-clock.rest.items c.pop.new.self.items c.loop-clock.clock c.unwrap-disk.result is i.rest in
-    not-opened g.D.Disk.shown c.args.terms.now c.args.digest.now c.args.disks.items c.pop.new.self.items c.loop-clock.books.items c.loop-clock.clock c.unwrap-disk.result c.in-Err.field-0.disk c.in-Err.field-0.fault
-    i.are i.count next c.in-Err.ensures.err c.close_books-disks.result.items (c.close_books-disks.ensures ∙ ap (λ l. disks_of c.loop-clock.books.items ++ reverse l) c.push_reserved-in-Err.ensures.items)
+    not-opened g.D.Disk.shown c.args.terms.now c.args.digest.now c.args.disks.items c.pop.new.self.items c.loop-clock.books.items c.loop-clock.clock c.unwrap-disk.result c.in-Err.unopened.disk c.in-Err.unopened.fault
+    i.are i.count next c.in-Err.ensures.err c.close_books-disks.result.items (c.close_books-disks.ensures ∙ ap (λ l. disks_of c.loop-clock.books.items ++ reverse l) c.push_reserved-in-loop-clock.ensures.items)
 
 pub loop-clock-preserved : goal.loop-clock-preserved
 loop-clock-preserved g c =
