@@ -883,14 +883,13 @@ fn the_last_clock_is_open_and_halts(rt: HostRuntime) -> Result<(), Fail> {
 
 /// Whether the clock of all, of this supply and for two bidders, has a row where it is told so.
 fn has_row(
-    rt: &impl Abort,
     alloc: Global,
     supply: &[u16],
     ceiling: u32,
     reports: &[(u8, u32, &[u16])],
 ) -> Result<bool, Fail> {
     let terms = terms_of(supply, 2, ceiling)?;
-    let clock = listed(rt, alloc, &terms, 0, reports)?;
+    let clock = reported_clocks::clock_of(alloc, &terms, 0, reports)?;
     Ok(row_of(alloc, &terms, &clock)?.is_some())
 }
 
@@ -914,7 +913,7 @@ fn clocks_that_ended_with_a_choice_have_a_row(rt: HostRuntime) -> Result<(), Fai
             true,
         ),
     ] {
-        let found = has_row(&rt, rt.alloc(), supply, ceiling, reports)?;
+        let found = has_row(rt.alloc(), supply, ceiling, reports)?;
         assert_eq!(rt; found, has, "{story}");
     }
     Ok(())
