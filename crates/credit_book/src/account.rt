@@ -87,7 +87,7 @@ fn add_least(sums: &mut [u64; 13], tables: &[Option<LeastTable>; 13], set: u8)
     }
 }
 
-fn least_on(table: &Option<LeastTable>, set: u8) -> u32
+fn least_on(table: &Option<LeastTable>, set: u8) -> u16
     requires { set < 64 }
     ensures { result ≡ least_in table.now set }
 {

@@ -4,8 +4,8 @@ use lot_base::{Bundle, GoodSet, Goods, LeastTable, Prices};
 use std::test::Fail;
 
 /// The table of a bidder who demands at least so much of the one good.
-fn least(units: u32) -> Option<LeastTable> {
-    let mut cells = [0u32; 64];
+fn least(units: u16) -> Option<LeastTable> {
+    let mut cells = [0u16; 64];
     cells[1] = units;
     Some(LeastTable(cells))
 }

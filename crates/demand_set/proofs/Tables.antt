@@ -66,16 +66,16 @@ greatest-all (x ∷ all) set some =
     let m : max 0 (quantity_in x set) ≡ quantity_in x set = omega arith in
     ap (λ a. fold (λ b y. max b (quantity_in y set)) a all) m
 
-pub least-done : (goods : ℕ) (all : List (List ℕ)) (count : ℕ) (rest table wide : List ℕ) → count ≡ 0 → 1 ≤ length all → AllByRecursion IsShort all → CopiesSets goods table wide
-    → IsFolding min goods 65535 all (groups count goods rest) table → IsTable goods (least all) wide
-least-done goods all count rest table wide none some short copies folding = record {
+pub least-done : (goods : ℕ) (all : List (List ℕ)) (count : ℕ) (rest table copy : List ℕ) → count ≡ 0 → 1 ≤ length all → AllByRecursion IsShort all → CopiesSets goods table copy
+    → IsFolding min goods 65535 all (groups count goods rest) table → IsTable goods (least all) copy
+least-done goods all count rest table copy none some short copies folding = record {
   entries = λ set below. copies.entries set below ∙ ended min goods 65535 all count rest table none folding set below ∙ least-all all set some short;
   others = copies.others;
 }
 
-pub greatest-done : (goods : ℕ) (all : List (List ℕ)) (count : ℕ) (rest table wide : List ℕ) → count ≡ 0 → 1 ≤ length all → CopiesSets goods table wide
-    → IsFolding max goods 0 all (groups count goods rest) table → IsTable goods (greatest all) wide
-greatest-done goods all count rest table wide none some copies folding = record {
+pub greatest-done : (goods : ℕ) (all : List (List ℕ)) (count : ℕ) (rest table copy : List ℕ) → count ≡ 0 → 1 ≤ length all → CopiesSets goods table copy
+    → IsFolding max goods 0 all (groups count goods rest) table → IsTable goods (greatest all) copy
+greatest-done goods all count rest table copy none some copies folding = record {
   entries = λ set below. copies.entries set below ∙ ended max goods 0 all count rest table none folding set below ∙ greatest-all all set some;
   others = copies.others;
 }

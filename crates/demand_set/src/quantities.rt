@@ -37,7 +37,7 @@ impl Demand {
 }
 
 /// Writes the least quantity on each set of so many goods where zeros stand.
-fn least_of(quantities: &[u16], goods: u8, into: &mut [u32; 64])
+fn least_of(quantities: &[u16], goods: u8, into: &mut [u16; 64])
     requires some_good { 1 ≤ goods }
     requires few_goods { goods ≤ 6 }
     requires some { 1 ≤ length (bundles_of goods quantities.now) }
@@ -56,11 +56,11 @@ fn least_of(quantities: &[u16], goods: u8, into: &mut [u32; 64])
         keep_least(&mut table, rows, &halves);
         rest = others;
     }
-    widen(&table, goods, into);
+    copy_sets(&table, goods, into);
 }
 
 /// Writes the greatest quantity on each set of so many goods where zeros stand.
-fn greatest_of(quantities: &[u16], goods: u8, into: &mut [u32; 64])
+fn greatest_of(quantities: &[u16], goods: u8, into: &mut [u16; 64])
     requires some_good { 1 ≤ goods }
     requires few_goods { goods ≤ 6 }
     requires some { 1 ≤ length (bundles_of goods quantities.now) }
@@ -79,7 +79,7 @@ fn greatest_of(quantities: &[u16], goods: u8, into: &mut [u32; 64])
         keep_greatest(&mut table, rows, &halves);
         rest = others;
     }
-    widen(&table, goods, into);
+    copy_sets(&table, goods, into);
 }
 
 /// How many rows of eight sets so many goods have: one for each set of the goods from 3 on.
@@ -179,13 +179,13 @@ fn keep_greatest_row(table: &mut [u16; 64], row: usize, sums: &[u16; 8], more: u
 }
 
 /// Writes the numbers of the sets of so many goods where zeros stand.
-fn widen(table: &[u16; 64], goods: u8, wide: &mut [u32; 64])
+fn copy_sets(table: &[u16; 64], goods: u8, into: &mut [u16; 64])
     requires few { goods ≤ 6 }
-    requires blank { (set : ℕ) → slice_index wide.old set ≡ 0 }
-    ensures { CopiesSets goods table.now wide.new }
+    requires blank { (set : ℕ) → slice_index into.old set ≡ 0 }
+    ensures { CopiesSets goods table.now into.new }
 {
     for set in 0..sets_of(goods) {
-        wide[set] = table[set] as u32;
+        into[set] = table[set];
     }
 }
 

@@ -6,6 +6,7 @@
 
 ghost use Rattle.std.specs.Prelude.{◌≡◌, ◌≤◌, ◌<◌, ◌+◌, ◌^◌, ℕ, [], List, length, slice_index, pos, ◌-ℤ◌};
 ghost use Rattle.std.specs.List.{AllByRecursion};
+ghost use Rattle.lot_base.specs.declared.limits.TheConstants.{MOST_UNITS};
 ghost use Rattle.lot_base.specs.Goods.{quantity_in};
 ghost use Rattle.lyapunov.specs.Excesses.{IsExcessOf, IsAdded, IsSmall, HasRoom};
 
@@ -27,10 +28,10 @@ pub fn opening(goods: &Goods) -> Excess
 }
 
 /// The units of each set of goods. The sets with a good are those of the goods before it, with its supply more.
-fn units_of(goods: &Goods) -> [u32; 64]
+fn units_of(goods: &Goods) -> [u16; 64]
     ensures { (set : ℕ) → set < 2 ^ length goods.now → slice_index result set ≡ quantity_in goods.now set }
 {
-    let mut units = [0u32; 64];
+    let mut units = [0u16; 64];
     let mut sets = 1;
     for good in 0..goods.count() {
         add_good(&mut units, sets, goods.supply(good));
@@ -40,22 +41,23 @@ fn units_of(goods: &Goods) -> [u32; 64]
 }
 
 /// Fills in as many sets again as there are, each with so many units more.
-fn add_good(units: &mut [u32; 64], sets: usize, more: u16)
+fn add_good(units: &mut [u16; 64], sets: usize, more: u16)
     requires few { sets ≤ 32 }
-    requires small { (set : ℕ) → set < sets → slice_index units.old set + more < 2 ^ 32 }
+    requires small { (set : ℕ) → set < sets → slice_index units.old set + more < 2 ^ 16 }
     ensures before { (set : ℕ) → set < sets → slice_index units.new set ≡ slice_index units.old set }
     ensures more { (set : ℕ) → set < sets → slice_index units.new (sets + set) ≡ slice_index units.old set + more }
 {
     for set in 0..sets {
-        units[sets + set] = units[set] + more as u32;
+        units[sets + set] = units[set] + more;
     }
 }
 
 /// The excess of a set of which nobody demands anything.
-fn lack_of(units: u32) -> i64
+fn lack_of(units: u16) -> i16
+    requires { units ≤ MOST_UNITS }
     ensures { result ≡ pos 0 -ℤ pos units }
 {
-    -(units as i64)
+    -(units as i16)
 }
 
 /// Adds the least quantities of a further bidder.
@@ -65,7 +67,7 @@ pub fn add_table(goods: &Goods, excess: &mut Excess, table: &LeastTable)
     ensures { IsAdded goods.now table.now.0 excess.old.0 excess.new.0 }
 {
     for set in 0..goods.set_count() as usize {
-        excess.0[set] += table.0[set] as i64;
+        excess.0[set] += table.0[set] as i16;
     }
 }
 

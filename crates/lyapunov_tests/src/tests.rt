@@ -13,9 +13,9 @@ fn table(first: u16, second: u16, both: u16) -> LeastTable
     ensures { IsSmall result.0 }
 {
     let mut table = LeastTable([0; 64]);
-    table.0[1] = first as u32;
-    table.0[2] = second as u32;
-    table.0[3] = both as u32;
+    table.0[1] = first;
+    table.0[2] = second;
+    table.0[3] = both;
     table
 }
 

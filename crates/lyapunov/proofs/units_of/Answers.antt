@@ -1,5 +1,5 @@
-use Rattle.std.proofs.Common.{◌≡◌, refl, sym, arith}
-use Rattle.lyapunov.proofs.Doubling.{units-none, sets-twice, sets-few, units-next}
+use Rattle.std.proofs.Common.{◌≡◌, ◌+◌, ◌^◌, refl, sym, arith}
+use Rattle.lyapunov.proofs.Doubling.{units-none, units-more, sets-twice, sets-few, units-next}
 use Rattle.lyapunov.proofs.Entries.{quantity_in-box}
 use Rattle.lyapunov.proofs.units_of.Goals as goal
 
@@ -13,11 +13,11 @@ add_good-requires-clause-few c =
 
 pub add_good-requires-clause-small : goal.add_good-requires-clause-small
 add_good-requires-clause-small c = λ set below.
-    let units = quantity_in-box c.args.goods.now set in
+    let more = units-more c.args.goods.now c.loop-good.good set (omega (arith, c.count-good-end.ensures.length, c.loop-good-test.true)) (omega (arith, below, c.loop-good.invariant.sets)) in
+    let units = quantity_in-box c.args.goods.now (2 ^ c.loop-good.good + set) in
     let small = c.count-good-end.ensures.supply.small in
     let is = c.loop-good.invariant.units set below in
-    let more = c.supply.type_inv in
-    omega (arith, units, small, is, more)
+    omega (arith, more, units, small, is, c.supply.ensures)
 
 pub loop-good-preserved : goal.loop-good-preserved
 loop-good-preserved c = record {

@@ -35,4 +35,4 @@ loop-place-preserved c =
 pub returns : goal.returns
 returns c =
     let none : length c.args.quantities.now / c.args.goods - c.loop-place._place ≡ 0 = omega (arith, c.loop-place-test.false) in
-    least-done c.args.goods (bundles_of c.args.goods c.args.quantities.now) _ c.loop-place.rest.now c.loop-place.table c.widen.new.wide none c.requires.some c.requires.short c.widen.ensures c.loop-place.invariant.folding
+    least-done c.args.goods (bundles_of c.args.goods c.args.quantities.now) _ c.loop-place.rest.now c.loop-place.table c.copy_sets.new.into none c.requires.some c.requires.short c.copy_sets.ensures c.loop-place.invariant.folding
