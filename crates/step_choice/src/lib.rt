@@ -1,8 +1,8 @@
 //! The set of goods on which a round of demands raises the prices.
 #![tactic(auto)]
 
-ghost use Rattle.std.specs.Prelude.{◌≡◌, ◌<◌, length};
-ghost use Rattle.std.specs.Ordering.{is_lt};
+ghost use Rattle.std.specs.Prelude.{◌≡◌, ◌<◌, ◌^◌, ℕ, length};
+ghost use Rattle.std.specs.Ordering.{is_lt, nat_cmp, ordering_then};
 ghost use Rattle.lot_base.specs.Goods.{size_of};
 ghost use Rattle.lot_base.specs.Steps.{IsStepSet, first_set, set_cmp};
 ghost use Rattle.step_choice.specs.Table.{excess_in};
@@ -27,41 +27,33 @@ pub fn choose(goods: &Goods, excess: &Excess) -> GoodSet
     GoodSet(best)
 }
 
-/// Whether a set comes before another one as a step.
+/// Whether a set comes before another one as a step. Their sizes are counted only where the excess is the same.
 fn comes_before(goods: &Goods, excess: &Excess, set: u8, other: u8) -> bool
-    requires set { set < 64 }
-    requires other { other < 64 }
+    requires set { set < 2 ^ length goods.now }
+    requires other { other < 2 ^ length goods.now }
     ensures { result ≡ is_lt (set_cmp (excess_in excess.now.0) (length goods.now) set other) }
 {
-    if excess.0[set as usize] < excess.0[other as usize] {
-        return false;
+    let _sets = goods.set_count();
+    match excess.0[other as usize].cmp(&excess.0[set as usize]) {
+        Ordering::Less => true,
+        Ordering::Greater => false,
+        Ordering::Equal => is_less(set, other),
     }
-    compare_sets(goods, excess, set, other).is_lt()
 }
 
-/// The order of sets as steps.
-fn compare_sets(goods: &Goods, excess: &Excess, set: u8, other: u8) -> Ordering
-    requires set { set < 64 }
-    requires other { other < 64 }
-    ensures { result ≡ set_cmp (excess_in excess.now.0) (length goods.now) set other }
+/// Whether a set has fewer goods than another one, or as many and is smaller as a number.
+fn is_less(set: u8, other: u8) -> bool
+    ensures { (goods : ℕ) → set < 2 ^ goods → other < 2 ^ goods →
+        result ≡ is_lt (ordering_then (nat_cmp (size_of goods set) (size_of goods other)) (nat_cmp set other)) }
 {
-    excess.0[other as usize]
-        .cmp(&excess.0[set as usize])
-        .then(size(goods.count(), set).cmp(&size(goods.count(), other)))
-        .then(set.cmp(&other))
+    size(set).cmp(&size(other)).then(set.cmp(&other)).is_lt()
 }
 
-/// How many of the first so many goods the set has.
-fn size(goods: u8, set: u8) -> u8
-    ensures { result ≡ size_of goods set }
+/// How many goods the set has.
+fn size(set: u8) -> u8
+    ensures { (goods : ℕ) → set < 2 ^ goods → result ≡ size_of goods set }
 {
-    let mut count = 0;
-    let mut rest = set;
-    for _ in 0..goods {
-        count += rest % 2;
-        rest /= 2;
-    }
-    count
+    set.count_ones() as u8
 }
 
 #[cfg(test)]

@@ -5,10 +5,10 @@ use lot_base::{Excess, GoodSet, Goods};
 use std::test::Fail;
 
 /// A table of these entries, and zeros after them.
-fn table(entries: &[i64]) -> Excess
+fn table(entries: &[i16]) -> Excess
     requires { length entries.now ≤ 64 }
 {
-    let mut cells = [0i64; 64];
+    let mut cells = [0i16; 64];
     cells[..entries.len()].copy_from_slice(entries);
     Excess(cells)
 }
