@@ -1,5 +1,6 @@
 //! What no clause says: the texts, where there is memory. Each names the file, the folder or the address of its words.
 use advice::advice;
+use expected_values::equal_in;
 use house_run::Ended;
 use std::alloc::Global;
 use std::process::Abort;
@@ -60,7 +61,7 @@ fn check_names(
     for ended in ends {
         let text = told(rt.alloc(), words, ended)?;
         assert!(rt; text.as_str().starts_with(name), "{ended:?} {text}");
-        assert_eq!(rt; text.as_str().lines().count(), 2, "{ended:?} {text}");
+        equal_in((ended, text.as_str()), text.as_str().lines().count(), 2)?;
         assert!(rt; !text.as_str().contains("reed-5102"), "{ended:?} {text}");
     }
     Ok(())
@@ -74,6 +75,6 @@ fn check_text(
     lines: &str,
 ) -> Result<(), Fail> {
     let text = told(rt.alloc(), words, ended)?;
-    assert_eq!(rt; text.as_str(), lines, "{ended:?}");
+    equal_in(ended, text.as_str(), lines)?;
     Ok(())
 }

@@ -5,6 +5,7 @@ ghost use Rattle.lot_base.specs.Demands.{IsDemand};
 
 use award_assembly::{Assembly, Choice, assemble};
 use demand_set::{Demand, DemandFault};
+use expected_values::{equal, equal_in};
 use lot_base::{Bundle, Goods, Prices, RawDemand, Sequence, compare};
 use std::alloc::Global;
 use std::cmp::Ordering;
@@ -59,10 +60,10 @@ fn choice_of(
     let goods = Goods::new(supply)?;
     let opening = Prices::read(opening).ok_or("opening")?;
     let prices = Prices::read(prices).ok_or("prices")?;
-    assert_eq!(rt;
+    equal(
         (opening.count(), prices.count()),
-        (goods.count(), goods.count())
-    );
+        (goods.count(), goods.count()),
+    )?;
     let first = read(rt, alloc, &goods, demands[0])?;
     let second = read(rt, alloc, &goods, demands[1])?;
     match assemble(alloc, &goods, &opening, &prices, &[first, second])? {
@@ -93,7 +94,7 @@ fn awards_the_first_choice_that_clears(rt: HostRuntime) -> Result<(), Fail> {
         let choice = choice_of(&rt, rt.alloc(), &supply, &opening, &price, demands)?.ok_or(
             "no choice",
         )?;
-        assert_eq!(rt; choice.len(), 2);
+        equal(choice.len(), 2)?;
         assert!(rt; is_bundle(&choice.get(0), &first)?, "at {price:?}");
         assert!(rt; is_bundle(&choice.get(1), &second)?, "at {price:?}");
     }
@@ -112,7 +113,7 @@ fn second_gets(
     let opening = vec![in alloc; 0; supply.len()]?;
     let choice = choice_of(rt, alloc, supply, &opening, prices, demands)?.ok_or("no choice")?;
     let bundles = choice.into_vec();
-    assert_eq!(rt; bundles.len(), 2);
+    equal(bundles.len(), 2)?;
     Ok(is_bundle(&bundles[0], demands[0])? && is_bundle(&bundles[1], wanted)?)
 }
 
@@ -185,12 +186,12 @@ fn shares_a_large_supply_among_twelve(rt: HostRuntime) -> Result<(), Fail> {
     let alloc = rt.alloc();
     let goods = Goods::new(&[2047])?;
     let prices = Prices::read(&[1]).ok_or("prices")?;
-    assert_eq!(rt; prices.count(), goods.count());
+    equal(prices.count(), goods.count())?;
     let demands = twelve(&rt, alloc, &goods, &[170, 177])?;
     match assemble(alloc, &goods, &Prices::zero(&goods), &prices, &demands)? {
         Assembly::NoChoice => panic!(&rt; "no choice"),
         Assembly::Award(choice) => {
-            assert_eq!(rt; choice.len(), 12);
+            equal(choice.len(), 12)?;
             for place in 0..11 {
                 assert!(rt; is_bundle(&choice.get(place), &[170])?, "for {place}");
             }
@@ -219,17 +220,17 @@ fn share_of_the_last(
 ) -> Result<Option<u16>, Fail> {
     let goods = Goods::new(&[2047])?;
     let prices = Prices::read(&[1]).ok_or("prices")?;
-    assert_eq!(rt; prices.count(), goods.count());
+    equal(prices.count(), goods.count())?;
     let demands = twelve(rt, alloc, &goods, quantities)?;
     match assemble(alloc, &goods, &Prices::zero(&goods), &prices, &demands)? {
         Assembly::NoChoice => Ok(None),
         Assembly::Award(choice) => {
-            assert_eq!(rt; choice.len(), 12);
+            equal(choice.len(), 12)?;
             for place in 0..11 {
                 assert!(rt; is_bundle(&choice.get(place), &[0])?, "for {place}");
             }
             let last = choice.get(11);
-            assert_eq!(rt; last.count(), 1);
+            equal(last.count(), 1)?;
             Ok(Some(last.quantity(0)))
         }
     }
@@ -239,11 +240,11 @@ fn share_of_the_last(
 fn searches_full_and_even_demands(rt: HostRuntime) -> Result<(), Fail> {
     for (step, share) in [(1, Some(2047)), (2, None)] {
         let quantities = multiples(rt.alloc(), step)?;
-        assert_eq!(rt;
+        equal_in(
+            step,
             share_of_the_last(&rt, rt.alloc(), &quantities)?,
             share,
-            "in steps of {step}"
-        );
+        )?;
     }
     Ok(())
 }
@@ -258,9 +259,9 @@ fn clears_without_demands_where_no_price_has_risen(rt: HostRuntime) -> Result<()
         ([3, 4], [3, 5], false),
     ] {
         let opening = Prices::read(&opening).ok_or("opening")?;
-        assert_eq!(rt; opening.count(), goods.count());
+        equal(opening.count(), goods.count())?;
         let prices = Prices::read(&prices).ok_or("prices")?;
-        assert_eq!(rt; prices.count(), goods.count());
+        equal(prices.count(), goods.count())?;
         match assemble(rt.alloc(), &goods, &opening, &prices, &[])? {
             Assembly::Award(choice) => assert!(rt; clears && choice.len() == 0),
             Assembly::NoChoice => assert!(rt; !clears),

@@ -5,10 +5,12 @@ ghost use Rattle.lot_base.specs.Demands.{IsDemand};
 use clock::{Judgement, Offered};
 use clock_book::{ClockBook, OpenFault, Unopened};
 use demand_set::Demand;
+use expected_values::{equal, equal_in};
 use house_io::{Disk, Fill, ListDisk};
 use lot_base::{Goods, Prices, Terms};
 use report_journal::{Hint, LONGEST_HINT};
 use std::alloc::Global;
+use std::test::Fail;
 
 /// The digest of the auction.
 const DIGEST: [u8; 32] = [7; 32];
@@ -354,14 +356,15 @@ const TOLD: &[Step] = &[
 ];
 
 #[test]
-fn repeats_conflicts_and_late_reports_are_told(rt: HostRuntime) {
+fn repeats_conflicts_and_late_reports_are_told(rt: HostRuntime) -> Result<(), Fail> {
     let again = [Step::Counts(4), Step::Stands(2)];
     let found = others(rt.alloc(), NEVER, TOLD, &again);
-    assert_eq!(rt; found, (None, None));
+    equal(found, (None, None))?;
+    Ok(())
 }
 
 #[test]
-fn a_report_in_doubt_is_counted_or_dropped(rt: HostRuntime) {
+fn a_report_in_doubt_is_counted_or_dropped(rt: HostRuntime) -> Result<(), Fail> {
     // The call that fails, the last sync or the first write of an append, and what the second offer is answered.
     for (failing, second) in [
         (OPENING + APPEND, Offered::Again),
@@ -374,8 +377,9 @@ fn a_report_in_doubt_is_counted_or_dropped(rt: HostRuntime) {
             Step::Counts(2),
         ];
         let found = others(rt.alloc(), once(failing), &steps, &[Step::Counts(1)]);
-        assert_eq!(rt; found, (None, None), "call {failing}");
+        equal_in(failing, found, (None, None))?;
     }
+    Ok(())
 }
 
 /// The file of a journal of version 1 of clock 0 with one report.
@@ -411,16 +415,17 @@ fn length_and_byte(file: Option<Vec<u8>>, place: usize) -> (usize, Option<u8>) {
 }
 
 #[test]
-fn an_unformed_file_is_formed_in_the_version_of_the_terms(rt: HostRuntime) {
+fn an_unformed_file_is_formed_in_the_version_of_the_terms(rt: HostRuntime) -> Result<(), Fail> {
     let alloc = rt.alloc();
     let empty = file_behind(alloc, plain_terms(), NO_STEPS);
-    assert_eq!(rt; length_and_byte(empty, 0).0, 42);
+    equal(length_and_byte(empty, 0).0, 42)?;
     let one = file_behind(alloc, plain_terms(), ONE_STEP);
     assert!(rt; has_bytes(one, &ONE_REPORT));
     let priced = file_behind(alloc, priced_terms(), NO_STEPS);
-    assert_eq!(rt; length_and_byte(priced, 0).0, 48);
+    equal(length_and_byte(priced, 0).0, 48)?;
     let one = file_behind(alloc, priced_terms(), ONE_STEP);
-    assert_eq!(rt; length_and_byte(one, 47), (63, Some(OPEN)));
+    equal(length_and_byte(one, 47), (63, Some(OPEN)))?;
+    Ok(())
 }
 
 /// Why no book is opened on a file of whose disk the claim fails, and whether that disk is not claimed then and has the file.
@@ -439,11 +444,12 @@ fn unclaimed(alloc: Global, file: &[u8]) -> Option<(OpenFault, bool, bool)> {
 }
 
 #[test]
-fn no_book_is_opened_on_a_disk_whose_claim_fails(rt: HostRuntime) {
-    assert_eq!(rt;
+fn no_book_is_opened_on_a_disk_whose_claim_fails(rt: HostRuntime) -> Result<(), Fail> {
+    equal(
         unclaimed(rt.alloc(), &ONE_REPORT),
-        Some((OpenFault::DiskFault, true, true))
-    );
+        Some((OpenFault::DiskFault, true, true)),
+    )?;
+    Ok(())
 }
 
 /// The four reports that are to be taken.
@@ -551,7 +557,7 @@ fn taken_until(alloc: Global, first: u64) -> Option<u64> {
 }
 
 #[test]
-fn each_crash_behind_a_stop_leaves_what_was_taken(rt: HostRuntime) {
+fn each_crash_behind_a_stop_leaves_what_was_taken(rt: HostRuntime) -> Result<(), Fail> {
     // The first call that no run makes.
     let end = OPENING + 4 * APPEND + 1;
     for first in OPENING + 1..=end {
@@ -560,8 +566,9 @@ fn each_crash_behind_a_stop_leaves_what_was_taken(rt: HostRuntime) {
             assert!(rt; kept, "call {first} {fill:?}");
         }
     }
-    assert_eq!(rt; taken_until(rt.alloc(), end - 1), Some(3));
-    assert_eq!(rt; taken_until(rt.alloc(), end), Some(4));
+    equal(taken_until(rt.alloc(), end - 1), Some(3))?;
+    equal(taken_until(rt.alloc(), end), Some(4))?;
+    Ok(())
 }
 
 /// Whether both bidders' reports of so many rounds are taken, each of both units, so that the price rises.
@@ -604,10 +611,11 @@ const NEXT: [u8; 10] = [2, 0, 0, 0, 141, 1, 0, 1, 0, 2];
 const LAID: [u8; 16] = [0, 0, 0, 0, 10, 2, 0, 0, 0, 141, 1, 0, 1, 0, 2, 0];
 
 #[test]
-fn a_hint_is_handed_on_to_the_journal(rt: HostRuntime) {
+fn a_hint_is_handed_on_to_the_journal(rt: HostRuntime) -> Result<(), Fail> {
     let alloc = rt.alloc();
-    assert_eq!(rt; stand_after(alloc, Some(&NEXT), &LAID), Some(true));
-    assert_eq!(rt; stand_after(alloc, None, &[0; 16]), Some(true));
+    equal(stand_after(alloc, Some(&NEXT), &LAID), Some(true))?;
+    equal(stand_after(alloc, None, &[0; 16]), Some(true))?;
+    Ok(())
 }
 
 #[test]

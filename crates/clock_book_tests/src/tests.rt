@@ -1,10 +1,12 @@
 //! Journals that were written by hand, and the clocks that are read from them.
 use clock::{Clock, Judgement, Look};
 use clock_book::{OpenFault, read_clock};
+use expected_values::{equal, equal_in};
 use house_io::{ListDisk, SureDisk};
 use lot_base::{Goods, Phase, Prices, Terms};
 use recovery::{Broken, JournalCause};
 use std::alloc::Global;
+use std::test::Fail;
 
 /// The digest of the auction.
 const DIGEST: [u8; 32] = [7; 32];
@@ -155,34 +157,37 @@ fn broken(number: u32, cause: JournalCause) -> Read {
 }
 
 #[test]
-fn a_clock_stands_as_its_journal_says(rt: HostRuntime) {
+fn a_clock_stands_as_its_journal_says(rt: HostRuntime) -> Result<(), Fail> {
     let none = read_from(rt.alloc(), Some(Vec::new(rt.alloc())));
-    assert_eq!(rt; none, Some(running(1, 1, 0)));
+    equal(none, Some(running(1, 1, 0)))?;
     let one = read_rows(rt.alloc(), &[entry(1, 1, 2)], 0);
-    assert_eq!(rt; one, Some(running(1, 2, 0)));
+    equal(one, Some(running(1, 2, 0)))?;
     let two = read_rows(rt.alloc(), &[entry(1, 1, 2), entry(2, 1, 2)], 0);
-    assert_eq!(rt; two, Some(running(2, 1, 1)));
+    equal(two, Some(running(2, 1, 1)))?;
+    Ok(())
 }
 
 #[test]
-fn the_first_report_that_is_not_taken_is_told(rt: HostRuntime) {
+fn the_first_report_that_is_not_taken_is_told(rt: HostRuntime) -> Result<(), Fail> {
     let early = read_rows(rt.alloc(), &[entry(1, 2, 2)], 0);
-    assert_eq!(rt; early, Some(not_acceptable(1, Judgement::Early(1))));
+    equal(early, Some(not_acceptable(1, Judgement::Early(1))))?;
     let again = read_rows(rt.alloc(), &[entry(1, 1, 2), entry(1, 1, 2)], 0);
-    assert_eq!(rt; again, Some(not_acceptable(2, Judgement::Again)));
+    equal(again, Some(not_acceptable(2, Judgement::Again)))?;
     let rows = [entry(2, 1, 2), entry(2, 1, 1), entry(1, 9, 1)];
     let conflict = read_rows(rt.alloc(), &rows, 0);
-    assert_eq!(rt; conflict, Some(not_acceptable(2, Judgement::Conflict(1))));
+    equal(conflict, Some(not_acceptable(2, Judgement::Conflict(1))))?;
+    Ok(())
 }
 
 #[test]
-fn the_smaller_record_is_told(rt: HostRuntime) {
+fn the_smaller_record_is_told(rt: HostRuntime) -> Result<(), Fail> {
     let before = read_rows(rt.alloc(), &[entry(1, 2, 2)], 0xa5);
-    assert_eq!(rt; before, Some(not_acceptable(1, Judgement::Early(1))));
+    equal(before, Some(not_acceptable(1, Judgement::Early(1))))?;
     let behind = read_rows(rt.alloc(), &[entry(1, 1, 2)], 0xa5);
-    assert_eq!(rt; behind, Some(broken(2, JournalCause::Damaged)));
+    equal(behind, Some(broken(2, JournalCause::Damaged)))?;
     let stranger = read_rows(rt.alloc(), &[entry(3, 1, 2), entry(1, 2, 2)], 0);
-    assert_eq!(rt; stranger, Some(broken(1, JournalCause::NotReport)));
+    equal(stranger, Some(broken(1, JournalCause::NotReport)))?;
+    Ok(())
 }
 
 /// A journal of no reports, of an auction with 32 times this byte.
@@ -191,9 +196,10 @@ fn journal_of_another(alloc: Global, digest: u8) -> Option<Vec<u8>> {
 }
 
 #[test]
-fn a_journal_of_another_auction_is_broken(rt: HostRuntime) {
+fn a_journal_of_another_auction_is_broken(rt: HostRuntime) -> Result<(), Fail> {
     let other = read_from(rt.alloc(), journal_of_another(rt.alloc(), 9));
-    assert_eq!(rt; other, Some(broken(0, JournalCause::OtherAuction([9; 32]))));
+    equal(other, Some(broken(0, JournalCause::OtherAuction([9; 32]))))?;
+    Ok(())
 }
 
 /// The number of the one call that fails.
@@ -232,10 +238,11 @@ fn fault_at(alloc: Global, call: u64) -> Option<Option<OpenFault>> {
 }
 
 #[test]
-fn each_call_of_a_reading_may_fail(rt: HostRuntime) {
+fn each_call_of_a_reading_may_fail(rt: HostRuntime) -> Result<(), Fail> {
     for call in 0..7 {
         let fault = fault_at(rt.alloc(), call);
-        assert_eq!(rt; fault, Some(Some(OpenFault::DiskFault)), "call {call}");
+        equal_in(call, fault, Some(Some(OpenFault::DiskFault)))?;
     }
-    assert_eq!(rt; fault_at(rt.alloc(), 7), Some(None));
+    equal(fault_at(rt.alloc(), 7), Some(None))?;
+    Ok(())
 }

@@ -6,10 +6,12 @@ use clock::{Judgement, Look, Offered};
 use clock_book::ClockBook;
 use clock_family::{House, HousePass, NotOpen};
 use demand_set::Demand;
+use expected_values::equal;
 use house_io::{Disk, ListDisk};
 use lot_base::{Phase, Terms};
 use std::alloc::Global;
 use std::sync::Wait;
+use std::test::Fail;
 
 /// Two units of one good for two bidders.
 const FILE: &str = r#"
@@ -453,14 +455,15 @@ fn turns_in_turn() -> [Turn; 10] {
 }
 
 #[test]
-fn each_pass_is_shown_what_the_other_offered(rt: HostRuntime) {
+fn each_pass_is_shown_what_the_other_offered(rt: HostRuntime) -> Result<(), Fail> {
     let wanted = [
         ends_with(ended(2, 1), 4, 102),
         ends_with(running(1, 0), 0, 42),
         ends_with(ended(1, 0), 1, 57),
     ];
     let found = outcome(&rt, rt.alloc(), FILE, None, &turns_in_turn(), &wanted);
-    assert_eq!(rt; found, Some((None, true)));
+    equal(found, Some((None, true)))?;
+    Ok(())
 }
 
 /// The number, from 0, of the last call of a disk in the opening of an empty file.
@@ -555,8 +558,9 @@ fn one_to_each() -> [Turn; 13] {
 }
 
 #[test]
-fn each_of_thirteen_clocks_is_looked_at(rt: HostRuntime) {
+fn each_of_thirteen_clocks_is_looked_at(rt: HostRuntime) -> Result<(), Fail> {
     let wanted = [ends_with(running(1, 0), 1, 57); 13];
     let found = outcome(&rt, rt.alloc(), TWELVE, None, &one_to_each(), &wanted);
-    assert_eq!(rt; found, Some((None, true)));
+    equal(found, Some((None, true)))?;
+    Ok(())
 }

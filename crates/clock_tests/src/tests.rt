@@ -4,6 +4,7 @@ ghost use Rattle.lot_base.specs.Demands.{IsDemand};
 
 use clock::{Clock, Judgement, ReplayFault};
 use demand_set::{Demand, Report};
+use expected_values::{equal, equal_in};
 use lot_base::{Goods, Phase, Prices, Terms};
 use std::alloc::Global;
 use std::test::Fail;
@@ -300,9 +301,10 @@ const JUDGED: &[Step] = &[
 ];
 
 #[test]
-fn judges_a_report_by_those_before_it(rt: HostRuntime) {
+fn judges_a_report_by_those_before_it(rt: HostRuntime) -> Result<(), Fail> {
     let auction = auction_of(rt.alloc(), &[2], 2, 10, 0);
-    assert_eq!(rt; first_other(auction, JUDGED), None);
+    equal(first_other(auction, JUDGED), None)?;
+    Ok(())
 }
 
 const FULL_ROUND: &[Step] = &[
@@ -318,9 +320,10 @@ const FULL_ROUND: &[Step] = &[
 ];
 
 #[test]
-fn a_round_begins_when_all_members_have_reported(rt: HostRuntime) {
+fn a_round_begins_when_all_members_have_reported(rt: HostRuntime) -> Result<(), Fail> {
     let auction = auction_of(rt.alloc(), &[2], 2, 10, 0);
-    assert_eq!(rt; first_other(auction, FULL_ROUND), None);
+    equal(first_other(auction, FULL_ROUND), None)?;
+    Ok(())
 }
 
 const WITHOUT_SECOND: &[Step] = &[
@@ -332,9 +335,10 @@ const WITHOUT_SECOND: &[Step] = &[
 ];
 
 #[test]
-fn a_bidder_is_no_member_of_the_clock_of_its_number(rt: HostRuntime) {
+fn a_bidder_is_no_member_of_the_clock_of_its_number(rt: HostRuntime) -> Result<(), Fail> {
     let auction = auction_of(rt.alloc(), &[1], 2, 10, 2);
-    assert_eq!(rt; first_other(auction, WITHOUT_SECOND), None);
+    equal(first_other(auction, WITHOUT_SECOND), None)?;
+    Ok(())
 }
 
 /// The demand of a bidder that wants both goods or none, where they are worth it.
@@ -368,11 +372,12 @@ const FIRST_ALONE: &[Step] = &[
 ];
 
 #[test]
-fn goods_in_excess_demand_only_together_rise_together(rt: HostRuntime) {
+fn goods_in_excess_demand_only_together_rise_together(rt: HostRuntime) -> Result<(), Fail> {
     for (number, steps) in [(0, TOGETHER), (1, SECOND_ALONE), (2, FIRST_ALONE)] {
         let auction = auction_of(rt.alloc(), &[1, 1], 2, 10, number);
-        assert_eq!(rt; first_other(auction, steps), None, "clock {number}");
+        equal_in(number, first_other(auction, steps), None)?;
     }
+    Ok(())
 }
 
 // The goods 0 and 1 are in as great an excess demand as the goods 1 and 2, and no set of fewer goods is.
@@ -389,9 +394,10 @@ const TIED: &[Step] = &[
 ];
 
 #[test]
-fn of_sets_that_tie_the_smallest_number_rises(rt: HostRuntime) {
+fn of_sets_that_tie_the_smallest_number_rises(rt: HostRuntime) -> Result<(), Fail> {
     let auction = auction_of(rt.alloc(), &[1, 1, 1], 4, 10, 0);
-    assert_eq!(rt; first_other(auction, TIED), None);
+    equal(first_other(auction, TIED), None)?;
+    Ok(())
 }
 
 // Each is told by the latest report of its bidder, and not by the first, nor by the number of bundles.
@@ -424,9 +430,10 @@ const TOLD_AGAIN: &[Step] = &[
 ];
 
 #[test]
-fn a_report_tells_its_bidder_and_whether_it_repeats(rt: HostRuntime) {
+fn a_report_tells_its_bidder_and_whether_it_repeats(rt: HostRuntime) -> Result<(), Fail> {
     let auction = auction_of(rt.alloc(), &[2], 2, 10, 0);
-    assert_eq!(rt; first_other(auction, TOLD_AGAIN), None);
+    equal(first_other(auction, TOLD_AGAIN), None)?;
+    Ok(())
 }
 
 const TO_THE_CEILING: &[Step] = &[
@@ -444,9 +451,10 @@ const TO_THE_CEILING: &[Step] = &[
 ];
 
 #[test]
-fn a_good_at_the_ceiling_halts_the_clock(rt: HostRuntime) {
+fn a_good_at_the_ceiling_halts_the_clock(rt: HostRuntime) -> Result<(), Fail> {
     let auction = auction_of(rt.alloc(), &[1], 2, 2, 0);
-    assert_eq!(rt; first_other(auction, TO_THE_CEILING), None);
+    equal(first_other(auction, TO_THE_CEILING), None)?;
+    Ok(())
 }
 
 const FROM_EIGHT: &[Step] = &[
@@ -473,12 +481,13 @@ fn opening_at(price: u32) -> Option<Terms> {
 }
 
 #[test]
-fn a_clock_opens_at_the_reserves_and_rises_from_there(rt: HostRuntime) {
+fn a_clock_opens_at_the_reserves_and_rises_from_there(rt: HostRuntime) -> Result<(), Fail> {
     let auction = match opening_at(8) {
         Some(terms) => Auction::new(rt.alloc(), terms, 0),
         None => None,
     };
-    assert_eq!(rt; first_other(auction, FROM_EIGHT), None);
+    equal(first_other(auction, FROM_EIGHT), None)?;
+    Ok(())
 }
 
 const NO_MEMBERS: &[Step] = &[
@@ -488,9 +497,10 @@ const NO_MEMBERS: &[Step] = &[
 ];
 
 #[test]
-fn a_clock_without_members_has_ended(rt: HostRuntime) {
+fn a_clock_without_members_has_ended(rt: HostRuntime) -> Result<(), Fail> {
     let auction = auction_of(rt.alloc(), &[1], 1, 10, 1);
-    assert_eq!(rt; first_other(auction, NO_MEMBERS), None);
+    equal(first_other(auction, NO_MEMBERS), None)?;
+    Ok(())
 }
 
 /// A report of the second bidder's wish for the one unit.
@@ -539,7 +549,7 @@ fn names_the_first_report_that_is_not_taken(rt: HostRuntime) -> Result<(), Fail>
         number: 2,
         judgement: Judgement::Early(1),
     };
-    assert_eq!(rt; fault_of_two(rt.alloc(), &terms)?, Some(early));
+    equal(fault_of_two(rt.alloc(), &terms)?, Some(early))?;
     Ok(())
 }
 
@@ -555,12 +565,13 @@ const WITHIN_ROOM: &[Step] = &[
 ];
 
 #[test]
-fn a_report_within_the_room_is_kept_and_told(rt: HostRuntime) {
+fn a_report_within_the_room_is_kept_and_told(rt: HostRuntime) -> Result<(), Fail> {
     let auction = match terms_of(&[2], 2, 10) {
         Some(terms) => Auction::with_room(rt.alloc(), terms, 0, 2, 4),
         None => None,
     };
-    assert_eq!(rt; first_other(auction, WITHIN_ROOM), None);
+    equal(first_other(auction, WITHIN_ROOM), None)?;
+    Ok(())
 }
 
 // The first good is in excess demand in two rounds, and nothing in the third: only it rises, by one in each round.
@@ -585,9 +596,10 @@ const EARLIER: &[Step] = &[
 ];
 
 #[test]
-fn earlier_reports_and_prices_are_told(rt: HostRuntime) {
+fn earlier_reports_and_prices_are_told(rt: HostRuntime) -> Result<(), Fail> {
     let auction = auction_of(rt.alloc(), &[2, 3], 2, 10, 0);
-    assert_eq!(rt; first_other(auction, EARLIER), None);
+    equal(first_other(auction, EARLIER), None)?;
+    Ok(())
 }
 
 const NOT_REPEATED: &[Step] = &[
@@ -603,9 +615,10 @@ const NOT_REPEATED: &[Step] = &[
 ];
 
 #[test]
-fn repeats_nothing_before_a_step_or_within_a_round(rt: HostRuntime) {
+fn repeats_nothing_before_a_step_or_within_a_round(rt: HostRuntime) -> Result<(), Fail> {
     let auction = auction_of(rt.alloc(), &[2], 2, 10, 0);
-    assert_eq!(rt; first_other(auction, NOT_REPEATED), None);
+    equal(first_other(auction, NOT_REPEATED), None)?;
+    Ok(())
 }
 
 // The least quantities of both members are three of two units: the round repeats as often as asked, and then up to the ceiling.
@@ -634,9 +647,10 @@ const REPEATED: &[Step] = &[
 ];
 
 #[test]
-fn repeats_what_each_member_reported(rt: HostRuntime) {
+fn repeats_what_each_member_reported(rt: HostRuntime) -> Result<(), Fail> {
     let auction = auction_of(rt.alloc(), &[2], 3, 10, 2);
-    assert_eq!(rt; first_other(auction, REPEATED), None);
+    equal(first_other(auction, REPEATED), None)?;
+    Ok(())
 }
 
 // The demands of a bidder that wants one unit of one of six goods.
@@ -699,9 +713,10 @@ const ALL_ROUNDS: &[Step] = &[
 ];
 
 #[test]
-fn a_clock_has_as_many_rounds_as_goods_and_ceiling_allow(rt: HostRuntime) {
+fn a_clock_has_as_many_rounds_as_goods_and_ceiling_allow(rt: HostRuntime) -> Result<(), Fail> {
     let auction = auction_of(rt.alloc(), &[1, 1, 1, 1, 1, 1], 3, 10_000, 2);
-    assert_eq!(rt; first_other(auction, ALL_ROUNDS), None);
+    equal(first_other(auction, ALL_ROUNDS), None)?;
+    Ok(())
 }
 
 // As many reports and quantities as a clock of a house has room for.
@@ -712,10 +727,11 @@ const IN_MOST_ROOM: &[Step] = &[
 ];
 
 #[test]
-fn a_clock_takes_the_most_room_that_a_house_asks_for(rt: HostRuntime) {
+fn a_clock_takes_the_most_room_that_a_house_asks_for(rt: HostRuntime) -> Result<(), Fail> {
     let auction = match terms_of(&[2], 2, 10) {
         Some(terms) => Auction::with_room(rt.alloc(), terms, 0, 720_012, 33_554_432),
         None => None,
     };
-    assert_eq!(rt; first_other(auction, IN_MOST_ROOM), None);
+    equal(first_other(auction, IN_MOST_ROOM), None)?;
+    Ok(())
 }

@@ -3,6 +3,7 @@ ghost use Rattle.std.specs.Prelude.{IfOk};
 ghost use Rattle.lot_base.specs.Demands.{IsDemand};
 
 use demand_set::{Demand, DemandFault};
+use expected_values::{equal, equal_in};
 use lot_base::{Goods, RawDemand, Sequence};
 use std::alloc::Global;
 use std::process::Abort;
@@ -35,7 +36,7 @@ fn read(
 }
 
 #[test]
-fn refuses_the_first_fault(rt: HostRuntime) {
+fn refuses_the_first_fault(rt: HostRuntime) -> Result<(), Fail> {
     let goods = goods_of(&rt, &[2]);
     for (count, quantities, fault) in [
         (1, [2, 1].as_slice(), DemandFault::NotAscending(1)),
@@ -47,20 +48,21 @@ fn refuses_the_first_fault(rt: HostRuntime) {
         (2, [].as_slice(), DemandFault::WrongGoods(2)),
     ] {
         let answer = read(&rt, rt.alloc(), &goods, count, quantities).err();
-        assert_eq!(rt; answer, Some(fault), "{quantities:?}");
+        equal_in(quantities, answer, Some(fault))?;
     }
+    Ok(())
 }
 
 #[test]
 fn reads_three_bundles(rt: HostRuntime) -> Result<(), Fail> {
     let goods = goods_of(&rt, &[2]);
     let demand = read(&rt, rt.alloc(), &goods, 1, &[0, 1, 2])?;
-    assert_eq!(rt; demand.len(), 3);
+    equal(demand.len(), 3)?;
     let last = demand.get(2);
-    assert_eq!(rt; last.count(), 1);
-    assert_eq!(rt; last.quantity(0), 2);
-    assert_eq!(rt; demand.least_table(&goods).0[1], 0);
-    assert_eq!(rt; demand.greatest_table(&goods).0[1], 2);
+    equal(last.count(), 1)?;
+    equal(last.quantity(0), 2)?;
+    equal(demand.least_table(&goods).0[1], 0)?;
+    equal(demand.greatest_table(&goods).0[1], 2)?;
     Ok(())
 }
 
@@ -85,8 +87,8 @@ fn writes_what_was_read(rt: HostRuntime) -> Result<(), Fail> {
     let Ok(raw) = demand.raw(rt.alloc()) else {
         panic!(&rt; "no memory");
     };
-    assert_eq!(rt; raw.goods, 2);
-    assert_eq!(rt; raw.quantities.as_slice(), quantities.as_slice());
+    equal(raw.goods, 2)?;
+    equal(raw.quantities.as_slice(), quantities.as_slice())?;
     Ok(())
 }
 
@@ -101,7 +103,7 @@ fn a_full_box_is_read_copied_and_written(rt: HostRuntime) -> Result<(), Fail> {
         }
     }
     let demand = read(&rt, rt.alloc(), &goods, 6, &quantities)?;
-    assert_eq!(rt; demand.len(), 2048);
+    equal(demand.len(), 2048)?;
     let Ok(copy) = demand.copy(rt.alloc()) else {
         panic!(&rt; "no memory for the copy");
     };
@@ -120,8 +122,8 @@ fn tables_of_two_goods(rt: HostRuntime) -> Result<(), Fail> {
     let demand = read(&rt, rt.alloc(), &goods, 2, &[0, 3, 1, 1, 2, 0])?;
     let least = demand.least_table(&goods).0;
     let greatest = demand.greatest_table(&goods).0;
-    assert_eq!(rt; least[..5], [0, 0, 0, 2, 0][..]);
-    assert_eq!(rt; greatest[..5], [0, 2, 3, 3, 0][..]);
+    equal(&least[..5], [0, 0, 0, 2, 0].as_slice())?;
+    equal(&greatest[..5], [0, 2, 3, 3, 0].as_slice())?;
     Ok(())
 }
 
@@ -145,8 +147,8 @@ fn tables_of_six_goods(rt: HostRuntime) -> Result<(), Fail> {
         (0b010000, 0, 3),
         (0b111111, 4, 7),
     ] {
-        assert_eq!(rt; least[set], low, "{set:b}");
-        assert_eq!(rt; greatest[set], high, "{set:b}");
+        equal_in(set, least[set], low)?;
+        equal_in(set, greatest[set], high)?;
     }
     Ok(())
 }
@@ -157,8 +159,8 @@ fn writes_into_a_buffer(rt: HostRuntime) -> Result<(), Fail> {
     let demand = read(&rt, rt.alloc(), &goods, 2, &[0, 3, 1, 1])?;
     let mut into = [9u16; 6];
     assert!(rt; demand.quantities().len() <= 6);
-    assert_eq!(rt; demand.raw_to(&mut into), 4);
-    assert_eq!(rt; into[..], [0, 3, 1, 1, 9, 9][..]);
+    equal(demand.raw_to(&mut into), 4)?;
+    equal(into.as_slice(), [0, 3, 1, 1, 9, 9].as_slice())?;
     Ok(())
 }
 
@@ -166,6 +168,6 @@ fn writes_into_a_buffer(rt: HostRuntime) -> Result<(), Fail> {
 fn reads_bytes(rt: HostRuntime) -> Result<(), Fail> {
     let goods = goods_of(&rt, &[2, 300]);
     let demand = Demand::read_bytes(rt.alloc(), &goods, 2, &[0, 0, 1, 3, 0, 1, 0, 1])?;
-    assert_eq!(rt; demand.quantities(), [0, 259, 1, 1].as_slice());
+    equal(demand.quantities(), [0, 259, 1, 1].as_slice())?;
     Ok(())
 }

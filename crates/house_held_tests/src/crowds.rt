@@ -4,12 +4,14 @@ ghost use Rattle.std.specs.Prelude.{None};
 use crate::held::{ADA, FILE};
 use auction_file::{Auction, MOST_BYTES, read};
 use clock_family::{House, NotOpen};
+use expected_values::equal;
 use house_io::{Door, Failed, Link, SureDisk, SureLink};
 use house_serve::{DoorLog, NotServed, Served, SessionEnd, serve};
 use std::alloc::Global;
 use std::sync::Wait;
 use std::sync::atomic::Ordering::SeqCst;
 use std::sync::atomic::{AtomicBool, AtomicU32};
+use std::test::Fail;
 use std::thread;
 use std::thread::Threads;
 use std::time::Duration;
@@ -214,7 +216,7 @@ fn serve_crowd<'a, T: Threads + Wait + Sync>(
 }
 
 #[test]
-fn all_doors_are_served_at_once(rt: HostRuntime) {
+fn all_doors_are_served_at_once(rt: HostRuntime) -> Result<(), Fail> {
     for count in [1, 13, 64] {
         let crowd = Crowd {
             rt: &rt,
@@ -223,7 +225,8 @@ fn all_doors_are_served_at_once(rt: HostRuntime) {
             late: AtomicBool::new(false),
         };
         let went = serve_crowd(&rt, rt.alloc(), &crowd);
-        assert_eq!(rt; went, Some(count as usize));
+        equal(went, Some(count as usize))?;
         assert!(rt; !crowd.late.load(SeqCst), "{count} doors");
     }
+    Ok(())
 }

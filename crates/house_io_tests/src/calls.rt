@@ -6,6 +6,7 @@ use house_io::{Disk, Failed, FolderShelf, Refusal, Shelf, Source};
 use std::alloc::Global;
 use std::sync::Arc;
 use std::sync::atomic::AtomicU64;
+use std::test::Fail;
 
 /// An offset far past the end of the file.
 const FAR: u64 = 1_048_576;
@@ -740,27 +741,31 @@ fn found_at(alloc: Global, rows: &[Row], number: usize) -> Option<Outcome> {
 }
 
 #[test]
-fn a_file_in_a_folder_is_read_by_these_calls(rt: HostRuntime) {
+fn a_file_in_a_folder_is_read_by_these_calls(rt: HostRuntime) -> Result<(), Fail> {
     let number = first_other(rt.alloc(), &READING);
     assert_eq!(rt; number, 4, "{:?}", found_at(rt.alloc(), &READING, number));
+    Ok(())
 }
 
 #[test]
-fn a_disk_in_a_folder_is_claimed_by_these_calls(rt: HostRuntime) {
+fn a_disk_in_a_folder_is_claimed_by_these_calls(rt: HostRuntime) -> Result<(), Fail> {
     let number = first_other(rt.alloc(), &CLAIMING);
     assert_eq!(rt; number, 6, "{:?}", found_at(rt.alloc(), &CLAIMING, number));
+    Ok(())
 }
 
 #[test]
-fn a_fault_is_said_once_for_each_cause_in_a_row(rt: HostRuntime) {
+fn a_fault_is_said_once_for_each_cause_in_a_row(rt: HostRuntime) -> Result<(), Fail> {
     let number = first_other(rt.alloc(), &FAULTS);
     assert_eq!(rt; number, 7, "{:?}", found_at(rt.alloc(), &FAULTS, number));
+    Ok(())
 }
 
 #[test]
-fn pieces_go_where_they_are_to_by_these_calls(rt: HostRuntime) {
+fn pieces_go_where_they_are_to_by_these_calls(rt: HostRuntime) -> Result<(), Fail> {
     let number = first_other(rt.alloc(), &PIECES);
     assert_eq!(rt; number, 11, "{:?}", found_at(rt.alloc(), &PIECES, number));
+    Ok(())
 }
 
 /// The greatest number of a cause.
@@ -806,10 +811,11 @@ fn other_cause(alloc: Global, row: &Row) -> Option<i32> {
 }
 
 #[test]
-fn a_call_that_fails_is_a_fault_whatever_its_cause(rt: HostRuntime) {
+fn a_call_that_fails_is_a_fault_whatever_its_cause(rt: HostRuntime) -> Result<(), Fail> {
     for rows in [READING.as_slice(), &CLAIMING, &FAULTS, &PIECES] {
         for row in rows {
             assert_eq!(rt; other_cause(rt.alloc(), row), None, "{:?}", row.asked);
         }
     }
+    Ok(())
 }

@@ -5,8 +5,10 @@ use crate::calls::{
 };
 use crate::noted_folder::{Call, Place};
 use crate::notes::notes_of;
+use expected_values::{equal, equal_in};
 use house_io::{FolderShelf, Refusal};
 use std::alloc::Global;
+use std::test::Fail;
 
 /// The calls by which a claimed disk of a name is opened, where its file is to stand in this folder, and whether that goes well.
 fn claimed_in(
@@ -48,7 +50,7 @@ fn is_claimed_in(
 /// The folder that is looked at and synced is the one in which the file stands, and the folder that names this one is synced as well.
 /// Where the file's folder is absent, nothing is opened.
 #[test]
-fn a_claim_syncs_the_folder_of_its_name(rt: HostRuntime) {
+fn a_claim_syncs_the_folder_of_its_name(rt: HostRuntime) -> Result<(), Fail> {
     for (parent, folder, name, claimed) in [
         ("no parent", ".", "journal", (true, 7)),
         ("no parent", ".", " journal ", (true, 7)),
@@ -75,12 +77,13 @@ fn a_claim_syncs_the_folder_of_its_name(rt: HostRuntime) {
         ("no parent", "/", "/journal", (true, 7)),
         (".", "kept", "absent/journal", (false, 2)),
     ] {
-        assert_eq!(rt;
+        equal_in(
+            (name, folder, parent),
             is_claimed_in(rt.alloc(), parent, folder, name),
             Some(claimed),
-            "{name} in {folder} in {parent}"
-        );
+        )?;
     }
+    Ok(())
 }
 
 /// The same of a source of a name: whether just the file of this name is opened, to be read, and read once.
@@ -103,7 +106,7 @@ fn is_read_as(alloc: Global, name: &'static str) -> Option<(bool, bool)> {
 }
 
 #[test]
-fn a_source_is_the_file_of_its_name(rt: HostRuntime) {
+fn a_source_is_the_file_of_its_name(rt: HostRuntime) -> Result<(), Fail> {
     for name in [
         "log",
         " log ",
@@ -111,8 +114,9 @@ fn a_source_is_the_file_of_its_name(rt: HostRuntime) {
         "/a/b/log",
         "the-auction-file-of-an-auction-of-forty-eight-letters",
     ] {
-        assert_eq!(rt; is_read_as(rt.alloc(), name), Some((true, true)), "{name}");
+        equal_in(name, is_read_as(rt.alloc(), name), Some((true, true)))?;
     }
+    Ok(())
 }
 
 const KEPT: [Call; 9] = [
@@ -145,7 +149,7 @@ fn is_kept_by(
 }
 
 #[test]
-fn a_claim_fails_where_a_folder_is_not_synced(rt: HostRuntime) {
+fn a_claim_fails_where_a_folder_is_not_synced(rt: HostRuntime) -> Result<(), Fail> {
     let failing: [(usize, &'static [usize], u64); 5] = [
         (9, &[], 0),
         (6, &[5], 1),
@@ -155,13 +159,14 @@ fn a_claim_fails_where_a_folder_is_not_synced(rt: HostRuntime) {
     ];
     for (count, failing, failed) in failing {
         for code in 1..MOST_CAUSES + 1 {
-            assert_eq!(rt;
+            equal_in(
+                (count, code),
                 is_kept_by(rt.alloc(), count, failing, code),
                 Some((true, Ok(failed))),
-                "{count} by {code}"
-            );
+            )?;
         }
     }
+    Ok(())
 }
 
 /// A look at a journal in the working directory, or a claim of it.
@@ -189,17 +194,18 @@ fn finds_no_disk(alloc: Global, stands: bool, asked: &'static [Asked]) -> Option
 }
 
 #[test]
-fn a_shelf_tells_that_it_found_no_disk(rt: HostRuntime) {
-    assert_eq!(rt;
+fn a_shelf_tells_that_it_found_no_disk(rt: HostRuntime) -> Result<(), Fail> {
+    equal(
         finds_no_disk(rt.alloc(), false, &[Asked::Size]),
-        Some((false, true))
-    );
-    assert_eq!(rt;
+        Some((false, true)),
+    )?;
+    equal(
         finds_no_disk(rt.alloc(), true, &[Asked::Size]),
-        Some((false, false))
-    );
-    assert_eq!(rt;
+        Some((false, false)),
+    )?;
+    equal(
         finds_no_disk(rt.alloc(), false, &[Asked::Claims]),
-        Some((false, false))
-    );
+        Some((false, false)),
+    )?;
+    Ok(())
 }

@@ -1,5 +1,6 @@
 //! What no clause says of disks: that the calls succeed with ample memory, and what a real file does.
 use crate::tests::{bytes_of, list_shelf, one, sure_shelf, text_of};
+use expected_values::{equal, equal_in};
 use house_io::{
     Disk, Failed, FileDisk, Fill, FolderShelf, ListDisk, ListShelf, Refusal, Shelf, SureDisk,
     SureShelf,
@@ -101,11 +102,12 @@ fn written_after_the_end(alloc: Global, front: &mut [u8]) -> Option<Result<(usiz
 }
 
 #[test]
-fn a_write_after_the_end_leaves_zeros(rt: HostRuntime) {
+fn a_write_after_the_end_leaves_zeros(rt: HostRuntime) -> Result<(), Fail> {
     let mut front = [0; 8];
     let found = written_after_the_end(rt.alloc(), &mut front);
-    assert_eq!(rt; found, Some(Ok((6, 6))));
-    assert_eq!(rt; front, *b"lot\0\0s\0\0");
+    equal(found, Some(Ok((6, 6))))?;
+    equal(front, *b"lot\0\0s\0\0")?;
+    Ok(())
 }
 
 /// A disk that was claimed, on which one write went well, and one failed.
@@ -132,18 +134,19 @@ fn is_image_of_torn_disk(alloc: Global, fill: Fill, expected: &str) -> Option<bo
 }
 
 #[test]
-fn a_failed_write_leaves_its_range_in_doubt(rt: HostRuntime) {
+fn a_failed_write_leaves_its_range_in_doubt(rt: HostRuntime) -> Result<(), Fail> {
     for (fill, image) in [
         (Fill::Old, "lots"),
         (Fill::New, "lotted"),
         (Fill::Byte(b'x'), "xotxxx"),
     ] {
-        assert_eq!(rt;
+        equal_in(
+            fill,
             is_image_of_torn_disk(rt.alloc(), fill, image),
             Some(true),
-            "{fill:?}"
-        );
+        )?;
     }
+    Ok(())
 }
 
 /// Which of some calls on a disk of four bytes fail: the first claim, the second, a third of a disk that is claimed, and the size.
@@ -165,18 +168,19 @@ fn claims_failing_at(alloc: Global, failing: &[u64]) -> Option<[bool; 4]> {
 
 /// A claim that fails is a call, and so is the one after it. One of a disk that is claimed is none.
 #[test]
-fn a_disk_is_claimed_once(rt: HostRuntime) {
+fn a_disk_is_claimed_once(rt: HostRuntime) -> Result<(), Fail> {
     for (failing, claims) in [
         ([0, 2], [true, false, false, true]),
         ([1, 3], [false, false, false, true]),
         ([0, 1], [true, true, false, false]),
     ] {
-        assert_eq!(rt;
+        equal_in(
+            failing,
             claims_failing_at(rt.alloc(), &failing),
             Some(claims),
-            "{failing:?}"
-        );
+        )?;
     }
+    Ok(())
 }
 
 /// Opens a disk of this name, makes the changes, reads into the buffer from an offset on, and closes the disk. Answers how
@@ -249,16 +253,14 @@ fn kept_by_sure_shelf(alloc: Global, rows: &[Row]) -> Option<(usize, bool, bool)
 }
 
 #[test]
-fn a_shelf_keeps_a_closed_disk(rt: HostRuntime) {
+fn a_shelf_keeps_a_closed_disk(rt: HostRuntime) -> Result<(), Fail> {
     let rows = [
         ("auction", "c", Ok(3)),
         ("absent", "new", Ok(3)),
         ("auction", "pl", Ok(3)),
     ];
-    assert_eq!(rt;
-        kept_by_sure_shelf(rt.alloc(), &rows),
-        Some((3, true, true))
-    );
+    equal(kept_by_sure_shelf(rt.alloc(), &rows), Some((3, true, true)))?;
+    Ok(())
 }
 
 fn list_shelf_holds(shelf: &ListShelf, name: &str, text: &str) -> bool {
@@ -280,19 +282,20 @@ fn kept_by_list_shelf(
 /// A call fails on the disk that is opened a second time: its claim, since it is to be claimed anew, or its sync. And then the third
 /// opening fails.
 #[test]
-fn a_list_shelf_counts_on_with_a_closed_disk(rt: HostRuntime) {
+fn a_list_shelf_counts_on_with_a_closed_disk(rt: HostRuntime) -> Result<(), Fail> {
     let rows = [
         ("journal", "c", Ok(4)),
         ("journal", "pl", Err(Refusal::Failed)),
         ("journal", "x", Err(Refusal::Failed)),
     ];
     for (failing, text) in [(5, "cots"), (7, "plts")] {
-        assert_eq!(rt;
+        equal_in(
+            failing,
             kept_by_list_shelf(rt.alloc(), failing, &rows, text),
             Some((3, true)),
-            "at the call {failing}"
-        );
+        )?;
     }
+    Ok(())
 }
 
 /// Opens a disk of this name, makes the changes, and closes it. Answers the length.
@@ -329,10 +332,11 @@ fn absent_in_list_shelf(alloc: Global) -> Option<[bool; 4]> {
 }
 
 #[test]
-fn only_a_claim_makes_a_file(rt: HostRuntime) {
+fn only_a_claim_makes_a_file(rt: HostRuntime) -> Result<(), Fail> {
     let found = [true, false, true, true];
-    assert_eq!(rt; absent_in_sure_shelf(rt.alloc()), Some(found));
-    assert_eq!(rt; absent_in_list_shelf(rt.alloc()), Some(found));
+    equal(absent_in_sure_shelf(rt.alloc()), Some(found))?;
+    equal(absent_in_list_shelf(rt.alloc()), Some(found))?;
+    Ok(())
 }
 
 /// Whether a file in the folder that the program runs in has these bytes. It is removed.
@@ -347,10 +351,10 @@ fn a_folder_shelf_makes_a_real_file_and_keeps_it(rt: HostRuntime) -> Result<(), 
     let name = "a_real_journal_of_house_io";
     let mut shelf = FolderShelf::new(rt.alloc(), &rt);
     let rows = [(name, "lots", Ok(4)), (name, "p", Ok(4))];
-    assert_eq!(rt; first_other(rt.alloc(), &mut shelf, &rows), 2);
+    equal(first_other(rt.alloc(), &mut shelf, &rows), 2)?;
     assert!(rt; is_kept(&rt, name, b"pots")?);
     let rows = [("no_folder/journal", "x", Err(Refusal::Failed))];
-    assert_eq!(rt; first_other(rt.alloc(), &mut shelf, &rows), 1);
+    equal(first_other(rt.alloc(), &mut shelf, &rows), 1)?;
     Ok(())
 }
 
@@ -361,10 +365,11 @@ fn looked_at(rt: &HostRuntime, name: &str) -> Option<u64> {
 }
 
 #[test]
-fn a_look_at_an_absent_name_makes_no_file(rt: HostRuntime) {
+fn a_look_at_an_absent_name_makes_no_file(rt: HostRuntime) -> Result<(), Fail> {
     let name = "an_absent_journal_of_house_io";
-    assert_eq!(rt; looked_at(&rt, name), Some(0));
+    equal(looked_at(&rt, name), Some(0))?;
     assert!(rt; fs::read(&rt, name).is_err());
+    Ok(())
 }
 
 /// Which claims of two disks of one name fail: that of the first, that of the second beside it, and that of the second once the first is
@@ -386,7 +391,7 @@ fn a_file_is_claimed_by_one_disk_at_a_time(rt: HostRuntime) -> Result<(), Fail> 
     let name = "a_claimed_journal_of_house_io";
     let claims = claimed_twice(&rt, name);
     fs::remove_file(&rt, name)?;
-    assert_eq!(rt; claims, Some([false, true, false]));
+    equal(claims, Some([false, true, false]))?;
     Ok(())
 }
 
@@ -461,7 +466,7 @@ fn a_real_file_grows_by_zeros_up_to_a_text(rt: HostRuntime) -> Result<(), Fail> 
         (70_000, 150_000),
     ] {
         let found = grown_by(&rt, at, length)?;
-        assert_eq!(rt; found, (at + length as u64, true), "{length} bytes at {at}");
+        equal_in((length, at), found, (at + length as u64, true))?;
     }
     Ok(())
 }
@@ -477,7 +482,7 @@ fn lengthened_to(rt: &HostRuntime, at: u64) -> Result<(u64, bool), Fail> {
 fn a_real_file_is_lengthened_by_zeros(rt: HostRuntime) -> Result<(), Fail> {
     for at in [1_048_576, 16_777_216] {
         let found = lengthened_to(&rt, at)?;
-        assert_eq!(rt; found, (at, true), "{at}");
+        equal_in(at, found, (at, true))?;
     }
     Ok(())
 }
@@ -491,6 +496,6 @@ fn a_real_file_is_never_cut(rt: HostRuntime) -> Result<(), Fail> {
         Change::Write(2, b""),
     ];
     let found = changed_file(&rt, "an_uncut_file_of_house_io", &changes, 0, &mut [])?;
-    assert_eq!(rt; found, Some((0, 4)));
+    equal(found, Some((0, 4)))?;
     Ok(())
 }

@@ -1,5 +1,6 @@
 //! What no clause says of a disk on a file: which calls on it fail, and that a sync is one.
 use crate::disk_tests::{Change, make, read, size};
+use expected_values::{equal, equal_in};
 use house_io::{Disk, FileDisk};
 use std::alloc::Global;
 use std::cell::Cell;
@@ -116,10 +117,10 @@ fn a_disk_on_a_file_reads_on_after_a_short_read(rt: HostRuntime) -> Result<(), F
     let mut disk = slow_disk(99, &syncs).ok_or("no disk")?;
     let mut front = [0; 4];
     for (at, count, bytes) in [(3, 4, [3, 4, 5, 6]), (8, 2, [8, 9, 5, 6])] {
-        assert_eq!(rt; read(&mut disk, at, &mut front), Ok(count), "at {at}");
-        assert_eq!(rt; front, bytes, "at {at}");
+        equal_in(at, read(&mut disk, at, &mut front), Ok(count))?;
+        equal_in(at, front, bytes)?;
     }
-    assert_eq!(rt; size(&mut disk), Ok(10));
+    equal(size(&mut disk), Ok(10))?;
     Ok(())
 }
 
@@ -156,7 +157,7 @@ fn only(number: u64) -> [bool; 5] {
 }
 
 #[test]
-fn each_call_of_a_file_that_fails_is_a_counted_fault(rt: HostRuntime) {
+fn each_call_of_a_file_that_fails_is_a_counted_fault(rt: HostRuntime) -> Result<(), Fail> {
     for (call, failing) in [
         (0, 0),
         (1, 0),
@@ -169,10 +170,11 @@ fn each_call_of_a_file_that_fails_is_a_counted_fault(rt: HostRuntime) {
         (8, 3),
         (9, 4),
     ] {
-        assert_eq!(rt;
+        equal_in(
+            call,
             failing_calls(rt.alloc(), call),
             Some((only(failing), 1, 1)),
-            "at the call {call}"
-        );
+        )?;
     }
+    Ok(())
 }

@@ -3,10 +3,12 @@
 use crate::calls::MOST_CAUSES;
 use crate::noted_net::{Call, NotedListener, NotedNet, NotedStream};
 use crate::notes::{notes_of, open_ones};
+use expected_values::equal;
 use house_io::{Door, Failed, Link, Net, TcpDoor, TcpLink, TcpNet};
 use std::alloc::Global;
 use std::net::Shutdown;
 use std::sync::Arc;
+use std::test::Fail;
 
 /// As many bytes as a house takes at once.
 const PIECE: usize = 65_536;
@@ -783,27 +785,31 @@ const CLOSING: [Row; 10] = [
 ];
 
 #[test]
-fn doors_are_opened_by_these_calls(rt: HostRuntime) {
+fn doors_are_opened_by_these_calls(rt: HostRuntime) -> Result<(), Fail> {
     let number = first_other(rt.alloc(), &DOORS);
     assert_eq!(rt; number, 6, "{:?}", found_at(rt.alloc(), &DOORS, number));
+    Ok(())
 }
 
 #[test]
-fn links_are_had_by_these_calls(rt: HostRuntime) {
+fn links_are_had_by_these_calls(rt: HostRuntime) -> Result<(), Fail> {
     let number = first_other(rt.alloc(), &LINKS);
     assert_eq!(rt; number, 7, "{:?}", found_at(rt.alloc(), &LINKS, number));
+    Ok(())
 }
 
 #[test]
-fn a_link_talks_by_these_calls(rt: HostRuntime) {
+fn a_link_talks_by_these_calls(rt: HostRuntime) -> Result<(), Fail> {
     let number = first_other(rt.alloc(), &TALKS);
     assert_eq!(rt; number, 5, "{:?}", found_at(rt.alloc(), &TALKS, number));
+    Ok(())
 }
 
 #[test]
-fn a_link_is_hung_up_by_these_calls(rt: HostRuntime) {
+fn a_link_is_hung_up_by_these_calls(rt: HostRuntime) -> Result<(), Fail> {
     let number = first_other(rt.alloc(), &CLOSING);
     assert_eq!(rt; number, 10, "{:?}", found_at(rt.alloc(), &CLOSING, number));
+    Ok(())
 }
 
 /// Whether a row holds where its calls fail by this cause: as many fail, and the same calls are made.
@@ -838,9 +844,10 @@ fn other_cause_in(alloc: Global, rows: &[Row]) -> Option<i32> {
 }
 
 #[test]
-fn a_call_that_fails_is_one_call_whatever_its_cause(rt: HostRuntime) {
-    assert_eq!(rt; other_cause_in(rt.alloc(), DOORS.as_slice()), None);
-    assert_eq!(rt; other_cause_in(rt.alloc(), LINKS.as_slice()), None);
-    assert_eq!(rt; other_cause_in(rt.alloc(), TALKS.as_slice()), None);
-    assert_eq!(rt; other_cause_in(rt.alloc(), CLOSING.as_slice()), None);
+fn a_call_that_fails_is_one_call_whatever_its_cause(rt: HostRuntime) -> Result<(), Fail> {
+    equal(other_cause_in(rt.alloc(), DOORS.as_slice()), None)?;
+    equal(other_cause_in(rt.alloc(), LINKS.as_slice()), None)?;
+    equal(other_cause_in(rt.alloc(), TALKS.as_slice()), None)?;
+    equal(other_cause_in(rt.alloc(), CLOSING.as_slice()), None)?;
+    Ok(())
 }

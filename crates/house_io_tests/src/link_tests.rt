@@ -1,6 +1,7 @@
 //! What no clause says of links, doors and nets: that the calls succeed with ample memory, and what a real connection does.
 use crate::disk_tests::{Change, changed};
 use crate::tests::{bytes_of, one};
+use expected_values::{equal, equal_in};
 use house_io::{
     Door, Failed, Gate, GatedDisk, Link, ListDoor, ListLink, ListNet, Net, Refusal, SureDisk,
     SureDoor, SureLink, SureNet, TcpNet, send_whole,
@@ -62,15 +63,16 @@ fn echoes_until(alloc: Global, failing: u64, written: &str) -> Option<bool> {
 }
 
 #[test]
-fn links_in_memory_answer_two_bytes_at_a_time(rt: HostRuntime) {
-    assert_eq!(rt; echoes(rt.alloc(), "lotte"), Some(true));
+fn links_in_memory_answer_two_bytes_at_a_time(rt: HostRuntime) -> Result<(), Fail> {
+    equal(echoes(rt.alloc(), "lotte"), Some(true))?;
     for (failing, written) in [(0, "lotte"), (1, "tte"), (2, "lotte"), (5, "lott")] {
-        assert_eq!(rt;
+        equal_in(
+            failing,
             echoes_until(rt.alloc(), failing, written),
             Some(true),
-            "at {failing}"
-        );
+        )?;
     }
+    Ok(())
 }
 
 /// Adds a link, and tells whether it could.
@@ -178,9 +180,10 @@ fn list_door_serves(alloc: Global) -> Option<bool> {
 }
 
 #[test]
-fn doors_in_memory_give_their_links_in_order(rt: HostRuntime) {
-    assert_eq!(rt; sure_door_serves(rt.alloc()), Some(true));
-    assert_eq!(rt; list_door_serves(rt.alloc()), Some(true));
+fn doors_in_memory_give_their_links_in_order(rt: HostRuntime) -> Result<(), Fail> {
+    equal(sure_door_serves(rt.alloc()), Some(true))?;
+    equal(list_door_serves(rt.alloc()), Some(true))?;
+    Ok(())
 }
 
 fn one_sure_door(alloc: Global) -> Option<Vec<SureDoor>> {
@@ -311,11 +314,12 @@ fn list_net_dials(alloc: Global) -> Option<bool> {
 }
 
 #[test]
-fn nets_in_memory_give_their_doors_and_links(rt: HostRuntime) {
-    assert_eq!(rt; sure_net_opens(rt.alloc()), Some(true));
-    assert_eq!(rt; sure_net_dials(rt.alloc()), Some(true));
-    assert_eq!(rt; list_net_opens(rt.alloc()), Some(true));
-    assert_eq!(rt; list_net_dials(rt.alloc()), Some(true));
+fn nets_in_memory_give_their_doors_and_links(rt: HostRuntime) -> Result<(), Fail> {
+    equal(sure_net_opens(rt.alloc()), Some(true))?;
+    equal(sure_net_dials(rt.alloc()), Some(true))?;
+    equal(list_net_opens(rt.alloc()), Some(true))?;
+    equal(list_net_dials(rt.alloc()), Some(true))?;
+    Ok(())
 }
 
 /// A value that a thread may own.
@@ -417,10 +421,10 @@ where
 fn two_real_doors_share_an_address(rt: HostRuntime) -> Result<(), Fail> {
     let address = free_address(&rt, rt.alloc())?;
     let mut net = TcpNet::new(&rt);
-    assert_eq!(rt;
+    equal(
         real_doors_talk(&mut net, rt.alloc(), address.as_str()),
-        Ok((2, 2))
-    );
+        Ok((2, 2)),
+    )?;
     Ok(())
 }
 
@@ -509,6 +513,7 @@ fn written_twice(alloc: Global) -> Option<(Result<(usize, u64), Failed>, u32)> {
 }
 
 #[test]
-fn a_gate_is_reached_before_each_write(rt: HostRuntime) {
-    assert_eq!(rt; written_twice(rt.alloc()), Some((Ok((0, 6)), 2)));
+fn a_gate_is_reached_before_each_write(rt: HostRuntime) -> Result<(), Fail> {
+    equal(written_twice(rt.alloc()), Some((Ok((0, 6)), 2)))?;
+    Ok(())
 }

@@ -1,5 +1,6 @@
 //! What no clause says: that the calls succeed with ample memory, and what the real streams do.
 use crate::calls::{BROKEN, MOST_CAUSES};
+use expected_values::{equal, equal_in};
 use house_io::{
     Failed, FileSource, FolderShelf, ListFile, ListShelf, ListSink, ListSource, ReadWhole, Refusal,
     Shelf, Sink, Source, StdoutSink, SureFile, SureShelf, SureSink, SureSource, read_whole,
@@ -73,7 +74,7 @@ fn read_up_to(alloc: Global, failing: u64, limit: u64) -> Option<Counts> {
 }
 
 #[test]
-fn a_source_is_read_up_to_a_limit_or_a_fault(rt: HostRuntime) {
+fn a_source_is_read_up_to_a_limit_or_a_fault(rt: HostRuntime) -> Result<(), Fail> {
     for (failing, limit, read, rest) in [
         (9, u64::MAX, Ok(LONG), 0),
         (9, 150_000, Ok(LONG), 0),
@@ -83,12 +84,13 @@ fn a_source_is_read_up_to_a_limit_or_a_fault(rt: HostRuntime) {
         (1, u64::MAX, Err(ReadWhole::Failed), LONG - 65_536),
         (3, u64::MAX, Err(ReadWhole::Failed), 0),
     ] {
-        assert_eq!(rt;
+        equal_in(
+            (failing, limit),
             read_up_to(rt.alloc(), failing, limit),
             Some((read, Ok(rest))),
-            "at the call {failing} and the limit {limit}"
-        );
+        )?;
     }
+    Ok(())
 }
 
 /// The powers of two up to 32 MiB.
@@ -113,10 +115,11 @@ fn read_of(alloc: Global, length: usize) -> Option<Result<usize, ReadWhole>> {
 }
 
 #[test]
-fn a_source_is_read_whole_whatever_its_length(rt: HostRuntime) {
+fn a_source_is_read_whole_whatever_its_length(rt: HostRuntime) -> Result<(), Fail> {
     for length in LENGTHS {
-        assert_eq!(rt; read_of(rt.alloc(), length), Some(Ok(length)), "{length}");
+        equal_in(length, read_of(rt.alloc(), length), Some(Ok(length)))?;
     }
+    Ok(())
 }
 
 fn sure_source(alloc: Global) -> Option<SureSource> {
@@ -172,10 +175,11 @@ fn list_sink_keeps(alloc: Global) -> Option<bool> {
 }
 
 #[test]
-fn streams_in_memory_answer(rt: HostRuntime) {
-    assert_eq!(rt; sure_source_gives(rt.alloc()), Some(Ok(9)));
-    assert_eq!(rt; sure_sink_keeps(rt.alloc()), Some(true));
-    assert_eq!(rt; list_sink_keeps(rt.alloc()), Some(true));
+fn streams_in_memory_answer(rt: HostRuntime) -> Result<(), Fail> {
+    equal(sure_source_gives(rt.alloc()), Some(Ok(9)))?;
+    equal(sure_sink_keeps(rt.alloc()), Some(true))?;
+    equal(list_sink_keeps(rt.alloc()), Some(true))?;
+    Ok(())
 }
 
 /// The bytes of a source, of which there are at most 100.
@@ -265,13 +269,16 @@ fn first_other_in_sure_shelf(alloc: Global, rows: &[Row]) -> Option<usize> {
 }
 
 #[test]
-fn a_sure_shelf_gives_its_files_and_nothing_for_an_absent_name(rt: HostRuntime) {
+fn a_sure_shelf_gives_its_files_and_nothing_for_an_absent_name(
+    rt: HostRuntime,
+) -> Result<(), Fail> {
     let rows = [
         ("auction", Some("two")),
         ("log", Some("one")),
         ("journal", Some("")),
     ];
-    assert_eq!(rt; first_other_in_sure_shelf(rt.alloc(), &rows), Some(3));
+    equal(first_other_in_sure_shelf(rt.alloc(), &rows), Some(3))?;
+    Ok(())
 }
 
 fn list_file(alloc: Global, name: &str, failing: u64) -> Option<ListFile> {
@@ -317,7 +324,7 @@ fn first_other_in_list_shelf(alloc: Global, rows: &[Row]) -> Option<usize> {
 }
 
 #[test]
-fn a_list_shelf_fails_at_chosen_calls_and_absent_names(rt: HostRuntime) {
+fn a_list_shelf_fails_at_chosen_calls_and_absent_names(rt: HostRuntime) -> Result<(), Fail> {
     let rows = [
         ("sound", Some("lots")),
         ("torn", None),
@@ -325,7 +332,8 @@ fn a_list_shelf_fails_at_chosen_calls_and_absent_names(rt: HostRuntime) {
         ("absent", None),
         ("sound", Some("lots")),
     ];
-    assert_eq!(rt; first_other_in_list_shelf(rt.alloc(), &rows), Some(5));
+    equal(first_other_in_list_shelf(rt.alloc(), &rows), Some(5))?;
+    Ok(())
 }
 
 /// Whether the folder gives this text for a name, and then, the file removed, a fault.
@@ -342,7 +350,7 @@ fn a_folder_shelf_reads_a_real_file_and_fails_at_an_absent_one(
 ) -> Result<(), Fail> {
     let name = "a_real_file_of_house_io";
     fs::write(&rt, name, "lots")?;
-    assert_eq!(rt; gives_then_fails(&rt, name, "lots")?, (true, true));
+    equal(gives_then_fails(&rt, name, "lots")?, (true, true))?;
     Ok(())
 }
 
@@ -372,11 +380,12 @@ fn read_and_faults(
 }
 
 #[test]
-fn a_read_that_fails_in_mid_stream_is_a_counted_fault(rt: HostRuntime) {
+fn a_read_that_fails_in_mid_stream_is_a_counted_fault(rt: HostRuntime) -> Result<(), Fail> {
     let mut source = FileSource::new(FailsOnce { calls: 0 });
     for read in [Err(ReadWhole::Failed), Ok(1)] {
-        assert_eq!(rt; read_and_faults(rt.alloc(), &mut source), (read, 1));
+        equal(read_and_faults(rt.alloc(), &mut source), (read, 1))?;
     }
+    Ok(())
 }
 
 /// An output that takes at most so many bytes a call, and so many in all. A full stop it refuses, by this cause.
@@ -413,7 +422,7 @@ impl Print for SmallOutput {
 }
 
 #[test]
-fn a_write_that_takes_nothing_is_a_fault(rt: HostRuntime) {
+fn a_write_that_takes_nothing_is_a_fault(rt: HostRuntime) -> Result<(), Fail> {
     let output = SmallOutput {
         a_call: 1,
         room: Cell::new(4),
@@ -426,8 +435,9 @@ fn a_write_that_takes_nothing_is_a_fault(rt: HostRuntime) {
         ("", Ok(())),
     ];
     let mut sink = StdoutSink::new(&output);
-    assert_eq!(rt; first_other_push(&mut sink, &rows), 4);
-    assert_eq!(rt; output.room.get(), 0);
+    equal(first_other_push(&mut sink, &rows), 4)?;
+    equal(output.room.get(), 0)?;
+    Ok(())
 }
 
 /// Whether a push that the output refuses by this cause is a fault.
@@ -467,20 +477,21 @@ fn pushed(alloc: Global, length: usize) -> Option<(Result<usize, Failed>, usize)
 }
 
 #[test]
-fn an_output_that_takes_all_is_given_a_long_piece_whole(rt: HostRuntime) {
+fn an_output_that_takes_all_is_given_a_long_piece_whole(rt: HostRuntime) -> Result<(), Fail> {
     for length in LENGTHS {
-        assert_eq!(rt;
+        equal_in(
+            length,
             pushed(rt.alloc(), length),
             Some((Ok(length), length)),
-            "{length}"
-        );
+        )?;
     }
+    Ok(())
 }
 
 #[test]
 fn standard_output_takes_a_long_text(rt: HostRuntime) -> Result<(), Fail> {
     let text = vec![in rt.alloc(); b'l'; 5_000]?;
     let mut sink = StdoutSink::new(&rt);
-    assert_eq!(rt; write_whole(&mut sink, &text), Ok(()));
+    equal(write_whole(&mut sink, &text), Ok(()))?;
     Ok(())
 }

@@ -1,6 +1,8 @@
 //! What no clause says: how runs end where there is memory, on words, files and frames that were written by hand.
 use auction_file::AuctionFault;
+use expected_values::equal_in;
 use house_run::{Ended, File};
+use std::test::Fail;
 
 // What the others stand on: auction files; words, files and sinks; journals; links, doors and nets; the call of a run.
 mod auctions;
@@ -37,7 +39,7 @@ fn number_of(ended: &Ended) -> u8 {
 }
 
 #[test]
-fn ends_have_their_numbers(rt: HostRuntime) {
+fn ends_have_their_numbers(rt: HostRuntime) -> Result<(), Fail> {
     for (ended, status) in [
         (Ended::Done, 0),
         (Ended::NoMemory, 1),
@@ -87,6 +89,7 @@ fn ends_have_their_numbers(rt: HostRuntime) {
             25,
         ),
     ] {
-        assert_eq!(rt; number_of(&ended), status, "{ended:?}");
+        equal_in(&ended, number_of(&ended), status)?;
     }
+    Ok(())
 }

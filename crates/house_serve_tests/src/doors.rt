@@ -4,11 +4,13 @@ use crate::tests::{
     sure_link,
 };
 use auction_file::Auction;
+use expected_values::equal;
 use house_io::{Door, ListDoor, ListLink, SureDoor, SureLink};
 use house_serve::{SessionEnd, serve_door};
 use session::ListHall;
 use std::alloc::Global;
 use std::sync::Wait;
+use std::test::Fail;
 
 /// A session to its end, and one that stops after its first frame.
 fn sure_links(alloc: Global) -> Option<Vec<SureLink>> {
@@ -165,9 +167,10 @@ fn is_quit(end: &SessionEnd) -> bool {
 }
 
 #[test]
-fn a_door_serves_as_many_sessions_as_are_asked_for(rt: HostRuntime) {
-    assert_eq!(rt;
+fn a_door_serves_as_many_sessions_as_are_asked_for(rt: HostRuntime) -> Result<(), Fail> {
+    equal(
         serves_many(&rt, rt.alloc(), 1_001),
-        Some((false, 1_001, true))
-    );
+        Some((false, 1_001, true)),
+    )?;
+    Ok(())
 }

@@ -3,11 +3,13 @@ use crate::tests::{BYE, HELLO, QUIT, REPORT, TAKEN, WELCOME, auction, is_written
 use auction_file::Auction;
 use clock_book::ClockBook;
 use clock_family::{House, NotOpen};
+use expected_values::equal;
 use house_io::{SureDisk, SureDoor, SureLink};
 use house_serve::{DoorLog, NotServed, Served, SessionEnd, serve};
 use lot_base::Phase;
 use std::alloc::Global;
 use std::sync::Wait;
+use std::test::Fail;
 use std::thread::Threads;
 
 /// Bidder 1 wants the unit, and says so to the clock of all and to that without bidder 2.
@@ -179,6 +181,7 @@ fn outcome<T: Threads + Wait + Sync>(rt: &T, alloc: Global) -> Option<(bool, usi
 }
 
 #[test]
-fn a_house_is_served_at_two_doors_and_closed(rt: HostRuntime) {
-    assert_eq!(rt; outcome(&rt, rt.alloc()), Some((true, 3, true)));
+fn a_house_is_served_at_two_doors_and_closed(rt: HostRuntime) -> Result<(), Fail> {
+    equal(outcome(&rt, rt.alloc()), Some((true, 3, true)))?;
+    Ok(())
 }

@@ -1,5 +1,6 @@
 //! Sessions over links in memory, and the doors at which they come in.
 use auction_file::{Auction, MOST_BYTES, read};
+use expected_values::equal;
 use house_io::{Link, ListLink, SureLink};
 use house_serve::{SessionEnd, serve_hall};
 use report_wire::{WireFault, WireKind};
@@ -7,6 +8,7 @@ use session::ListHall;
 use std::alloc::Global;
 use std::process::Abort;
 use std::sync::Wait;
+use std::test::Fail;
 
 /// One unit of one good for two bidders, whose tokens are `abc` and `hello`.
 const FILE: &str = r#"
@@ -316,10 +318,11 @@ fn talks_long<T: Wait>(rt: &T, alloc: Global, reports: u32) -> Option<(SessionEn
 
 /// A report has 15 bytes, so that 2,100,000 come. Each is answered by ten.
 #[test]
-fn a_session_of_two_million_bytes_is_answered(rt: HostRuntime) {
+fn a_session_of_two_million_bytes_is_answered(rt: HostRuntime) -> Result<(), Fail> {
     let answered = WELCOME.len() + 10 * 140_000 + BYE.len();
-    assert_eq!(rt;
+    equal(
         talks_long(&rt, rt.alloc(), 140_000),
-        Some((SessionEnd::Quit, answered))
-    );
+        Some((SessionEnd::Quit, answered)),
+    )?;
+    Ok(())
 }

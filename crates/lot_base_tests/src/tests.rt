@@ -1,4 +1,5 @@
 //! The limits at their edges, and each call once.
+use expected_values::equal;
 use lot_base::{
     Bundle, GoodSet, Goods, GoodsFault, Prices, Sequence, Terms, TermsFault, compare, cost,
     quantity_in,
@@ -7,7 +8,7 @@ use std::cmp::Ordering;
 use std::test::Fail;
 
 #[test]
-fn supplies_at_their_limits(rt: HostRuntime) {
+fn supplies_at_their_limits(rt: HostRuntime) -> Result<(), Fail> {
     let cases: [(&[u16], Option<GoodsFault>); 13] = [
         (&[], Some(GoodsFault::NoGoods)),
         (&[1], None),
@@ -27,8 +28,9 @@ fn supplies_at_their_limits(rt: HostRuntime) {
         ),
     ];
     for (supply, fault) in cases {
-        assert_eq!(rt; Goods::new(supply).err(), fault);
+        equal(Goods::new(supply).err(), fault)?;
     }
+    Ok(())
 }
 
 #[test]
@@ -45,7 +47,7 @@ fn terms_at_their_limits(rt: HostRuntime) -> Result<(), Fail> {
         (13, 10_001, Some(TermsFault::Bidders(13))),
     ];
     for (bidders, ceiling, fault) in cases {
-        assert_eq!(rt; Terms::new(goods, bidders, ceiling).err(), fault);
+        equal(Terms::new(goods, bidders, ceiling).err(), fault)?;
     }
     Ok(())
 }
@@ -78,32 +80,33 @@ fn openings_at_their_limits(rt: HostRuntime) -> Result<(), Fail> {
         (13, 1, [11, 10], Some(TermsFault::Bidders(13))),
     ];
     for (bidders, ceiling, opening, fault) in cases {
-        assert_eq!(rt; opening_fault(bidders, ceiling, opening)?, fault);
+        equal(opening_fault(bidders, ceiling, opening)?, fault)?;
     }
     Ok(())
 }
 
 #[test]
-fn one_to_six_numbers_are_read(rt: HostRuntime) {
+fn one_to_six_numbers_are_read(rt: HostRuntime) -> Result<(), Fail> {
     for (length, count) in [(0, None), (1, Some(1)), (6, Some(6)), (7, None)] {
         let quantities = [9u16; 7];
         let prices = [9u32; 7];
-        assert_eq!(rt;
+        equal(
             Bundle::read(&quantities[..length]).map(|x| x.count()),
-            count
-        );
-        assert_eq!(rt; Prices::read(&prices[..length]).map(|p| p.count()), count);
+            count,
+        )?;
+        equal(Prices::read(&prices[..length]).map(|p| p.count()), count)?;
     }
+    Ok(())
 }
 
 #[test]
 fn goods_tell_their_supply(rt: HostRuntime) -> Result<(), Fail> {
     let goods = Goods::new(&[1, 20, 30])?;
-    assert_eq!(rt; goods.count(), 3);
-    assert_eq!(rt; goods.supply(1), 20);
-    assert_eq!(rt; goods.units(GoodSet(5)), 31);
-    assert_eq!(rt; goods.set_count(), 8);
-    assert_eq!(rt; goods.box_size(), 1302);
+    equal(goods.count(), 3)?;
+    equal(goods.supply(1), 20)?;
+    equal(goods.units(GoodSet(5)), 31)?;
+    equal(goods.set_count(), 8)?;
+    equal(goods.box_size(), 1302)?;
     Ok(())
 }
 
@@ -114,10 +117,10 @@ fn bundles_of_a_small_box_in_order(rt: HostRuntime) -> Result<(), Fail> {
     for (place, quantities) in all.iter().enumerate() {
         let x = Bundle::read(quantities).expect(&rt, "two quantities");
         assert!(rt; goods.fits(&x));
-        assert_eq!(rt; goods.index(&x), place as u32);
+        equal(goods.index(&x), place as u32)?;
         assert!(rt; (place as u32) < goods.box_size());
         let found = goods.bundle(place as u32);
-        assert_eq!(rt; compare(&found, &x), Ordering::Equal);
+        equal(compare(&found, &x), Ordering::Equal)?;
     }
     Ok(())
 }
@@ -125,13 +128,13 @@ fn bundles_of_a_small_box_in_order(rt: HostRuntime) -> Result<(), Fail> {
 #[test]
 fn places_of_a_full_box(rt: HostRuntime) -> Result<(), Fail> {
     let goods = Goods::new(&[3, 3, 3, 3, 3, 1])?;
-    assert_eq!(rt; goods.box_size(), 2048);
+    equal(goods.box_size(), 2048)?;
     let mut before: Option<Bundle> = None;
     for place in 0..goods.box_size() {
         let x = goods.bundle(place);
-        assert_eq!(rt; goods.index(&x), place);
+        equal(goods.index(&x), place)?;
         if let Some(y) = before {
-            assert_eq!(rt; compare(&y, &x), Ordering::Less);
+            equal(compare(&y, &x), Ordering::Less)?;
         }
         before = Some(x);
     }
@@ -150,25 +153,23 @@ fn bundles_that_fit(rt: HostRuntime) -> Result<(), Fail> {
         (&[1, 2, 0], false),
     ];
     for (quantities, fits) in cases {
-        assert_eq!(rt;
-            Bundle::read(quantities).map(|x| goods.fits(&x)),
-            Some(fits)
-        );
+        equal(Bundle::read(quantities).map(|x| goods.fits(&x)), Some(fits))?;
     }
     Ok(())
 }
 
 #[test]
-fn units_of_a_set(rt: HostRuntime) {
+fn units_of_a_set(rt: HostRuntime) -> Result<(), Fail> {
     let x = Bundle::read(&[1, 20, 300]).expect(&rt, "three quantities");
     for (set, units) in [(0, 0), (1, 1), (2, 20), (5, 301), (7, 321), (255, 321)] {
-        assert_eq!(rt; quantity_in(&x, GoodSet(set)), units);
+        equal(quantity_in(&x, GoodSet(set)), units)?;
     }
-    assert_eq!(rt; x.quantity(2), 300);
+    equal(x.quantity(2), 300)?;
+    Ok(())
 }
 
 #[test]
-fn good_0_decides_first(rt: HostRuntime) {
+fn good_0_decides_first(rt: HostRuntime) -> Result<(), Fail> {
     let cases = [
         ([0, 9], [1, 0], Ordering::Less),
         ([1, 0], [1, 0], Ordering::Equal),
@@ -177,12 +178,13 @@ fn good_0_decides_first(rt: HostRuntime) {
     for (first, second, order) in cases {
         let x = Bundle::read(&first).expect(&rt, "two quantities");
         let y = Bundle::read(&second).expect(&rt, "two quantities");
-        assert_eq!(rt; compare(&x, &y), order);
+        equal(compare(&x, &y), order)?;
     }
+    Ok(())
 }
 
 #[test]
-fn costs(rt: HostRuntime) {
+fn costs(rt: HostRuntime) -> Result<(), Fail> {
     let cases: [(&[u32], &[u16], u64); 3] = [
         (&[2, 3], &[1, 2], 8),
         (&[5, 0, 7], &[0, 9, 1], 7),
@@ -191,22 +193,23 @@ fn costs(rt: HostRuntime) {
     for (prices, quantities, total) in cases {
         let p = Prices::read(prices).expect(&rt, "one to six prices");
         let x = Bundle::read(quantities).expect(&rt, "one to six quantities");
-        assert_eq!(rt; cost(&p, &x), total);
+        equal(cost(&p, &x), total)?;
     }
+    Ok(())
 }
 
 #[test]
 fn prices_rise_on_a_set(rt: HostRuntime) -> Result<(), Fail> {
     let goods = Goods::new(&[1, 1, 1])?;
     let p = Prices::zero(&goods).raise(GoodSet(5));
-    assert_eq!(rt; [p.get(0), p.get(1), p.get(2)], [1, 0, 1]);
+    equal([p.get(0), p.get(1), p.get(2)], [1, 0, 1])?;
     Ok(())
 }
 
 #[test]
 fn a_sequence_gives_back_its_elements(rt: HostRuntime) -> Result<(), Fail> {
     let steps = Sequence::from_vec([6u32, 3, 4, 4].to_vec(rt.alloc())?);
-    assert_eq!(rt; steps.as_slice(), [6u32, 3, 4, 4].as_slice());
-    assert_eq!(rt; steps.into_vec().as_slice(), [6u32, 3, 4, 4].as_slice());
+    equal(steps.as_slice(), [6u32, 3, 4, 4].as_slice())?;
+    equal(steps.into_vec().as_slice(), [6u32, 3, 4, 4].as_slice())?;
     Ok(())
 }

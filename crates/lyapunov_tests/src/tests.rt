@@ -1,6 +1,7 @@
 ghost use Rattle.std.specs.Prelude.{◌≤◌};
 ghost use Rattle.lyapunov.specs.Excesses.{IsSmall};
 
+use expected_values::equal;
 use lot_base::{Goods, LeastTable};
 use lyapunov::{add_table, excess, opening};
 use std::test::Fail;
@@ -23,7 +24,7 @@ fn table(first: u16, second: u16, both: u16) -> LeastTable
 fn a_set_that_nobody_demands_lacks_its_supply(rt: HostRuntime) -> Result<(), Fail> {
     let goods = Goods::new(&[2, 3])?;
     let excess = opening(&goods);
-    assert_eq!(rt; &excess.0[..5], [0, -2, -3, -5, 0].as_slice());
+    equal(&excess.0[..5], [0, -2, -3, -5, 0].as_slice())?;
     Ok(())
 }
 
@@ -32,7 +33,7 @@ fn each_table_counts_once(rt: HostRuntime) -> Result<(), Fail> {
     let goods = Goods::new(&[1, 1])?;
     let tables = [table(1, 0, 1), table(0, 1, 2)];
     let excess = excess(&goods, &tables);
-    assert_eq!(rt; &excess.0[..5], [0, 0, 0, 1, 0].as_slice());
+    equal(&excess.0[..5], [0, 0, 0, 1, 0].as_slice())?;
     Ok(())
 }
 
@@ -41,6 +42,6 @@ fn a_table_is_added_at_the_sets_of_the_goods(rt: HostRuntime) -> Result<(), Fail
     let goods = Goods::new(&[4])?;
     let mut excess = opening(&goods);
     add_table(&goods, &mut excess, &table(6, 9, 9));
-    assert_eq!(rt; &excess.0[..4], [0, 2, 0, 0].as_slice());
+    equal(&excess.0[..4], [0, 2, 0, 0].as_slice())?;
     Ok(())
 }

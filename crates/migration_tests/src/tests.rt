@@ -6,6 +6,7 @@ ghost use Rattle.migration_tests.specs.Sellers.{AreClocksOf};
 
 use clock::Clock;
 use clock_book::{OpenFault, read_clock};
+use expected_values::equal;
 use house_io::ListDisk;
 use lot_base::{Goods, Terms};
 use migration::{MoveFault, move_journals};
@@ -223,9 +224,9 @@ fn a_move_gives_each_target_its_reports(rt: HostRuntime) -> Result<(), Fail> {
     let all = seller_of(alloc, &lines, &[report(2, 1, 1)])?;
     let done = stopped_at(alloc, &all, 1_000)?;
     assert!(rt; done.is_done());
-    assert_eq!(rt; shown(alloc, &all, &done, 0)?, (3, 2));
-    assert_eq!(rt; shown(alloc, &all, &done, 1)?, (1, 1));
-    assert_eq!(rt; shown(alloc, &all, &done, 2)?, (0, 1));
+    equal(shown(alloc, &all, &done, 0)?, (3, 2))?;
+    equal(shown(alloc, &all, &done, 1)?, (1, 1))?;
+    equal(shown(alloc, &all, &done, 2)?, (0, 1))?;
     let again = moved_on(alloc, &all, &done)?;
     assert!(rt; again.is_done() && are_alike(&done, &again)?);
     let fewer = seller_of(alloc, &lines[..2], &[])?;
@@ -253,7 +254,7 @@ fn a_move_that_was_stopped_goes_on(rt: HostRuntime) -> Result<(), Fail> {
     ];
     for (failing, fault) in table {
         let stopped = stopped_at(alloc, &all, failing)?;
-        assert_eq!(rt; stopped.answer, Err(fault));
+        equal(stopped.answer, Err(fault))?;
         let rest = moved_on(alloc, &all, &stopped)?;
         assert!(rt; rest.is_done() && are_alike(&done, &rest)?);
     }
@@ -267,13 +268,13 @@ fn targets_of_other_reports_are_refused(rt: HostRuntime) -> Result<(), Fail> {
     let other = seller_of(alloc, &[report(1, 1, 1)], &[])?;
     let before = stopped_at(alloc, &other, 1_000)?;
     let after = moved_on(alloc, &all, &before)?;
-    assert_eq!(rt;
+    equal(
         after.answer,
         Err(MoveFault::NotFront {
             clock: 0,
-            number: 1
-        })
-    );
+            number: 1,
+        }),
+    )?;
     assert!(rt; are_alike(&before, &after)?);
     Ok(())
 }

@@ -4,6 +4,7 @@ ghost use Rattle.std.specs.List.{AllByRecursion};
 ghost use Rattle.clock.specs.Reports.{ClockHistory, histories};
 
 use clock::Clock;
+use expected_values::equal;
 use lot_base::{Goods, Terms};
 use observed_demand::{Observed, observe};
 use reported_clocks::{demand_of, offer};
@@ -74,7 +75,7 @@ fn observed_rounds(alloc: Global, rounds: u32) -> Result<Observed, Fail> {
 #[test]
 fn a_clock_of_many_rounds_is_observed(rt: HostRuntime) -> Result<(), Fail> {
     let observed = observed_rounds(rt.alloc(), 10_000)?;
-    assert_eq!(rt; last_of(&observed), (10_000, Some((0, 10_000))));
+    equal(last_of(&observed), (10_000, Some((0, 10_000))))?;
     Ok(())
 }
 
@@ -99,7 +100,7 @@ fn observed_box(alloc: Global) -> Result<Observed, Fail> {
 #[test]
 fn the_largest_demand_is_observed(rt: HostRuntime) -> Result<(), Fail> {
     let observed = observed_box(rt.alloc())?;
-    assert_eq!(rt; last_of(&observed), (1, Some((0, 1))));
+    equal(last_of(&observed), (1, Some((0, 1))))?;
     Ok(())
 }
 
@@ -125,6 +126,6 @@ fn observed_clocks(rt: &impl Abort, alloc: Global) -> Result<Observed, Fail> {
 #[test]
 fn thirteen_clocks_are_observed(rt: HostRuntime) -> Result<(), Fail> {
     let observed = observed_clocks(&rt, rt.alloc())?;
-    assert_eq!(rt; last_of(&observed), (12, Some((11, 1))));
+    equal(last_of(&observed), (12, Some((11, 1))))?;
     Ok(())
 }

@@ -1,10 +1,12 @@
 //! What no clause says: that calls succeed where there is memory, and texts that were worked by hand.
 use award_assembly::Choice;
 use clock::Look;
+use expected_values::{equal, equal_in};
 use lot_base::{Bundle, Phase, Prices, Sequence};
 use outcome_text::{read_plain, write_json, write_plain, write_standing};
 use settlement::{AwardRow, ClockRow, Outcome};
 use std::alloc::Global;
+use std::test::Fail;
 use worked_auctions::outcomes::{
     FROM_FIVE, FROM_NINE, ONE_BIDDER, ONE_BIDDER_JSON, ONE_EACH, THREE_BIDDERS,
 };
@@ -75,11 +77,12 @@ const TEXTS: &[(&str, bool)] = &[
 ];
 
 #[test]
-fn texts_are_read_and_written_again(rt: HostRuntime) {
+fn texts_are_read_and_written_again(rt: HostRuntime) -> Result<(), Fail> {
     for (text, opening) in TEXTS {
         let found = is_written_again(rt.alloc(), text);
-        assert_eq!(rt; found, Some((true, *opening)), "{text}");
+        equal_in(text, found, Some((true, *opening)))?;
     }
+    Ok(())
 }
 
 /// Whether the outcome of a text is written as this line.
@@ -228,12 +231,13 @@ fn first_line_taken<'a>(alloc: Global, lines: &[&'a str]) -> Option<&'a str> {
 }
 
 #[test]
-fn other_texts_are_refused(rt: HostRuntime) {
-    assert_eq!(rt; first_taken(rt.alloc(), CHANGES), None);
-    assert_eq!(rt; first_line_taken(rt.alloc(), OPENING_LINES), None);
-    assert_eq!(rt; is_refused(rt.alloc(), b""), Some(true), "empty");
-    assert_eq!(rt; is_refused(rt.alloc(), b"\n"), Some(true), "a newline");
+fn other_texts_are_refused(rt: HostRuntime) -> Result<(), Fail> {
+    equal(first_taken(rt.alloc(), CHANGES), None)?;
+    equal(first_line_taken(rt.alloc(), OPENING_LINES), None)?;
+    equal_in("empty", is_refused(rt.alloc(), b""), Some(true))?;
+    equal_in("a newline", is_refused(rt.alloc(), b"\n"), Some(true))?;
     assert!(rt; is_no_text_refused(rt.alloc()), "no text");
+    Ok(())
 }
 
 /// Whether bytes that are no text are refused.
@@ -345,24 +349,26 @@ fn is_nothing_refused(alloc: Global, goods: usize, bidders: u8) -> Option<bool> 
 }
 
 #[test]
-fn there_are_one_to_twelve_bidders(rt: HostRuntime) {
+fn there_are_one_to_twelve_bidders(rt: HostRuntime) -> Result<(), Fail> {
     for (bidders, refused) in [(0, true), (1, false), (12, false), (13, true)] {
         for goods in 1..7 {
             let found = is_nothing_refused(rt.alloc(), goods, bidders);
-            assert_eq!(rt; found, Some(refused), "{goods} goods, {bidders} bidders");
+            equal_in((goods, bidders), found, Some(refused))?;
         }
     }
+    Ok(())
 }
 
 /// Goods, bidders, and the bytes of the JSON in which nothing of these is sold.
 const LENGTHS: &[(usize, u8, usize)] = &[(1, 1, 238), (1, 12, 5119), (6, 1, 298), (6, 12, 6829)];
 
 #[test]
-fn json_holds_twelve_bidders_and_six_goods(rt: HostRuntime) {
+fn json_holds_twelve_bidders_and_six_goods(rt: HostRuntime) -> Result<(), Fail> {
     for (goods, bidders, bytes) in LENGTHS {
         let found = json_length(rt.alloc(), *goods, *bidders);
-        assert_eq!(rt; found, Some(*bytes), "{goods} goods, {bidders} bidders");
+        equal_in((goods, bidders), found, Some(*bytes))?;
     }
+    Ok(())
 }
 
 /// How a clock stands: its round, its phase, its prices, and the line that tells this.

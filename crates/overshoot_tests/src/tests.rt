@@ -1,4 +1,5 @@
 //! What no clause says: that calls succeed where there is memory, and clocks and demands that were worked by hand.
+use expected_values::{equal, equal_in};
 use lot_base::{Goods, Prices, Terms};
 use overshoot::{Explained, SetVerdict, exchange, explain, greatest};
 use reported_clocks::{clock_of, demand_of};
@@ -243,7 +244,7 @@ const LAST_OF_TWELVE: &[Told] = &[
 fn terms_of(rt: &impl Abort, case: &Case) -> Result<Terms, Fail> {
     let goods = Goods::new(case.supply)?;
     let opening = Prices::read(case.opening).ok_or("opening")?;
-    assert_eq!(rt; opening.count(), goods.count());
+    equal(opening.count(), goods.count())?;
     Ok(Terms::with_opening(goods, case.bidders, case.ceiling, opening)?)
 }
 
@@ -270,9 +271,9 @@ fn check_case(rt: &(impl AllocGlobal + Abort), case: &Case) -> Result<(), Fail> 
     assert!(rt; case.clock <= terms.bidders);
     let clock = clock_of(rt.alloc(), &terms, case.clock, case.reports)?;
     let line = line_of(rt.alloc(), &explain(rt.alloc(), &terms, &clock)?)?;
-    assert_eq!(rt; line.as_str(), case.line, "{}", case.story);
+    equal_in(case.story, line.as_str(), case.line)?;
     let (set, short) = greatest(&terms, &clock);
-    assert_eq!(rt; (set.0, short), case.most_short, "{}", case.story);
+    equal_in(case.story, (set.0, short), case.most_short)?;
     Ok(())
 }
 
@@ -360,7 +361,7 @@ fn check_verdict(rt: &(impl AllocGlobal + Abort), listed: &Listed) -> Result<(),
     let goods = Goods::new(supply)?;
     let demand = demand_of(rt.alloc(), &goods, quantities)?;
     let told = words_of(rt.alloc(), &exchange(rt.alloc(), &goods, &demand)?)?;
-    assert_eq!(rt; told.as_str(), words, "{quantities:?}");
+    equal_in(quantities, told.as_str(), words)?;
     Ok(())
 }
 

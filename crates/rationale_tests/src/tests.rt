@@ -6,6 +6,7 @@ ghost use Rattle.lot_base.specs.declared.limits.TheConstants.{GREATEST_CEILING};
 ghost use Rattle.rationale.specs.declared.limits.TheConstants.{MOST_OBSERVATIONS};
 
 use demand_set::Demand;
+use expected_values::{equal, equal_in};
 use lot_base::limits::GREATEST_CEILING;
 use lot_base::{Goods, Prices};
 use rationale::{Decision, Link, MOST_OBSERVATIONS, Rationale};
@@ -117,7 +118,7 @@ fn read(rt: &impl Abort, alloc: Global, goods: &Goods, quantities: &[u16]) -> Re
 {
     let count = goods.count();
     assert!(rt; count >= 1 && count <= 6);
-    assert_eq!(rt; quantities.len() % count as usize, 0);
+    equal(quantities.len() % count as usize, 0)?;
     Ok(Demand::read_quantities(alloc, goods, count, quantities)?)
 }
 
@@ -127,7 +128,7 @@ fn prices_of(rt: &impl Abort, goods: &Goods, prices: &[u32]) -> Result<Prices, F
     ensures low { IfOk result (λ p. AllByRecursion (λ price. price ≤ GREATEST_CEILING) p) }
 {
     let prices = Prices::read(prices).ok_or("prices")?;
-    assert_eq!(rt; prices.count(), goods.count());
+    equal(prices.count(), goods.count())?;
     match prices.first_from(GREATEST_CEILING + 1) {
         Some(_) => Err("price".into()),
         None => Ok(prices),
@@ -151,7 +152,7 @@ fn add(
     let prices = prices_of(rt, goods, seen.0)?;
     let demand = read(rt, alloc, goods, seen.1)?;
     match rationale.add(alloc, &prices, demand) {
-        Ok(told) => assert_eq!(rt; told, number),
+        Ok(told) => equal(told, number)?,
         Err(_) => return Err("memory".into()),
     }
     Ok(())
@@ -206,7 +207,7 @@ fn observations_are_decided(rt: HostRuntime) -> Result<(), Fail> {
     for case in CASES {
         let rationale = rationale_of(&rt, rt.alloc(), case.supply, case.seen)?;
         let line = line_of(rt.alloc(), &rationale.decide(rt.alloc())?)?;
-        assert_eq!(rt; line.as_str(), case.line, "{}", case.story);
+        equal_in(case.story, line.as_str(), case.line)?;
     }
     Ok(())
 }
@@ -240,12 +241,12 @@ fn the_largest_box_is_decided(rt: HostRuntime) -> Result<(), Fail> {
     let free: &[Seen] = &[(&[0], &all)];
     let rationale = rationale_of(&rt, rt.alloc(), &[2047], free)?;
     let told = extremes(&rationale.decide(rt.alloc())?);
-    assert_eq!(rt; told, Some((0, 0)));
+    equal(told, Some((0, 0)))?;
 
     let dear: &[Seen] = &[(&[10_000], &[2047]), (&[0], &[2047])];
     let rationale = rationale_of(&rt, rt.alloc(), &[2047], dear)?;
     let told = extremes(&rationale.decide(rt.alloc())?);
-    assert_eq!(rt; told, Some((20_470_001, 0)));
+    equal(told, Some((20_470_001, 0)))?;
     Ok(())
 }
 
@@ -266,11 +267,11 @@ fn the_most_observations_are_decided(rt: HostRuntime) -> Result<(), Fail> {
     let goods = Goods::new(&[1])?;
     let mut rationale = long_rationale(&rt, rt.alloc(), &goods)?;
     let line = line_of(rt.alloc(), &rationale.decide(rt.alloc())?)?;
-    assert_eq!(rt; line.as_str(), "values 0 6");
+    equal(line.as_str(), "values 0 6")?;
 
     let last: Seen = (&[5], &[0]);
     add(&rt, rt.alloc(), &mut rationale, &goods, &last, 1_000_000)?;
     let line = line_of(rt.alloc(), &rationale.decide(rt.alloc())?)?;
-    assert_eq!(rt; line.as_str(), "links 2/1 x [1] y [0]/1000000 x [0] y [1]/");
+    equal(line.as_str(), "links 2/1 x [1] y [0]/1000000 x [0] y [1]/")?;
     Ok(())
 }

@@ -1,8 +1,10 @@
 //! Journals that were written by hand, and what they are read as.
+use expected_values::{equal, equal_in};
 use house_io::{Disk, ListDisk, SureDisk};
 use lot_base::{Goods, Prices, Terms};
 use recovery::{Broken, JournalCause, Next, RecoverFault, Recovered, Reports, read_reports};
 use std::alloc::Global;
+use std::test::Fail;
 
 /// The file of clock 0's journal of version 1 with one record: bidder 1 reports in round 1 two units of the one good.
 const FILE: [u8; 57] = [
@@ -105,32 +107,31 @@ fn found_of_cut(alloc: Global, gate: u8, length: usize) -> Option<Found> {
 }
 
 #[test]
-fn each_cut_of_an_open_record_is_damaged(rt: HostRuntime) {
-    assert_eq!(rt; found_of_cut(rt.alloc(), 0xa5, 57), Some(reports(1)));
+fn each_cut_of_an_open_record_is_damaged(rt: HostRuntime) -> Result<(), Fail> {
+    equal(found_of_cut(rt.alloc(), 0xa5, 57), Some(reports(1)))?;
     for length in 42..57 {
         let found = found_of_cut(rt.alloc(), 0xa5, length);
-        assert_eq!(rt;
-            found,
-            Some(broken(0, 1, JournalCause::Damaged)),
-            "cut to {length}"
-        );
+        equal_in(length, found, Some(broken(0, 1, JournalCause::Damaged)))?;
     }
+    Ok(())
 }
 
 #[test]
-fn each_cut_of_a_closed_record_is_none(rt: HostRuntime) {
+fn each_cut_of_a_closed_record_is_none(rt: HostRuntime) -> Result<(), Fail> {
     for length in 42..58 {
         let found = found_of_cut(rt.alloc(), 0, length);
-        assert_eq!(rt; found, Some(reports(0)), "cut to {length}");
+        equal_in(length, found, Some(reports(0)))?;
     }
+    Ok(())
 }
 
 #[test]
-fn each_shorter_file_is_unformed(rt: HostRuntime) {
+fn each_shorter_file_is_unformed(rt: HostRuntime) -> Result<(), Fail> {
     for length in 0..42 {
         let found = found_of_cut(rt.alloc(), 0xa5, length);
-        assert_eq!(rt; found, Some(reports(0)), "cut to {length}");
+        equal_in(length, found, Some(reports(0)))?;
     }
+    Ok(())
 }
 
 /// The bytes of the pieces, one piece after the other.
@@ -198,40 +199,42 @@ fn header(cause: JournalCause) -> Found {
 }
 
 #[test]
-fn a_header_is_broken_for_its_first_cause(rt: HostRuntime) {
+fn a_header_is_broken_for_its_first_cause(rt: HostRuntime) -> Result<(), Fail> {
     for (version, clock, digest, found) in [
         (3, 3, 9, header(JournalCause::Damaged)),
         (1, 3, 9, header(JournalCause::OtherClock(3))),
         (1, 0, 9, header(JournalCause::OtherAuction([9; 32]))),
         (1, 0, 7, reports(0)),
     ] {
-        assert_eq!(rt;
+        equal_in(
+            (version, clock, digest),
             found_plain(rt.alloc(), version, clock, digest),
             Some(found),
-            "version {version}, clock {clock}, digest {digest}"
-        );
+        )?;
     }
+    Ok(())
 }
 
 #[test]
-fn a_header_with_an_opening_is_of_another_version(rt: HostRuntime) {
+fn a_header_with_an_opening_is_of_another_version(rt: HostRuntime) -> Result<(), Fail> {
     for (clock, digest, found) in [
         (3, 9, header(JournalCause::OtherClock(3))),
         (0, 9, header(JournalCause::OtherAuction([9; 32]))),
         (0, 7, header(JournalCause::OtherVersion(2))),
     ] {
-        assert_eq!(rt;
+        equal_in(
+            (clock, digest),
             found_opened(rt.alloc(), clock, digest, &[5]),
             Some(found),
-            "clock {clock}, digest {digest}"
-        );
+        )?;
     }
     let old = found_in_priced(rt.alloc(), &FILE);
-    assert_eq!(rt; old, Some(header(JournalCause::OtherVersion(1))));
+    equal(old, Some(header(JournalCause::OtherVersion(1))))?;
+    Ok(())
 }
 
 #[test]
-fn an_opening_is_compared_good_by_good(rt: HostRuntime) {
+fn an_opening_is_compared_good_by_good(rt: HostRuntime) -> Result<(), Fail> {
     for (digest, opening, found) in [
         (7, [5].as_slice(), reports(0)),
         (7, [6].as_slice(), header(JournalCause::OtherOpening(0))),
@@ -242,12 +245,13 @@ fn an_opening_is_compared_good_by_good(rt: HostRuntime) {
             header(JournalCause::OtherAuction([9; 32])),
         ),
     ] {
-        assert_eq!(rt;
+        equal_in(
+            (digest, opening),
             found_priced(rt.alloc(), 0, digest, opening),
             Some(found),
-            "digest {digest}, opening {opening:?}"
-        );
+        )?;
     }
+    Ok(())
 }
 
 /// The file with one record more, whose payload is this.
@@ -265,9 +269,9 @@ fn found_with(alloc: Global, payload: &[u8]) -> Option<Found> {
 }
 
 #[test]
-fn a_payload_is_that_of_a_report(rt: HostRuntime) {
+fn a_payload_is_that_of_a_report(rt: HostRuntime) -> Result<(), Fail> {
     let next = found_with(rt.alloc(), &[2, 0, 0, 0, 1, 1, 0, 2, 0, 0, 0, 2]);
-    assert_eq!(rt; next, Some(reports(2)));
+    equal(next, Some(reports(2)))?;
     let none = Some(broken(1, 2, JournalCause::NotReport));
     for (bidder, goods, bundles, units) in [
         (0, 1, 1, 2),
@@ -278,13 +282,14 @@ fn a_payload_is_that_of_a_report(rt: HostRuntime) {
         (2, 1, 1, 3),
     ] {
         let payload = [bidder, 0, 0, 0, 1, goods, 0, bundles, 0, units];
-        assert_eq!(rt;
+        equal_in(
+            (bidder, goods, bundles, units),
             found_with(rt.alloc(), &payload),
             none,
-            "bidder {bidder}, {goods} goods, {bundles} bundles, {units} units"
-        );
+        )?;
     }
-    assert_eq!(rt; found_with(rt.alloc(), &[]), none);
+    equal(found_with(rt.alloc(), &[]), none)?;
+    Ok(())
 }
 
 /// What the file is read as with this bidder in its record, and an open gate after it.
@@ -296,17 +301,14 @@ fn found_before_damage(alloc: Global, bidder: u8) -> Option<Found> {
 }
 
 #[test]
-fn the_first_broken_record_counts(rt: HostRuntime) {
+fn the_first_broken_record_counts(rt: HostRuntime) -> Result<(), Fail> {
     for (bidder, found) in [
         (1, broken(1, 2, JournalCause::Damaged)),
         (3, broken(0, 1, JournalCause::NotReport)),
     ] {
-        assert_eq!(rt;
-            found_before_damage(rt.alloc(), bidder),
-            Some(found),
-            "bidder {bidder}"
-        );
+        equal_in(bidder, found_before_damage(rt.alloc(), bidder), Some(found))?;
     }
+    Ok(())
 }
 
 /// A step of a reader, without the demand.
@@ -392,9 +394,10 @@ const AFTER_A_FAULT: &[Step] = &[
 ];
 
 #[test]
-fn a_reader_goes_on_after_a_fault(rt: HostRuntime) {
+fn a_reader_goes_on_after_a_fault(rt: HostRuntime) -> Result<(), Fail> {
     let other = first_other_in(rt.alloc(), &FILE, PAYLOADS, AFTER_A_FAULT);
-    assert_eq!(rt; other, Some(4));
+    equal(other, Some(4))?;
+    Ok(())
 }
 
 /// The file with a report of a bidder that there is not.
@@ -410,12 +413,10 @@ const NOT_A_REPORT: Step = Step::Broken(Broken {
 });
 
 #[test]
-fn a_broken_record_is_told_again(rt: HostRuntime) {
+fn a_broken_record_is_told_again(rt: HostRuntime) -> Result<(), Fail> {
     let steps = [NOT_A_REPORT, NOT_A_REPORT];
-    assert_eq!(rt;
-        first_other_in(rt.alloc(), &stranger(), 99, &steps),
-        Some(2)
-    );
+    equal(first_other_in(rt.alloc(), &stranger(), 99, &steps), Some(2))?;
+    Ok(())
 }
 
 /// Why the beginning fails on a disk, if it does.
@@ -434,10 +435,11 @@ fn fault_at(alloc: Global, call: u64) -> Option<Result<(), RecoverFault>> {
 }
 
 #[test]
-fn each_call_of_a_scan_may_fail(rt: HostRuntime) {
+fn each_call_of_a_scan_may_fail(rt: HostRuntime) -> Result<(), Fail> {
     let fault = Some(Err(RecoverFault::DiskFault));
     for call in 0..PAYLOADS {
-        assert_eq!(rt; fault_at(rt.alloc(), call), fault, "call {call}");
+        equal_in(call, fault_at(rt.alloc(), call), fault)?;
     }
-    assert_eq!(rt; fault_at(rt.alloc(), PAYLOADS), Some(Ok(())));
+    equal(fault_at(rt.alloc(), PAYLOADS), Some(Ok(())))?;
+    Ok(())
 }

@@ -1,6 +1,7 @@
 //! Frames and entries against bytes that were written by hand.
 ghost use Rattle.std.specs.Prelude.{◌≡◌, [], ◌∷◌, IfOk};
 
+use expected_values::{equal, equal_in};
 use lot_base::{NoMemory, Phase, Prices, RawDemand, RawReport, Sequence};
 use report_wire::{
     Feed, Frame, Reader, ToBidder, ToHouse, WireFault, WireKind, entry_to, read_entry, view_entry,
@@ -49,8 +50,8 @@ fn fault_behind(alloc: Global, bytes: &[u8]) -> Result<Option<WireFault>, Fail> 
 fn a_message_is_whole_at_its_last_byte(rt: HostRuntime) -> Result<(), Fail> {
     let mut reader = Reader::new(rt.alloc());
     let places = whole_after(rt.alloc(), &mut reader, &TALK)?;
-    assert_eq!(rt; places.as_slice(), [9, 15].as_slice());
-    assert_eq!(rt; reader.rest(), 0);
+    equal(places.as_slice(), [9, 15].as_slice())?;
+    equal(reader.rest(), 0)?;
     Ok(())
 }
 
@@ -77,7 +78,7 @@ fn a_fault_has_the_place_of_its_frame(rt: HostRuntime) -> Result<(), Fail> {
             place: 15,
             kind: *kind,
         };
-        assert_eq!(rt; fault, Some(wanted), "{bytes:?}");
+        equal_in(bytes, fault, Some(wanted))?;
     }
     Ok(())
 }
@@ -118,13 +119,13 @@ fn gives_the_price(alloc: Global, bytes: &[u8]) -> Result<bool, NoMemory> {
 #[test]
 fn a_look_comes_back_as_it_was_sent(rt: HostRuntime) -> Result<(), Fail> {
     let bytes = price(rt.alloc())?;
-    assert_eq!(rt;
+    equal(
         bytes.as_slice(),
         [
             0, 0, 0, 16, 18, 2, 0, 0, 0, 7, 2, 1, 2, 0, 0, 0, 3, 0, 0, 0, 100,
         ]
-        .as_slice()
-    );
+        .as_slice(),
+    )?;
     assert!(rt; gives_the_price(rt.alloc(), &bytes)?);
     Ok(())
 }
@@ -169,10 +170,10 @@ fn is_read(alloc: Global, payload: &[u8]) -> Result<bool, NoMemory> {
 
 #[test]
 fn an_entry_is_written_and_read(rt: HostRuntime) -> Result<(), Fail> {
-    assert_eq!(rt; entry(rt.alloc())?.as_slice(), ENTRY.as_slice());
+    equal(entry(rt.alloc())?.as_slice(), ENTRY.as_slice())?;
     let mut room = [9; 12];
-    assert_eq!(rt; entry_to(1, 1, 1, &[2], &mut room), 10);
-    assert_eq!(rt; room, [1, 0, 0, 0, 1, 1, 0, 1, 0, 2, 9, 9]);
+    equal(entry_to(1, 1, 1, &[2], &mut room), 10)?;
+    equal(room, [1, 0, 0, 0, 1, 1, 0, 1, 0, 2, 9, 9])?;
     assert!(rt; is_read(rt.alloc(), &ENTRY)?);
     for length in 0..10 {
         assert!(rt; !is_read(rt.alloc(), &ENTRY[..length])?, "cut to {length}");

@@ -6,6 +6,7 @@ ghost use Rattle.settlement.specs.Clocks.{AreClocksOf};
 
 use clock::Clock;
 use demand_set::Demand;
+use expected_values::{equal, equal_in};
 use lot_base::{Bundle, Goods, NoMemory, Phase, Prices, Terms, cost};
 use reported_clocks::{demand_of, offer};
 use settlement::laws::{credit_example, explained_example, reserve_example};
@@ -40,7 +41,7 @@ fn demand_at(
 ) -> Result<Demand, Fail>
     ensures { IfOk result (λ d. IsDemand goods.now d) }
 {
-    assert_eq!(rt; values.len(), goods.box_size() as usize);
+    equal(values.len(), goods.box_size() as usize)?;
     let mut best = 0u64;
     let mut quantities = Vec::new(alloc);
     for place in 0..goods.box_size() {
@@ -301,7 +302,7 @@ const WITH_CREDIT: Told = (
 fn opening_at(rt: &impl Abort, price: u32) -> Result<Terms, Fail> {
     let opening = Prices::read(&[price]).ok_or("opening")?;
     let goods = Goods::new(&[2])?;
-    assert_eq!(rt; opening.count(), goods.count());
+    equal(opening.count(), goods.count())?;
     Ok(Terms::with_opening(goods, 3, 100, opening)?)
 }
 
@@ -559,7 +560,7 @@ const OPENED_TOLD: Told = (
 fn first_opens_at_two(rt: &impl Abort) -> Result<Terms, Fail> {
     let opening = Prices::read(&[2, 0]).ok_or("opening")?;
     let goods = Goods::new(&[1, 1])?;
-    assert_eq!(rt; opening.count(), goods.count());
+    equal(opening.count(), goods.count())?;
     Ok(Terms::with_opening(goods, 2, 100, opening)?)
 }
 
@@ -914,7 +915,7 @@ fn clocks_that_ended_with_a_choice_have_a_row(rt: HostRuntime) -> Result<(), Fai
         ),
     ] {
         let found = has_row(rt.alloc(), supply, ceiling, reports)?;
-        assert_eq!(rt; found, has, "{story}");
+        equal_in(story, found, has)?;
     }
     Ok(())
 }

@@ -2,6 +2,7 @@
 ghost use Rattle.std.specs.Prelude.{◌≤◌};
 ghost use Rattle.trial.specs.Trials.{AreValuationsOf};
 
+use expected_values::{equal, equal_in};
 use lot_base::{Goods, Terms};
 use outcome_text::write_plain;
 use settlement::Settlement;
@@ -147,9 +148,9 @@ fn first_values(alloc: Global, number: u32) -> Result<Vec<u16>, AllocError> {
 #[test]
 fn seven_makes_its_first_bidder(rt: HostRuntime) -> Result<(), Fail> {
     let values = first_values(rt.alloc(), 7)?;
-    assert_eq!(&rt; values.len(), 60);
-    assert_eq!(&rt; &values[..6], [0, 176, 176, 197, 197, 197].as_slice());
-    assert_eq!(&rt; &values[12..14], [8, 176].as_slice());
+    equal(values.len(), 60)?;
+    equal(&values[..6], [0, 176, 176, 197, 197, 197].as_slice())?;
+    equal(&values[12..14], [8, 176].as_slice())?;
     Ok(())
 }
 
@@ -167,7 +168,7 @@ fn each_number_makes_a_market(rt: HostRuntime) -> Result<(), Fail> {
         u32::MAX,
     ] {
         let values = first_values(rt.alloc(), number)?;
-        assert_eq!(&rt; values.len(), 60, "{number}");
+        equal_in(number, values.len(), 60)?;
     }
     Ok(())
 }

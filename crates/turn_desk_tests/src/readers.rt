@@ -1,9 +1,11 @@
 //! Notes that one thread takes while another leaves them.
 use crate::tests::Notes;
+use expected_values::equal;
 use std::alloc::Global;
 use std::sync::Wait;
 use std::sync::atomic::Ordering::SeqCst;
 use std::sync::atomic::{AtomicBool, AtomicU64};
+use std::test::Fail;
 use std::thread;
 use std::thread::Threads;
 use turn_desk::{Desk, LONGEST_NOTE};
@@ -82,8 +84,9 @@ fn torn_notes<T: Threads + Wait + Sync>(rt: &T, alloc: Global) -> Option<u64> {
 }
 
 #[test]
-fn a_note_that_is_taken_is_whole(rt: HostRuntime) {
-    assert_eq!(rt; torn_notes(&rt, rt.alloc()), Some(0));
+fn a_note_that_is_taken_is_whole(rt: HostRuntime) -> Result<(), Fail> {
+    equal(torn_notes(&rt, rt.alloc()), Some(0))?;
+    Ok(())
 }
 
 /// How many notes each of two threads leaves.
@@ -109,6 +112,7 @@ fn number_behind_two<T: Threads>(rt: &T, alloc: Global) -> Option<u64> {
 }
 
 #[test]
-fn each_note_has_a_number_of_its_own(rt: HostRuntime) {
-    assert_eq!(rt; number_behind_two(&rt, rt.alloc()), Some(2 * LEFT));
+fn each_note_has_a_number_of_its_own(rt: HostRuntime) -> Result<(), Fail> {
+    equal(number_behind_two(&rt, rt.alloc()), Some(2 * LEFT))?;
+    Ok(())
 }

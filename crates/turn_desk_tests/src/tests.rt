@@ -3,6 +3,7 @@ ghost use Rattle.std.specs.Prelude.{◌≡◌, ◌≤◌, List, None, length};
 ghost use Rattle.turn_desk.specs.Histories.{GoesOn};
 ghost use Rattle.turn_desk.specs.Passes.{AreAll};
 
+use expected_values::{equal, equal_in};
 use std::alloc::Global;
 use std::sync::Wait;
 use std::test::Fail;
@@ -132,9 +133,9 @@ fn one_pass_takes_turn_after_turn(rt: HostRuntime) -> Result<(), Fail> {
     let mut notes = Notes::empty(rt.alloc());
     assert!(rt; notes.add(4) && notes.add(4));
     let (book, found) = alone(&rt, notes, rt.alloc())?;
-    assert_eq!(rt; found, 5);
-    assert_eq!(rt; book.cover, 5);
-    assert_eq!(rt; book.notes.as_slice(), [4, 4, 7, 8, 9, 10, 11].as_slice());
+    equal(found, 5)?;
+    equal(book.cover, 5)?;
+    equal(book.notes.as_slice(), [4, 4, 7, 8, 9, 10, 11].as_slice())?;
     Ok(())
 }
 
@@ -175,7 +176,7 @@ fn glances<T: Wait>(rt: &T, alloc: Global, notes: Notes) -> Result<(u64, u64, u6
 fn a_glance_tells_what_the_last_turn_left(rt: HostRuntime) -> Result<(), Fail> {
     let mut notes = Notes::empty(rt.alloc());
     assert!(rt; notes.add(4) && notes.add(4));
-    assert_eq!(rt; glances(&rt, rt.alloc(), notes)?, (2, 2, 3));
+    equal(glances(&rt, rt.alloc(), notes)?, (2, 2, 3))?;
     Ok(())
 }
 
@@ -201,16 +202,16 @@ fn hears<T: Wait>(rt: &T, alloc: Global, notes: Notes) -> Result<(u64, usize), F
 fn a_pass_that_heard_of_a_note_finds_it(rt: HostRuntime) -> Result<(), Fail> {
     let mut notes = Notes::empty(rt.alloc());
     assert!(rt; notes.add(4));
-    assert_eq!(rt; hears(&rt, rt.alloc(), notes)?, (2, 2));
+    equal(hears(&rt, rt.alloc(), notes)?, (2, 2))?;
     Ok(())
 }
 
 #[test]
 fn the_second_pass_sees_what_the_first_appended(rt: HostRuntime) -> Result<(), Fail> {
     let (before, seen, book) = one_after_the_other(&rt, rt.alloc())?;
-    assert_eq!(rt; before, 0);
-    assert_eq!(rt; seen, 1);
-    assert_eq!(rt; book.notes.as_slice(), [3].as_slice());
+    equal(before, 0)?;
+    equal(seen, 1)?;
+    equal(book.notes.as_slice(), [3].as_slice())?;
     Ok(())
 }
 
@@ -235,10 +236,10 @@ fn two_threads<T: Threads + Wait + Sync>(rt: &T, alloc: Global) -> Result<Notes,
 #[test]
 fn two_threads_write_one_history_with_every_entry_once(rt: HostRuntime) -> Result<(), Fail> {
     let book = two_threads(&rt, rt.alloc())?;
-    assert_eq!(rt; book.notes.len(), 100);
+    equal(book.notes.len(), 100)?;
     for want in 0..100 {
         let times = book.notes.iter().filter(|&&note| note == want).count();
-        assert_eq!(rt; times, 1, "at {want}");
+        equal_in(want, times, 1)?;
     }
     Ok(())
 }
@@ -299,7 +300,7 @@ fn length_behind(alloc: Global, left: u8, number: u64) -> Option<usize> {
 }
 
 #[test]
-fn a_note_is_found_by_who_stands_before_it(rt: HostRuntime) {
+fn a_note_is_found_by_who_stands_before_it(rt: HostRuntime) -> Result<(), Fail> {
     // Notes are numbered from 0, the last sixteen are kept, and one of more than 120 bytes is none.
     for (left, number, length) in [
         (0, 0, 0),
@@ -316,10 +317,11 @@ fn a_note_is_found_by_who_stands_before_it(rt: HostRuntime) {
         (20, 65_554, 0),
         (20, 4_294_967_314, 0),
     ] {
-        assert_eq!(rt;
+        equal_in(
+            (left, number),
             length_behind(rt.alloc(), left, number),
             Some(length),
-            "of {left} behind {number}"
-        );
+        )?;
     }
+    Ok(())
 }

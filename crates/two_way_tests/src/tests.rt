@@ -8,6 +8,7 @@ use crate::made::LINES;
 use award_assembly::Choice;
 use clock::Judgement;
 use demand_set::{Demand, Report};
+use expected_values::{equal, equal_in};
 use lot_base::{Goods, Prices, RawDemand, Sequence, Terms};
 use std::alloc::{AllocError, Global};
 use std::process::Abort;
@@ -236,7 +237,7 @@ fn terms_of(
 ) -> Result<Terms, Fail> {
     let goods = Goods::new(supply)?;
     let opening = Prices::read(opening).ok_or("opening")?;
-    assert_eq!(rt; opening.count(), goods.count());
+    equal(opening.count(), goods.count())?;
     Ok(Terms::with_opening(goods, bidders, ceiling, opening)?)
 }
 
@@ -245,7 +246,7 @@ fn start_of(rt: &impl Abort, terms: &Terms, prices: &[u32]) -> Result<Prices, Fa
     ensures { IfOk result (IsStart terms.now) }
 {
     let start = Prices::read(prices).ok_or("start")?;
-    assert_eq!(rt; start.count(), terms.goods.count());
+    equal(start.count(), terms.goods.count())?;
     match first_outside(terms, &start) {
         None => Ok(start),
         Some(good) => panic!(rt; "start good {good}"),
@@ -335,7 +336,7 @@ fn case_text(rt: &impl Abort, alloc: Global, case: &Case) -> Result<String, Fail
 fn auctions_float(rt: HostRuntime) -> Result<(), Fail> {
     for case in CASES {
         let text = case_text(&rt, rt.alloc(), case)?;
-        assert_eq!(rt; text.as_str(), case.text, "{}", case.story);
+        equal_in(case.story, text.as_str(), case.text)?;
     }
     Ok(())
 }
@@ -548,10 +549,10 @@ fn made_line(rt: &impl Abort, alloc: Global, number: u32) -> Result<String, Fail
 
 #[test]
 fn made_auctions_float(rt: HostRuntime) -> Result<(), Fail> {
-    assert_eq!(&rt; LINES.lines().count(), 400);
+    equal(LINES.lines().count(), 400)?;
     for (number, line) in (0..400).zip(LINES.lines()) {
         let found = made_line(&rt, rt.alloc(), number)?;
-        assert_eq!(&rt; found.as_str(), line, "{number}");
+        equal_in(number, found.as_str(), line)?;
     }
     Ok(())
 }
@@ -698,7 +699,7 @@ fn read_demand(
     let count = goods.count();
     let quantities = quantities.to_vec(alloc)?;
     assert!(rt; count >= 1 && count <= 6);
-    assert_eq!(rt; quantities.len() % count as usize, 0);
+    equal(quantities.len() % count as usize, 0)?;
     let raw = RawDemand {
         goods: count,
         quantities: Sequence::from_vec(quantities),
@@ -764,7 +765,7 @@ fn course_line(rt: &impl Abort, alloc: Global, course: &Course) -> Result<String
     for (bidder, round, quantities, words) in course.reports {
         let demand = read_demand(rt, alloc, &terms.goods, quantities)?;
         let found = offer(alloc, &mut clock, *bidder, *round, demand)?;
-        assert_eq!(rt; found.as_str(), *words, "{bidder} {round}");
+        equal_in((bidder, round), found.as_str(), *words)?;
     }
     Ok(standing_line(alloc, &clock, terms.bidders)?)
 }
@@ -773,7 +774,7 @@ fn course_line(rt: &impl Abort, alloc: Global, course: &Course) -> Result<String
 fn clocks_take_their_course(rt: HostRuntime) -> Result<(), Fail> {
     for course in COURSES {
         let line = course_line(&rt, rt.alloc(), course)?;
-        assert_eq!(&rt; line.as_str(), course.line, "{}", course.story);
+        equal_in(course.story, line.as_str(), course.line)?;
     }
     Ok(())
 }

@@ -1,5 +1,6 @@
 //! Ends without a fault of their own.
 use super::{BID, CHECK, MIGRATE, SERVE, SETTLE, TRIAL, check_names, check_text};
+use expected_values::equal;
 use house_run::{Ended, File};
 use lot_base::Goods;
 use std::process::Abort;
@@ -229,7 +230,7 @@ NEW is of version 2, with the names, supplies, tokens and ceiling of OLD, and no
 #[test]
 fn goods_that_are_no_substitutes_have_their_lines(rt: HostRuntime) -> Result<(), Fail> {
     let goods = Goods::new(&[1])?;
-    assert_eq!(rt; goods.box_size(), 2);
+    equal(goods.box_size(), 2)?;
     check_text(
         &rt,
         TRIAL,

@@ -1,6 +1,7 @@
 //! Files that are read, with their values.
 use super::*;
 use auction_file::{Auction, Name};
+use expected_values::equal;
 use lot_base::{Sequence, Terms};
 
 /// The text of `examples/spectrum/auction.toml`.
@@ -124,7 +125,7 @@ fn reads_two_bidders_for_oil(rt: HostRuntime) -> Result<(), Fail> {
     let text = format!(in rt.alloc(); "{HEAD}{GOODS}{BIDDERS}")?;
     let auction = auction_of(&rt, text.as_str());
     let found = words_of(&rt, &auction.terms)?;
-    assert_eq!(rt; found.as_str(), "1: 1 goods, 2 bundles, 2 bidders, 10, [0]");
+    equal(found.as_str(), "1: 1 goods, 2 bundles, 2 bidders, 10, [0]")?;
     assert!(rt; is_name_at(&auction.good_names, 0, 1, "oil"));
     assert!(rt; is_name_at(&auction.bidder_names, 0, 2, "ada"));
     assert!(rt; is_name_at(&auction.bidder_names, 1, 2, "bob"));
@@ -168,10 +169,10 @@ supply = 1
 fn reads_six_goods(rt: HostRuntime) -> Result<(), Fail> {
     let text = format!(in rt.alloc(); "{HEAD}{SIX_GOODS}{BIDDERS}")?;
     let found = terms_of(&rt, text.as_str())?;
-    assert_eq!(rt;
+    equal(
         found.as_str(),
-        "1: 6 goods, 64 bundles, 2 bidders, 10, [0, 0, 0, 0, 0, 0]"
-    );
+        "1: 6 goods, 64 bundles, 2 bidders, 10, [0, 0, 0, 0, 0, 0]",
+    )?;
     Ok(())
 }
 
@@ -179,19 +180,16 @@ fn reads_six_goods(rt: HostRuntime) -> Result<(), Fail> {
 fn reads_the_examples(rt: HostRuntime) -> Result<(), Fail> {
     let auction = auction_of(&rt, SPECTRUM);
     let found = words_of(&rt, &auction.terms)?;
-    assert_eq!(rt;
+    equal(
         found.as_str(),
-        "1: 3 goods, 60 bundles, 4 bidders, 1000, [0, 0, 0]"
-    );
+        "1: 3 goods, 60 bundles, 4 bidders, 1000, [0, 0, 0]",
+    )?;
     assert!(rt; is_name_at(&auction.bidder_names, 3, 4, "upland-link"));
     let of_file = "bed3ff8b108e60d7f3222e856133c405a6b89ce144c67078973472783ad47ba6";
     assert!(rt; is_digest(auction.digest, of_file));
     let auction = auction_of(&rt, RESERVES);
     let found = words_of(&rt, &auction.terms)?;
-    assert_eq!(rt;
-        found.as_str(),
-        "2: 1 goods, 3 bundles, 3 bidders, 100, [5]"
-    );
+    equal(found.as_str(), "2: 1 goods, 3 bundles, 3 bidders, 100, [5]")?;
     assert!(rt; is_name_at(&auction.bidder_names, 2, 3, "cyd"));
     let cyd = "0f52853b8c900975f88874a5c08a6eb81c2b47010c40cb9ff42ccd0b2f1d6170";
     assert!(rt; is_token_at(&auction.token_digests, 2, 3, cyd));
@@ -204,13 +202,13 @@ fn reads_the_examples(rt: HostRuntime) -> Result<(), Fail> {
 fn reads_the_openings_in_the_order_of_the_goods(rt: HostRuntime) -> Result<(), Fail> {
     let second = format!(in rt.alloc(); "{HEAD_2}{THREE_GOODS}{BIDDERS}")?;
     let found = terms_of(&rt, second.as_str())?;
-    assert_eq!(rt;
+    equal(
         found.as_str(),
-        "2: 3 goods, 24 bundles, 2 bidders, 10, [9, 0, 4]"
-    );
+        "2: 3 goods, 24 bundles, 2 bidders, 10, [9, 0, 4]",
+    )?;
     let plain = format!(in rt.alloc(); "{HEAD_2}{GOODS}{BIDDERS}")?;
     let found = terms_of(&rt, plain.as_str())?;
-    assert_eq!(rt; found.as_str(), "2: 1 goods, 2 bundles, 2 bidders, 10, [0]");
+    equal(found.as_str(), "2: 1 goods, 2 bundles, 2 bidders, 10, [0]")?;
     Ok(())
 }
 
@@ -270,7 +268,7 @@ fn keeps_what_it_is_made_of(rt: HostRuntime) -> Result<(), Fail> {
     assert!(rt; Name::read(b"oil").is_some());
     assert!(rt; Name::read(b"").is_none());
     let key = KeyText::new(String::from_str(rt.alloc(), "unit")?);
-    assert_eq!(rt; key.as_str(), "unit");
+    equal(key.as_str(), "unit")?;
     assert!(rt; matches!(AuctionFault::from(AllocError), AuctionFault::NoMemory));
     Ok(())
 }

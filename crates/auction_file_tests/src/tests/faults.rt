@@ -1,5 +1,6 @@
 //! One file for each fault at each key.
 use super::*;
+use expected_values::equal;
 
 #[test]
 fn refuses_the_keys_of_the_file(rt: HostRuntime) -> Result<(), Fail> {
@@ -249,9 +250,9 @@ fn refuses_the_keys_of_a_bidder(rt: HostRuntime) -> Result<(), Fail> {
 #[test]
 fn refuses_bytes_that_are_not_utf8(rt: HostRuntime) -> Result<(), Fail> {
     let found = answer_to(&rt, b"version = 1 # \xff\n")?;
-    assert_eq!(rt; found.as_str(), "NotToml");
+    equal(found.as_str(), "NotToml")?;
     let found = answer_to(&rt, b"")?;
-    assert_eq!(rt; found.as_str(), "Missing(Version)");
+    equal(found.as_str(), "Missing(Version)")?;
     Ok(())
 }
 

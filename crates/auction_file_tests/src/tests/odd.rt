@@ -1,10 +1,11 @@
 //! Files at the limits of the format, and spellings that are seldom seen.
 use super::*;
+use expected_values::equal;
 
 #[test]
 fn tells_keys_apart_by_their_bytes(rt: HostRuntime) -> Result<(), Fail> {
     let found = answer_to(&rt, b"\xff = 1\n")?;
-    assert_eq!(rt; found.as_str(), "NotToml");
+    equal(found.as_str(), "NotToml")?;
     check(
         &rt,
         &[
@@ -123,15 +124,15 @@ fn reads_names_and_digests_up_to_their_limits(rt: HostRuntime) -> Result<(), Fai
 
 #[test]
 fn reads_a_file_of_the_most_bytes(rt: HostRuntime) -> Result<(), Fail> {
-    assert_eq!(rt; MOST_BYTES, 65_536);
+    equal(MOST_BYTES, 65_536)?;
     let mut text = format!(in rt.alloc(); "{HEAD}{GOODS}{BIDDERS}#")?;
     for _ in 0..65_536 {
         if text.len() < 65_536 {
             text.push_str(" ")?;
         }
     }
-    assert_eq!(rt; text.len(), 65_536);
+    equal(text.len(), 65_536)?;
     let found = answer_to(&rt, text.as_bytes())?;
-    assert_eq!(rt; found.as_str(), "read");
+    equal(found.as_str(), "read")?;
     Ok(())
 }

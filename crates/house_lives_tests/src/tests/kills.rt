@@ -2,8 +2,10 @@
 use super::frames::{ADA, AGAIN_2, FAILED, SECOND};
 use super::runs::life;
 use super::shelves::{Kill, no_journals};
+use expected_values::equal;
 use std::alloc::Global;
 use std::sync::Wait;
+use std::test::Fail;
 use std::thread::Threads;
 use std::time::Clock;
 use worked_auctions::talks::TAKEN_2;
@@ -89,7 +91,8 @@ fn counts(
 
 /// An append writes the record, syncs it, opens the gate before it and syncs that. A report is there where the gate was opened.
 #[test]
-fn a_report_that_was_acknowledged_outlives_a_kill(rt: HostRuntime) {
+fn a_report_that_was_acknowledged_outlives_a_kill(rt: HostRuntime) -> Result<(), Fail> {
     let found = counts(&rt, rt.alloc());
-    assert_eq!(rt; found, Some((3, 1, 0, true)));
+    equal(found, Some((3, 1, 0, true)))?;
+    Ok(())
 }

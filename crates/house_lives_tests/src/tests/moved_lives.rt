@@ -3,8 +3,10 @@ use super::frames::{ADA, AGAIN_0, AGAIN_1, AGAIN_2, BOB};
 use super::runs::{Lived, Moved, life_on, migrated, settled, settled_on};
 use super::shelves::Kill;
 use super::three_lives::{FILLS, SETTLED, lived, was_answered};
+use expected_values::{equal, equal_in};
 use std::alloc::Global;
 use std::sync::Wait;
+use std::test::Fail;
 use std::thread::Threads;
 use std::time::Clock;
 
@@ -78,10 +80,11 @@ fn goes_well(rt: &(impl Threads + Wait + Sync + Clock), alloc: Global, fill: u8)
 }
 
 #[test]
-fn what_was_acknowledged_before_a_move_settles_behind_it(rt: HostRuntime) {
+fn what_was_acknowledged_before_a_move_settles_behind_it(rt: HostRuntime) -> Result<(), Fail> {
     for fill in FILLS {
-        assert_eq!(rt; goes_well(&rt, rt.alloc(), *fill), Some(true), "{fill}");
+        equal_in(fill, goes_well(&rt, rt.alloc(), *fill), Some(true))?;
     }
+    Ok(())
 }
 
 /// Whether a migration is stopped where it is killed so, and one after it is done and leaves these journals.
@@ -127,6 +130,7 @@ fn outlives_all(rt: &(impl Threads + Wait + Sync + Clock), alloc: Global) -> Opt
 }
 
 #[test]
-fn a_move_that_was_killed_is_done_again(rt: HostRuntime) {
-    assert_eq!(rt; outlives_all(&rt, rt.alloc()), Some(true));
+fn a_move_that_was_killed_is_done_again(rt: HostRuntime) -> Result<(), Fail> {
+    equal(outlives_all(&rt, rt.alloc()), Some(true))?;
+    Ok(())
 }

@@ -2,8 +2,10 @@
 use super::frames::{ADA, AGAIN_0, BOB, FAILED, FIRST, SECOND, TAKEN_1};
 use super::runs::{Lived, life, settled};
 use super::shelves::{Kill, no_journals};
+use expected_values::equal_in;
 use std::alloc::Global;
 use std::sync::Wait;
+use std::test::Fail;
 use std::thread::Threads;
 use std::time::Clock;
 use worked_auctions::talks::{TAKEN_0, TAKEN_2};
@@ -123,8 +125,9 @@ fn go_well(rt: &(impl Threads + Wait + Sync + Clock), alloc: Global, fill: u8) -
 pub(super) const FILLS: &[u8] = &[0x00, 0xa5, 0xff];
 
 #[test]
-fn what_was_acknowledged_in_three_lives_settles(rt: HostRuntime) {
+fn what_was_acknowledged_in_three_lives_settles(rt: HostRuntime) -> Result<(), Fail> {
     for fill in FILLS {
-        assert_eq!(rt; go_well(&rt, rt.alloc(), *fill), Some(true), "{fill}");
+        equal_in(fill, go_well(&rt, rt.alloc(), *fill), Some(true))?;
     }
+    Ok(())
 }

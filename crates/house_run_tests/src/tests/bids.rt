@@ -3,9 +3,11 @@ use super::auctions::bidder_shelf;
 use super::fixtures::{calls_from, joined};
 use super::nets::{LINK_ROOM, net_to_dial};
 use super::runs::ends_so;
+use expected_values::equal_in;
 use house_io::{ListLink, ListNet, Net, SureNet};
 use std::alloc::Global;
 use std::sync::Wait;
+use std::test::Fail;
 use std::thread::Threads;
 use std::time::Clock;
 use worked_auctions::talks::{ALL, HELLO, LOOKS, ONCE, REFUSED, REPLIES};
@@ -78,10 +80,11 @@ const CASES: &[Case] = &[
 ];
 
 #[test]
-fn bids_end_as_their_talks(rt: HostRuntime) {
+fn bids_end_as_their_talks(rt: HostRuntime) -> Result<(), Fail> {
     for case in CASES {
-        assert_eq!(rt; bids(&rt, rt.alloc(), case), Some(true), "{case:?}");
+        equal_in(case, bids(&rt, rt.alloc(), case), Some(true))?;
     }
+    Ok(())
 }
 
 /// The call of this number, if there is one.
@@ -119,9 +122,10 @@ fn tells_the_fault(
 }
 
 #[test]
-fn faults_of_the_net_are_told(rt: HostRuntime) {
+fn faults_of_the_net_are_told(rt: HostRuntime) -> Result<(), Fail> {
     for (failing_link, failing) in [(None, Some(0)), (Some(0), None), (Some(2), None)] {
         let told = tells_the_fault(&rt, rt.alloc(), failing_link, failing);
-        assert_eq!(rt; told, Some(true), "{failing_link:?} {failing:?}");
+        equal_in((failing_link, failing), told, Some(true))?;
     }
+    Ok(())
 }

@@ -2,8 +2,10 @@
 use super::auctions::{ONE_UNIT, TO_HUNDRED, TWO_GOODS, TWO_UNITS, auction_of};
 use super::fixtures::joined_text;
 use super::runs::runs_over;
+use expected_values::equal_in;
 use std::alloc::Global;
 use std::sync::Wait;
+use std::test::Fail;
 use std::thread::Threads;
 use std::time::Clock;
 use worked_auctions::valuations;
@@ -146,17 +148,19 @@ fn floats(rt: &(impl Threads + Wait + Sync + Clock), alloc: Global, row: &Row) -
 }
 
 #[test]
-fn auctions_float(rt: HostRuntime) {
+fn auctions_float(rt: HostRuntime) -> Result<(), Fail> {
     for row in ROWS {
         let told = floats(&rt, rt.alloc(), row);
-        assert_eq!(rt; told, Some(true), "{}", row.6);
+        equal_in(row.6, told, Some(true))?;
     }
+    Ok(())
 }
 
 #[test]
-fn starts_are_refused(rt: HostRuntime) {
+fn starts_are_refused(rt: HostRuntime) -> Result<(), Fail> {
     for row in NO_STARTS {
         let told = floats(&rt, rt.alloc(), row);
-        assert_eq!(rt; told, Some(true), "{}", row.6);
+        equal_in(row.6, told, Some(true))?;
     }
+    Ok(())
 }

@@ -4,11 +4,13 @@ use super::fixtures::{Named, joined, sure_shelf};
 use super::nets::{net_with_doors, written_at};
 use super::runs::{Answer, answer_of, answer_over};
 use auction_file::{MOST_BYTES, read as read_auction};
+use expected_values::equal_in;
 use house_io::{SureNet, SureShelf};
 use lot_base::{Goods, Terms};
 use report_wire::{Reader, ToHouse};
 use std::alloc::Global;
 use std::sync::Wait;
+use std::test::Fail;
 use std::thread::Threads;
 use std::time::Clock;
 use valuation::read as read_values;
@@ -320,8 +322,9 @@ fn answers(rt: &(impl Threads + Wait + Sync + Clock), alloc: Global, case: &Case
 }
 
 #[test]
-fn each_reader_answers_the_first_fault(rt: HostRuntime) {
+fn each_reader_answers_the_first_fault(rt: HostRuntime) -> Result<(), Fail> {
     for case in CASES {
-        assert_eq!(rt; answers(&rt, rt.alloc(), case), Some(true), "{case:?}");
+        equal_in(case, answers(&rt, rt.alloc(), case), Some(true))?;
     }
+    Ok(())
 }

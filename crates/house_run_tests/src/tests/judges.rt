@@ -3,8 +3,10 @@ use super::auctions::{FIRST_VERSION, ONE_UNIT, auction_of};
 use super::fixtures::{joined, named};
 use super::journals::{NAMES, Report, house_with, only};
 use super::runs::{runs_over, runs_so};
+use expected_values::equal_in;
 use std::alloc::Global;
 use std::sync::Wait;
+use std::test::Fail;
 use std::thread::Threads;
 use std::time::Clock;
 
@@ -75,11 +77,12 @@ fn is_judged(rt: &(impl Threads + Wait + Sync + Clock), alloc: Global, row: &Row
 }
 
 #[test]
-fn bidders_are_judged(rt: HostRuntime) {
+fn bidders_are_judged(rt: HostRuntime) -> Result<(), Fail> {
     for row in ROWS {
         let told = is_judged(&rt, rt.alloc(), row);
-        assert_eq!(rt; told, Some(true), "{}", row.3);
+        equal_in(row.3, told, Some(true))?;
     }
+    Ok(())
 }
 
 /// The bytes of a journal that is damaged in its header.
@@ -100,7 +103,7 @@ fn ends_over_damage(
 }
 
 #[test]
-fn the_bidder_is_looked_for_before_a_journal_is_read(rt: HostRuntime) {
+fn the_bidder_is_looked_for_before_a_journal_is_read(rt: HostRuntime) -> Result<(), Fail> {
     for (words, status, text) in [
         (["judge", "a", "j", "3"], 19, "no bidder 3\n"),
         (
@@ -110,6 +113,7 @@ fn the_bidder_is_looked_for_before_a_journal_is_read(rt: HostRuntime) {
         ),
     ] {
         let told = ends_over_damage(&rt, rt.alloc(), &words, status, text);
-        assert_eq!(rt; told, Some(true), "{text}");
+        equal_in(text, told, Some(true))?;
     }
+    Ok(())
 }

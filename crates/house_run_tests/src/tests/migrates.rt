@@ -3,10 +3,12 @@ use super::auctions::{FIRST_VERSION, ONE_UNIT, SECOND_VERSION, TWO_UNITS, auctio
 use super::fixtures::{Failing, Outside, joined, list_shelf, list_sink, named, sure_shelf};
 use super::journals::journal_of;
 use super::runs::{answer_over, ends_over, failing_status, has_kept};
+use expected_values::{equal, equal_in};
 use house_io::{ListShelf, SureShelf};
 use lot_base::Prices;
 use std::alloc::Global;
 use std::sync::Wait;
+use std::test::Fail;
 use std::thread::Threads;
 use std::time::Clock;
 
@@ -263,16 +265,17 @@ fn settles_twice(rt: &(impl Threads + Wait + Sync + Clock), alloc: Global) -> Op
 const STANDING_WORDS: &[&[&str]] = &[&["standing", "a", "j"], &["standing", "b", "t"]];
 
 #[test]
-fn journals_are_moved_once(rt: HostRuntime) {
+fn journals_are_moved_once(rt: HostRuntime) -> Result<(), Fail> {
     for words in STANDING_WORDS {
         let told = tells_standing(&rt, rt.alloc(), words);
-        assert_eq!(rt; told, Some(true), "{words:?}");
+        equal_in(words, told, Some(true))?;
     }
     let moved = [
         moves_nothing(&rt, rt.alloc()),
         settles_twice(&rt, rt.alloc()),
     ];
-    assert_eq!(rt; moved, [Some(true); 2]);
+    equal(moved, [Some(true); 2])?;
+    Ok(())
 }
 
 /// Whether a migration over files where this keeps journals from being moved ends so.
@@ -314,12 +317,13 @@ fn is_usage(rt: &(impl Threads + Wait + Sync + Clock), alloc: Global) -> Option<
 }
 
 #[test]
-fn what_can_not_be_moved_is_told(rt: HostRuntime) {
+fn what_can_not_be_moved_is_told(rt: HostRuntime) -> Result<(), Fail> {
     for (hindrance, status, line) in HINDRANCES {
         let told = is_told(&rt, rt.alloc(), *hindrance, *status, line);
-        assert_eq!(rt; told, Some(true), "{line}");
+        equal_in(line, told, Some(true))?;
     }
-    assert_eq!(rt; is_usage(&rt, rt.alloc()), Some(true));
+    equal(is_usage(&rt, rt.alloc()), Some(true))?;
+    Ok(())
 }
 
 /// A shelf of these files, where calls may fail.
@@ -438,9 +442,10 @@ const FAILING: &[(Outside, u64)] = &[
 ];
 
 #[test]
-fn a_migration_that_failed_goes_on(rt: HostRuntime) {
+fn a_migration_that_failed_goes_on(rt: HostRuntime) -> Result<(), Fail> {
     for (place, count) in FAILING {
         let done = goes_on_from_each(&rt, rt.alloc(), *place, *count);
-        assert_eq!(rt; done, Some(true), "{place:?} {count}");
+        equal_in((place, count), done, Some(true))?;
     }
+    Ok(())
 }

@@ -3,9 +3,11 @@ use super::auctions::house_shelf;
 use super::fixtures::{calls_from, joined};
 use super::nets::{net_with_doors, written_at};
 use super::runs::{answer_of, ends_so};
+use expected_values::equal;
 use house_io::{ListDoor, ListNet, SureDoor, SureNet, SureShelf};
 use std::alloc::Global;
 use std::sync::Wait;
+use std::test::Fail;
 use std::thread::Threads;
 use std::time::Clock;
 use worked_auctions::talks::{BYE, HELLO, QUIT, REPORT_0, REPORT_2, TAKEN_0, TAKEN_2, WELCOME};
@@ -151,9 +153,10 @@ fn served_and_settled(rt: &(impl Threads + Wait + Sync + Clock), alloc: Global) 
 }
 
 #[test]
-fn an_auction_is_served_and_settled(rt: HostRuntime) {
+fn an_auction_is_served_and_settled(rt: HostRuntime) -> Result<(), Fail> {
     let found = served_and_settled(&rt, rt.alloc());
-    assert_eq!(rt; found, Some((true, true, 74, true)));
+    equal(found, Some((true, true, 74, true)))?;
+    Ok(())
 }
 
 /// Whether a house on this net ends with a fault of it.
@@ -173,6 +176,7 @@ fn tells_the_fault(rt: &(impl Threads + Wait + Sync + Clock), alloc: Global) -> 
 }
 
 #[test]
-fn a_net_without_doors_is_told(rt: HostRuntime) {
-    assert_eq!(rt; tells_the_fault(&rt, rt.alloc()), Some(true));
+fn a_net_without_doors_is_told(rt: HostRuntime) -> Result<(), Fail> {
+    equal(tells_the_fault(&rt, rt.alloc()), Some(true))?;
+    Ok(())
 }

@@ -5,9 +5,11 @@ use super::journals::{
     NAMES, Report, digest_in, house_of_entries, house_with, journal_of, journal_with, only,
 };
 use super::runs::{FailingRow, ends_over, fails_so, has_kept, runs_over};
+use expected_values::{equal, equal_in};
 use house_io::SureShelf;
 use std::alloc::Global;
 use std::sync::Wait;
+use std::test::Fail;
 use std::thread::Threads;
 use std::time::Clock;
 use worked_auctions::outcomes;
@@ -105,7 +107,7 @@ fn units_end_so(
 const THREE_BIDDERS: &[&[Report]] = &[ALL, WITHOUT_FIRST, WITHOUT_SECOND, WITHOUT_THIRD];
 
 #[test]
-fn settles_two_units_among_three_bidders(rt: HostRuntime) {
+fn settles_two_units_among_three_bidders(rt: HostRuntime) -> Result<(), Fail> {
     let told = units_end_so(
         &rt,
         rt.alloc(),
@@ -115,7 +117,8 @@ fn settles_two_units_among_three_bidders(rt: HostRuntime) {
         0,
         outcomes::THREE_BIDDERS,
     );
-    assert_eq!(rt; told, Some(true));
+    equal(told, Some(true))?;
+    Ok(())
 }
 
 const ENDED: &str = "clock 0 round 7 ended prices 6
@@ -134,11 +137,12 @@ clock 3 round 1 running prices 0 missing 1
 const FIRST_FOUR: &[Report] = &[[1, 1, 2, 2], [2, 1, 2, 2], [3, 1, 2, 2], [1, 2, 2, 2]];
 
 #[test]
-fn tells_how_each_clock_stands(rt: HostRuntime) {
+fn tells_how_each_clock_stands(rt: HostRuntime) -> Result<(), Fail> {
     for (rows, text) in [(THREE_BIDDERS, ENDED), (&[FIRST_FOUR], OPENED)] {
         let told = units_end_so(&rt, rt.alloc(), STANDING, 3, rows, 0, text);
-        assert_eq!(rt; told, Some(true), "{text}");
+        equal_in(text, told, Some(true))?;
     }
+    Ok(())
 }
 
 /// The reports of one bidder's auction, who demands both units.
@@ -184,10 +188,11 @@ fn first_other(
 }
 
 #[test]
-fn takes_json_anywhere_and_once(rt: HostRuntime) {
+fn takes_json_anywhere_and_once(rt: HostRuntime) -> Result<(), Fail> {
     let others = first_other(&rt, rt.alloc(), WITH_JSON, 0, outcomes::ONE_BIDDER_JSON);
     let commands = first_other(&rt, rt.alloc(), NO_SETTLE, 2, "usage\n");
-    assert_eq!(rt; (others, commands), (None, None));
+    equal((others, commands), (None, None))?;
+    Ok(())
 }
 
 const FIRST: &[u8] = &[1, 0, 0, 0, 1, 2, 0, 2, 0, 1, 0, 0, 0, 1, 0, 1];
@@ -215,8 +220,9 @@ fn two_goods_settle(rt: &(impl Threads + Wait + Sync + Clock), alloc: Global) ->
 }
 
 #[test]
-fn settles_one_of_two_goods_each(rt: HostRuntime) {
-    assert_eq!(rt; two_goods_settle(&rt, rt.alloc()), Some(true));
+fn settles_one_of_two_goods_each(rt: HostRuntime) -> Result<(), Fail> {
+    equal(two_goods_settle(&rt, rt.alloc()), Some(true))?;
+    Ok(())
 }
 
 /// The reports of two bidders' auction, and the line of the first clock that is open.
@@ -230,11 +236,12 @@ const OPEN: &[(&[&[Report]], &str)] = &[
 ];
 
 #[test]
-fn tells_the_first_clock_that_is_open(rt: HostRuntime) {
+fn tells_the_first_clock_that_is_open(rt: HostRuntime) -> Result<(), Fail> {
     for (rows, line) in OPEN {
         let told = units_end_so(&rt, rt.alloc(), SETTLE, 2, rows, 9, line);
-        assert_eq!(rt; told, Some(true), "{line}");
+        equal_in(line, told, Some(true))?;
     }
+    Ok(())
 }
 
 const UNBEGUN: &str = "clock 0 round 1 running prices 0 missing 1
@@ -279,7 +286,7 @@ fn makes_no_file(
 }
 
 #[test]
-fn a_look_at_absent_journals_makes_no_file(rt: HostRuntime) {
+fn a_look_at_absent_journals_makes_no_file(rt: HostRuntime) -> Result<(), Fail> {
     for (words, status, text) in [
         (STANDING, 0, UNBEGUN),
         (EXPLAIN, 0, UNEXPLAINED),
@@ -287,8 +294,9 @@ fn a_look_at_absent_journals_makes_no_file(rt: HostRuntime) {
         (SETTLE, 9, "open clock 0 round 1 missing 1\n"),
     ] {
         let told = makes_no_file(&rt, rt.alloc(), words, status, text);
-        assert_eq!(rt; told, Some(true), "{text}");
+        equal_in(text, told, Some(true))?;
     }
+    Ok(())
 }
 
 /// How a journal is not that of clock 0 of the auction.
@@ -357,13 +365,14 @@ fn is_refused(
 }
 
 #[test]
-fn tells_the_record_at_which_a_journal_is_refused(rt: HostRuntime) {
+fn tells_the_record_at_which_a_journal_is_refused(rt: HostRuntime) -> Result<(), Fail> {
     for (wrong, line) in WRONG {
         for words in [SETTLE, STANDING] {
             let told = is_refused(&rt, rt.alloc(), words, *wrong, line);
-            assert_eq!(rt; told, Some(true), "{words:?}: {line}");
+            equal_in((words, line), told, Some(true))?;
         }
     }
+    Ok(())
 }
 
 /// The second file is the journal of clock 1.
@@ -387,9 +396,10 @@ fn fails_over_house(
 }
 
 #[test]
-fn tells_the_clock_whose_journal_fails(rt: HostRuntime) {
+fn tells_the_clock_whose_journal_fails(rt: HostRuntime) -> Result<(), Fail> {
     for row in FAILING {
         let told = fails_over_house(&rt, rt.alloc(), row);
-        assert_eq!(rt; told, Some(true), "{row:?}");
+        equal_in(row, told, Some(true))?;
     }
+    Ok(())
 }

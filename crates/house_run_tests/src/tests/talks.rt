@@ -2,6 +2,7 @@
 use super::auctions::{bidder_shelf, house_shelf};
 use super::runs::{Answer, answer_of, is_answer};
 use super::serves::{SETTLE, journal_length};
+use expected_values::equal;
 use house_io::{Link, Net, SureShelf, TcpNet, send_whole};
 use std::alloc::Global;
 use std::net::{OpenListener, TcpListener};
@@ -170,7 +171,7 @@ fn an_auction_goes_over_tcp(rt: HostRuntime) -> Result<(), Fail> {
     let address = free_address(&rt, rt.alloc())?;
     let found = talked_and_settled(&rt, rt.alloc(), address.as_str());
     // The header, five reports of one bundle, and the last of bob's with two.
-    assert_eq!(rt; found, Some((true, 42 + 5 * 15 + 17, true)));
+    equal(found, Some((true, 42 + 5 * 15 + 17, true)))?;
     Ok(())
 }
 
@@ -338,6 +339,6 @@ where
 fn a_cut_connection_ends_its_session_alone(rt: HostRuntime) -> Result<(), Fail> {
     let address = free_address(&rt, rt.alloc())?;
     let found = is_cut_alone(&rt, rt.alloc(), address.as_str());
-    assert_eq!(rt; found, Some([true; 4]));
+    equal(found, Some([true; 4]))?;
     Ok(())
 }

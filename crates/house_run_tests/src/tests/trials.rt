@@ -2,8 +2,10 @@
 use super::auctions::{ONE_UNIT, TO_HUNDRED, TWO_GOODS, TWO_UNITS, auction_of};
 use super::fixtures::{Outside, joined_text, named};
 use super::runs::{FailingRow, fails_so, runs_over, runs_so};
+use expected_values::{equal, equal_in};
 use std::alloc::Global;
 use std::sync::Wait;
+use std::test::Fail;
 use std::thread::Threads;
 use std::time::Clock;
 use worked_auctions::{outcomes, valuations};
@@ -108,11 +110,12 @@ const ONE_GOOD: &[Row] = &[
 ];
 
 #[test]
-fn trials_of_one_good_settle(rt: HostRuntime) {
+fn trials_of_one_good_settle(rt: HostRuntime) -> Result<(), Fail> {
     for (told, status, text) in ONE_GOOD {
         let ends = tries(&rt, rt.alloc(), told, *status, text);
-        assert_eq!(rt; ends, Some(true), "{text}");
+        equal_in(text, ends, Some(true))?;
     }
+    Ok(())
 }
 
 const BY_UNITS: &[Row] = &[
@@ -129,11 +132,12 @@ const BY_UNITS: &[Row] = &[
 ];
 
 #[test]
-fn trials_of_two_goods_settle(rt: HostRuntime) {
+fn trials_of_two_goods_settle(rt: HostRuntime) -> Result<(), Fail> {
     for (told, status, text) in BY_UNITS {
         let ends = tries(&rt, rt.alloc(), told, *status, text);
-        assert_eq!(rt; ends, Some(true), "{text}");
+        equal_in(text, ends, Some(true))?;
     }
+    Ok(())
 }
 
 /// The first bidder wants both goods or nothing, and the second one of them.
@@ -161,13 +165,14 @@ const REFUSED: &[Row] = &[
 ];
 
 #[test]
-fn trials_are_refused(rt: HostRuntime) {
+fn trials_are_refused(rt: HostRuntime) -> Result<(), Fail> {
     for (told, status, text) in REFUSED {
         let ends = tries(&rt, rt.alloc(), told, *status, text);
-        assert_eq!(rt; ends, Some(true), "{text}");
+        equal_in(text, ends, Some(true))?;
     }
     let usage = ends_over_nothing(&rt, rt.alloc(), &["trial", "a"], 2, "usage\n");
-    assert_eq!(rt; usage, Some(true));
+    equal(usage, Some(true))?;
+    Ok(())
 }
 
 const RESERVED: &[Row] = &[
@@ -194,11 +199,12 @@ const RESERVED: &[Row] = &[
 ];
 
 #[test]
-fn trials_open_at_reserves(rt: HostRuntime) {
+fn trials_open_at_reserves(rt: HostRuntime) -> Result<(), Fail> {
     for (told, status, text) in RESERVED {
         let ends = tries(&rt, rt.alloc(), told, *status, text);
-        assert_eq!(rt; ends, Some(true), "{text}");
+        equal_in(text, ends, Some(true))?;
     }
+    Ok(())
 }
 
 const MADE: &[(&[&str], u8, &str)] = &[
@@ -209,11 +215,12 @@ const MADE: &[(&[&str], u8, &str)] = &[
 ];
 
 #[test]
-fn seven_is_made_by_any_number_of_workers(rt: HostRuntime) {
+fn seven_is_made_by_any_number_of_workers(rt: HostRuntime) -> Result<(), Fail> {
     for (words, status, text) in MADE {
         let made = ends_over_nothing(&rt, rt.alloc(), words, *status, text);
-        assert_eq!(rt; made, Some(true), "{words:?}");
+        equal_in(words, made, Some(true))?;
     }
+    Ok(())
 }
 
 const BY_EIGHT: &[&str] = &["trial", "a", "v", "--workers", "8"];
@@ -256,8 +263,9 @@ fn fails_by_any(
 }
 
 #[test]
-fn failing_calls_end_trials_by_any_number_of_workers(rt: HostRuntime) {
+fn failing_calls_end_trials_by_any_number_of_workers(rt: HostRuntime) -> Result<(), Fail> {
     for row in FAILING {
-        assert_eq!(rt; fails_by_any(&rt, rt.alloc(), row), Some(true), "{row:?}");
+        equal_in(row, fails_by_any(&rt, rt.alloc(), row), Some(true))?;
     }
+    Ok(())
 }

@@ -2,9 +2,11 @@
 use super::fixtures::{
     FILE, PAYLOAD, PRICED, ROOM, Seen, append, claimed, header, mend, plain, seen_on,
 };
+use expected_values::{equal, equal_in};
 use house_io::{Disk, Failed, ListDisk};
 use report_journal::{Journal, JournalFault, Mended};
 use std::alloc::Global;
+use std::test::Fail;
 
 /// A file to which another process writes: the calls before one of them find what a house has left, that call finds a front of what the
 /// house leaves then, since a read may end where the file ended when it began, and the calls after it find all of it. It tells nothing,
@@ -120,21 +122,14 @@ fn damages(alloc: Global, after: &[u8], gate: usize) -> Option<u32> {
 
 /// Before a record, a header or the gate after the last is called damaged for want of bytes, the file is asked again.
 #[test]
-fn a_scan_beside_a_house_tells_no_damage(rt: HostRuntime) {
+fn a_scan_beside_a_house_tells_no_damage(rt: HostRuntime) -> Result<(), Fail> {
     for gate in [0, 47, 62] {
-        assert_eq!(rt;
-            damages(rt.alloc(), &PRICED, gate),
-            Some(0),
-            "from the gate {gate}"
-        );
+        equal_in(gate, damages(rt.alloc(), &PRICED, gate), Some(0))?;
     }
     for gate in [0, 41] {
-        assert_eq!(rt;
-            damages(rt.alloc(), &FILE, gate),
-            Some(0),
-            "from the gate {gate}"
-        );
+        equal_in(gate, damages(rt.alloc(), &FILE, gate), Some(0))?;
     }
+    Ok(())
 }
 
 /// A file that another hand cuts is damaged, and is not read for ever.
@@ -230,7 +225,7 @@ const BODY: [Call; 2] = [Call::Write(42, 15, Some(0)), Call::Sync];
 
 /// An open gate is written once more, before the sync by which its record counts; and of a closed one no byte is.
 #[test]
-fn a_mend_opens_an_open_gate_once_more(rt: HostRuntime) {
+fn a_mend_opens_an_open_gate_once_more(rt: HostRuntime) -> Result<(), Fail> {
     let again = [
         Call::Write(41, 1, Some(0xa5)),
         Call::Sync,
@@ -238,10 +233,11 @@ fn a_mend_opens_an_open_gate_once_more(rt: HostRuntime) {
         Call::Write(41, 1, Some(0xa5)),
         Call::Sync,
     ];
-    assert_eq!(rt; mends(rt.alloc(), 11, Mended::Counted, &again), Some(true));
+    equal(mends(rt.alloc(), 11, Mended::Counted, &again), Some(true))?;
     let [write, sync] = BODY;
-    assert_eq!(rt;
+    equal(
         mends(rt.alloc(), 9, Mended::Dropped, &[write, sync, Call::Sync]),
-        Some(true)
-    );
+        Some(true),
+    )?;
+    Ok(())
 }

@@ -3,10 +3,12 @@ use super::fixtures::{
     FILE, LONG, LONGER, PAYLOAD, ROOM, Says, Seen, Step, append, claimed, count, first_other,
     header, mend, one_good, plain, scanned_on, seen_in,
 };
+use expected_values::{equal, equal_in};
 use house_io::{Disk, Fill, ListDisk};
 use lot_base::Prices;
 use report_journal::{Journal, JournalFault, Mended, NotFormed};
 use std::alloc::Global;
+use std::test::Fail;
 
 /// The one number.
 fn one(alloc: Global, number: u64) -> Option<Vec<u64>> {
@@ -66,14 +68,15 @@ fn expected_forming(failing: u64) -> (Option<JournalFault>, Seen) {
 }
 
 #[test]
-fn a_forming_tells_each_fault(rt: HostRuntime) {
+fn a_forming_tells_each_fault(rt: HostRuntime) -> Result<(), Fail> {
     for failing in 1..9 {
         let expected = Some(expected_forming(failing));
         let found = form_failing(rt.alloc(), failing, plain());
-        assert_eq!(rt; found, expected, "at {failing}");
+        equal_in(failing, found, expected)?;
         let found = form_failing(rt.alloc(), failing, one_good());
-        assert_eq!(rt; found, expected, "at {failing}");
+        equal_in(failing, found, expected)?;
     }
+    Ok(())
 }
 
 /// The first step that goes otherwise where the call of this number fails, and whether the disk has the first record's file then.
@@ -98,8 +101,9 @@ const COUNTED_ONCE: &[Step] = &[
 ];
 
 #[test]
-fn a_record_whose_last_sync_fails_is_counted_once(rt: HostRuntime) {
-    assert_eq!(rt; stepped(rt.alloc(), 11, COUNTED_ONCE), Some((6, true)));
+fn a_record_whose_last_sync_fails_is_counted_once(rt: HostRuntime) -> Result<(), Fail> {
+    equal(stepped(rt.alloc(), 11, COUNTED_ONCE), Some((6, true)))?;
+    Ok(())
 }
 
 const PUT_AGAIN: &[Step] = &[
@@ -109,8 +113,9 @@ const PUT_AGAIN: &[Step] = &[
 ];
 
 #[test]
-fn a_record_whose_body_fails_is_dropped_and_put_again(rt: HostRuntime) {
-    assert_eq!(rt; stepped(rt.alloc(), 8, PUT_AGAIN), Some((3, true)));
+fn a_record_whose_body_fails_is_dropped_and_put_again(rt: HostRuntime) -> Result<(), Fail> {
+    equal(stepped(rt.alloc(), 8, PUT_AGAIN), Some((3, true)))?;
+    Ok(())
 }
 
 /// The second record has zeros after it.
@@ -137,8 +142,11 @@ const LIES_THERE_STILL: &[Step] = &[
 ];
 
 #[test]
-fn a_record_that_lies_there_and_whose_sync_fails_is_counted_once(rt: HostRuntime) {
-    assert_eq!(rt; stepped(rt.alloc(), 18, LIES_THERE_STILL), Some((8, false)));
+fn a_record_that_lies_there_and_whose_sync_fails_is_counted_once(
+    rt: HostRuntime,
+) -> Result<(), Fail> {
+    equal(stepped(rt.alloc(), 18, LIES_THERE_STILL), Some((8, false)))?;
+    Ok(())
 }
 
 /// Its gate was open when the write of the zeros failed, or the sync of both.
@@ -153,7 +161,7 @@ const PADDED_ONCE: &[Step] = &[
 ];
 
 #[test]
-fn a_record_with_zeros_behind_it_is_dropped_or_counted(rt: HostRuntime) {
+fn a_record_with_zeros_behind_it_is_dropped_or_counted(rt: HostRuntime) -> Result<(), Fail> {
     for (failing, steps) in [
         (12, PADDED_AGAIN),
         (13, PADDED_AGAIN),
@@ -161,12 +169,13 @@ fn a_record_with_zeros_behind_it_is_dropped_or_counted(rt: HostRuntime) {
         (15, PADDED_ONCE),
         (16, PADDED_ONCE),
     ] {
-        assert_eq!(rt;
+        equal_in(
+            failing,
             stepped(rt.alloc(), failing, steps),
             Some((7, false)),
-            "at {failing}"
-        );
+        )?;
     }
+    Ok(())
 }
 
 /// How far a run came: it forms a journal, appends, mends where that failed, and appends again.
@@ -266,21 +275,19 @@ fn lost_by_a_fault(alloc: Global, failing: u64) -> Option<Option<Fill>> {
 }
 
 #[test]
-fn each_stop_leaves_what_was_acknowledged(rt: HostRuntime) {
+fn each_stop_leaves_what_was_acknowledged(rt: HostRuntime) -> Result<(), Fail> {
     for stop in 1..21 {
-        assert_eq!(rt; lost_by_a_stop(rt.alloc(), stop), Some(None), "at {stop}");
+        equal_in(stop, lost_by_a_stop(rt.alloc(), stop), Some(None))?;
     }
+    Ok(())
 }
 
 #[test]
-fn each_failing_call_is_mended(rt: HostRuntime) {
+fn each_failing_call_is_mended(rt: HostRuntime) -> Result<(), Fail> {
     for failing in 1..25 {
-        assert_eq!(rt;
-            lost_by_a_fault(rt.alloc(), failing),
-            Some(None),
-            "at {failing}"
-        );
+        equal_in(failing, lost_by_a_fault(rt.alloc(), failing), Some(None))?;
     }
+    Ok(())
 }
 
 /// An empty disk whose call of this number fails.
@@ -295,14 +302,11 @@ fn scan_fails(alloc: Global, failing: u64) -> Option<bool> {
 }
 
 #[test]
-fn a_scan_hands_on_a_fault(rt: HostRuntime) {
+fn a_scan_hands_on_a_fault(rt: HostRuntime) -> Result<(), Fail> {
     for failing in 0..4 {
-        assert_eq!(rt;
-            scan_fails(rt.alloc(), failing),
-            Some(failing < 3),
-            "at {failing}"
-        );
+        equal_in(failing, scan_fails(rt.alloc(), failing), Some(failing < 3))?;
     }
+    Ok(())
 }
 
 const READ_AGAIN: &[Step] = &[
@@ -328,7 +332,7 @@ const LIE_THERE: &[Step] = &[
 ];
 
 #[test]
-fn a_record_that_lies_there_takes_one_sync(rt: HostRuntime) {
+fn a_record_that_lies_there_takes_one_sync(rt: HostRuntime) -> Result<(), Fail> {
     for (failing, step) in [
         (12, 1),
         (16, 1),
@@ -338,12 +342,13 @@ fn a_record_that_lies_there_takes_one_sync(rt: HostRuntime) {
         (21, 3),
         (22, 4),
     ] {
-        assert_eq!(rt;
+        equal_in(
+            failing,
             first_other_failing(rt.alloc(), failing, LIE_THERE),
             Some(step),
-            "at {failing}"
-        );
+        )?;
     }
+    Ok(())
 }
 
 /// How often a hint is asked by an append whose call of this number fails, to a journal that has grown.
@@ -356,13 +361,15 @@ fn asks(alloc: Global, failing: u64) -> Option<u32> {
 }
 
 #[test]
-fn a_hint_is_asked_behind_the_sync_of_the_record(rt: HostRuntime) {
+fn a_hint_is_asked_behind_the_sync_of_the_record(rt: HostRuntime) -> Result<(), Fail> {
     for (failing, times) in [(12, 0), (13, 0), (14, 1), (16, 1), (17, 1)] {
-        assert_eq!(rt; asks(rt.alloc(), failing), Some(times), "at {failing}");
+        equal_in(failing, asks(rt.alloc(), failing), Some(times))?;
     }
+    Ok(())
 }
 
 #[test]
-fn a_payload_hands_on_a_fault(rt: HostRuntime) {
-    assert_eq!(rt; first_other_failing(rt.alloc(), 12, READ_AGAIN), Some(4));
+fn a_payload_hands_on_a_fault(rt: HostRuntime) -> Result<(), Fail> {
+    equal(first_other_failing(rt.alloc(), 12, READ_AGAIN), Some(4))?;
+    Ok(())
 }

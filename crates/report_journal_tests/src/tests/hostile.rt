@@ -1,6 +1,8 @@
 //! Files that are cut, and files that nobody honest leaves: each is read for what it is.
 use super::fixtures::{FILE, PRICED, Seen, Told, copy_of, header_in, seen_in};
+use expected_values::{equal, equal_in};
 use std::alloc::Global;
+use std::test::Fail;
 
 /// What the first so many bytes of the file are read as, with this byte at the first record's gate.
 fn seen_in_cut(alloc: Global, gate: u8, cut: usize) -> Option<Seen> {
@@ -23,18 +25,15 @@ fn expected_at(cut: usize, open: bool) -> Seen {
 }
 
 #[test]
-fn each_cut_of_a_file_is_read_for_what_it_is(rt: HostRuntime) {
+fn each_cut_of_a_file_is_read_for_what_it_is(rt: HostRuntime) -> Result<(), Fail> {
     let alloc = rt.alloc();
     for cut in 0..58 {
         let open = seen_in_cut(alloc, 0xa5, cut);
-        assert_eq!(rt; open, Some(expected_at(cut, true)), "open, cut at {cut}");
+        equal_in(cut, open, Some(expected_at(cut, true)))?;
         let closed = seen_in_cut(alloc, 0, cut);
-        assert_eq!(rt;
-            closed,
-            Some(expected_at(cut, false)),
-            "closed, cut at {cut}"
-        );
+        equal_in(cut, closed, Some(expected_at(cut, false)))?;
     }
+    Ok(())
 }
 
 /// The answer to the file of version 2 that is cut at this length.
@@ -49,11 +48,12 @@ fn priced_at(cut: usize) -> Seen {
 }
 
 #[test]
-fn each_cut_of_a_file_of_version_2_is_read_for_what_it_is(rt: HostRuntime) {
+fn each_cut_of_a_file_of_version_2_is_read_for_what_it_is(rt: HostRuntime) -> Result<(), Fail> {
     for cut in 0..81 {
         let seen = seen_in(rt.alloc(), &PRICED[..cut]);
-        assert_eq!(rt; seen, Some(priced_at(cut)), "cut at {cut}");
+        equal_in(cut, seen, Some(priced_at(cut)))?;
     }
+    Ok(())
 }
 
 /// Puts these bytes into a file from this offset on, as far as it reaches.
@@ -151,11 +151,12 @@ const HOSTILE_FILES: [Alteration; 12] = [
 ];
 
 #[test]
-fn a_hostile_file_is_read_for_what_it_is(rt: HostRuntime) {
+fn a_hostile_file_is_read_for_what_it_is(rt: HostRuntime) -> Result<(), Fail> {
     for (story, at, bytes, cut, expected) in HOSTILE_FILES {
         let seen = seen_altered(rt.alloc(), &FILE, at, bytes, cut);
-        assert_eq!(rt; seen, Some(expected), "{story}");
+        equal_in(story, seen, Some(expected))?;
     }
+    Ok(())
 }
 
 const HOSTILE_OPENINGS: [Alteration; 8] = [
@@ -188,11 +189,12 @@ const HOSTILE_OPENINGS: [Alteration; 8] = [
 ];
 
 #[test]
-fn a_hostile_opening_is_read_for_what_it_is(rt: HostRuntime) {
+fn a_hostile_opening_is_read_for_what_it_is(rt: HostRuntime) -> Result<(), Fail> {
     for (story, at, bytes, cut, expected) in HOSTILE_OPENINGS {
         let seen = seen_altered(rt.alloc(), &PRICED, at, bytes, cut);
-        assert_eq!(rt; seen, Some(expected), "{story}");
+        equal_in(story, seen, Some(expected))?;
     }
+    Ok(())
 }
 
 /// What the header says of a file that is altered so.
@@ -202,17 +204,16 @@ fn header_altered(alloc: Global, file: &[u8], at: usize, bytes: &[u8], cut: usiz
 }
 
 #[test]
-fn a_header_that_cannot_be_read_is_told_as_it_stands(rt: HostRuntime) {
+fn a_header_that_cannot_be_read_is_told_as_it_stands(rt: HostRuntime) -> Result<(), Fail> {
     let alloc = rt.alloc();
     let told = Some((0, 3, true, None));
-    assert_eq!(rt; header_altered(alloc, &FILE, 1, b"AHJ3", 57), told);
-    assert_eq!(rt; header_altered(alloc, &PRICED, 42, &[7], 80), told);
+    equal(header_altered(alloc, &FILE, 1, b"AHJ3", 57), told)?;
+    equal(header_altered(alloc, &PRICED, 42, &[7], 80), told)?;
+    Ok(())
 }
 
 #[test]
-fn a_file_of_open_gates_has_no_header(rt: HostRuntime) {
-    assert_eq!(rt;
-        seen_in(rt.alloc(), &[0xa5; 300]),
-        Some(Seen::Damaged(0, 0))
-    );
+fn a_file_of_open_gates_has_no_header(rt: HostRuntime) -> Result<(), Fail> {
+    equal(seen_in(rt.alloc(), &[0xa5; 300]), Some(Seen::Damaged(0, 0)))?;
+    Ok(())
 }

@@ -3,6 +3,7 @@ use super::fixtures::{
     FILE, LONG, LONGER, PAYLOAD, PRICED, ROOM, Seen, Step, append, claimed, copy_of, count,
     disk_of, first_other, header, header_in, holds, mend, one_good, plain, scanned, seen_on,
 };
+use expected_values::{equal, equal_in};
 use house_io::{Disk, FolderDisk, FolderShelf, Shelf, SureDisk};
 use lot_base::Prices;
 use lot_base::limits::GREATEST_PAYLOAD;
@@ -63,8 +64,9 @@ const FIRST: &[Step] = &[
 ];
 
 #[test]
-fn a_record_is_written_as_the_format_says(rt: HostRuntime) {
-    assert_eq!(rt; writes(rt.alloc(), plain(), FIRST, &FILE), Some(true));
+fn a_record_is_written_as_the_format_says(rt: HostRuntime) -> Result<(), Fail> {
+    equal(writes(rt.alloc(), plain(), FIRST, &FILE), Some(true))?;
+    Ok(())
 }
 
 /// Two records are reserved, and a third takes its own memory.
@@ -82,8 +84,9 @@ fn first_other_of_new(alloc: Global, steps: &[Step]) -> Option<usize> {
 }
 
 #[test]
-fn records_are_appended_into_reserved_room(rt: HostRuntime) {
-    assert_eq!(rt; first_other_of_new(rt.alloc(), RESERVED), Some(4));
+fn records_are_appended_into_reserved_room(rt: HostRuntime) -> Result<(), Fail> {
+    equal(first_other_of_new(rt.alloc(), RESERVED), Some(4))?;
+    Ok(())
 }
 
 const BOTH: &[Step] = &[
@@ -92,10 +95,11 @@ const BOTH: &[Step] = &[
 ];
 
 #[test]
-fn a_header_with_opening_prices_is_written_as_the_format_says(rt: HostRuntime) {
+fn a_header_with_opening_prices_is_written_as_the_format_says(rt: HostRuntime) -> Result<(), Fail> {
     let alloc = rt.alloc();
-    assert_eq!(rt; writes(alloc, one_good(), BOTH, &PRICED), Some(true));
-    assert_eq!(rt; writes(alloc, six_goods(), &[], &SIX_GOODS), Some(true));
+    equal(writes(alloc, one_good(), BOTH, &PRICED), Some(true))?;
+    equal(writes(alloc, six_goods(), &[], &SIX_GOODS), Some(true))?;
+    Ok(())
 }
 
 /// The length of a new journal's file after these steps.
@@ -146,14 +150,15 @@ fn has_at(alloc: Global, steps: &[Step], at: usize, bytes: &[u8]) -> Option<bool
 }
 
 #[test]
-fn a_journal_that_has_grown_writes_zeros_behind_a_record(rt: HostRuntime) {
-    assert_eq!(rt;
+fn a_journal_that_has_grown_writes_zeros_behind_a_record(rt: HostRuntime) -> Result<(), Fail> {
+    equal(
         has_at(rt.alloc(), LENGTHS[1].0, 4_137, &OVER_ZEROS),
-        Some(true)
-    );
+        Some(true),
+    )?;
     for (steps, length) in LENGTHS {
-        assert_eq!(rt; length_after(rt.alloc(), plain(), steps), Some(length));
+        equal(length_after(rt.alloc(), plain(), steps), Some(length))?;
     }
+    Ok(())
 }
 
 /// A record after which the next one is laid, and that one comes.
@@ -187,15 +192,16 @@ const CAME: [u8; 18] = [0xa5, 0, 0, 0, 12, 1, 0, 0, 0, 1, 1, 0, 2, 0, 2, 0, 3, 0
 const CAME_AGAIN: [u8; 16] = [0xa5, 0, 0, 0, 10, 1, 0, 0, 0, 1, 1, 0, 1, 0, 2, 0];
 
 #[test]
-fn a_journal_that_has_grown_lays_the_next_record(rt: HostRuntime) {
+fn a_journal_that_has_grown_lays_the_next_record(rt: HostRuntime) -> Result<(), Fail> {
     for (steps, at, bytes) in [
         (&COMES[..2], 4_137, LAID.as_slice()),
         (COMES, 4_152, CAME.as_slice()),
         (COMES_NOT, 4_152, CAME_AGAIN.as_slice()),
     ] {
-        assert_eq!(rt; has_at(rt.alloc(), steps, at, bytes), Some(true));
-        assert_eq!(rt; length_after(rt.alloc(), plain(), steps), Some(8_233));
+        equal(has_at(rt.alloc(), steps, at, bytes), Some(true))?;
+        equal(length_after(rt.alloc(), plain(), steps), Some(8_233))?;
     }
+    Ok(())
 }
 
 /// The longest payload that is laid, and after which the next one is.
@@ -243,19 +249,23 @@ const LAYINGS: [Laying; 4] = [
 ];
 
 #[test]
-fn what_is_laid_and_what_it_is_laid_after_have_1024_bytes_at_most(rt: HostRuntime) {
+fn what_is_laid_and_what_it_is_laid_after_have_1024_bytes_at_most(
+    rt: HostRuntime,
+) -> Result<(), Fail> {
     for (steps, at, bytes) in LAYINGS {
-        assert_eq!(rt; has_at(rt.alloc(), steps, at, bytes), Some(true), "at {at}");
-        assert_eq!(rt; length_after(rt.alloc(), plain(), steps), Some(8_233));
+        equal_in(at, has_at(rt.alloc(), steps, at, bytes), Some(true))?;
+        equal(length_after(rt.alloc(), plain(), steps), Some(8_233))?;
     }
+    Ok(())
 }
 
 /// A short journal lays nothing.
 const SHORT: &[Step] = &[Step::Lays(&PAYLOAD, &LONGER, Ok(1))];
 
 #[test]
-fn a_short_journal_is_as_long_as_its_records(rt: HostRuntime) {
-    assert_eq!(rt; writes(rt.alloc(), plain(), SHORT, &FILE), Some(true));
+fn a_short_journal_is_as_long_as_its_records(rt: HostRuntime) -> Result<(), Fail> {
+    equal(writes(rt.alloc(), plain(), SHORT, &FILE), Some(true))?;
+    Ok(())
 }
 
 fn end_by(scanned: &Scanned) -> Option<u32> {
@@ -278,25 +288,27 @@ fn end_of_new(alloc: Global, opening: Option<Prices>) -> Option<u32> {
 }
 
 #[test]
-fn each_version_has_its_length_and_its_first_gate(rt: HostRuntime) {
+fn each_version_has_its_length_and_its_first_gate(rt: HostRuntime) -> Result<(), Fail> {
     let alloc = rt.alloc();
-    assert_eq!(rt; end_of_new(alloc, plain()), Some(41));
-    assert_eq!(rt; length_after(alloc, plain(), &[]), Some(42));
-    assert_eq!(rt; length_after(alloc, plain(), BOTH), Some(74));
-    assert_eq!(rt; end_of_new(alloc, one_good()), Some(47));
-    assert_eq!(rt; length_after(alloc, one_good(), &[]), Some(48));
-    assert_eq!(rt; length_after(alloc, one_good(), BOTH), Some(80));
+    equal(end_of_new(alloc, plain()), Some(41))?;
+    equal(length_after(alloc, plain(), &[]), Some(42))?;
+    equal(length_after(alloc, plain(), BOTH), Some(74))?;
+    equal(end_of_new(alloc, one_good()), Some(47))?;
+    equal(length_after(alloc, one_good(), &[]), Some(48))?;
+    equal(length_after(alloc, one_good(), BOTH), Some(80))?;
+    Ok(())
 }
 
 #[test]
-fn a_scan_finds_the_header(rt: HostRuntime) {
+fn a_scan_finds_the_header(rt: HostRuntime) -> Result<(), Fail> {
     for (file, header) in [
         (FILE.as_slice(), (1, 3, true, None)),
         (PRICED.as_slice(), (2, 3, true, Some(300))),
         (SIX_GOODS.as_slice(), (2, 3, true, Some(1))),
     ] {
-        assert_eq!(rt; header_in(rt.alloc(), file), Some(header));
+        equal(header_in(rt.alloc(), file), Some(header))?;
     }
+    Ok(())
 }
 
 fn place_by(scanned: &Scanned, number: usize) -> Option<Place> {
@@ -313,13 +325,14 @@ fn place_in(alloc: Global, file: &[u8], number: usize) -> Option<Place> {
 }
 
 #[test]
-fn a_scan_finds_the_places(rt: HostRuntime) {
+fn a_scan_finds_the_places(rt: HostRuntime) -> Result<(), Fail> {
     let alloc = rt.alloc();
     let place = place_in(alloc, &FILE, 0);
-    assert_eq!(rt; place, Some(Place { at: 46, length: 10 }));
+    equal(place, Some(Place { at: 46, length: 10 }))?;
     let place = place_in(alloc, &PRICED, 1);
-    assert_eq!(rt; place, Some(Place { at: 67, length: 12 }));
-    assert_eq!(rt; end_in(alloc, &PRICED), Some(79));
+    equal(place, Some(Place { at: 67, length: 12 }))?;
+    equal(end_in(alloc, &PRICED), Some(79))?;
+    Ok(())
 }
 
 /// The journal of a disk whose file is formed.
@@ -382,11 +395,12 @@ const THIRD: &[Step] = &[
 ];
 
 #[test]
-fn a_file_that_stands_is_taken_up_again(rt: HostRuntime) {
+fn a_file_that_stands_is_taken_up_again(rt: HostRuntime) -> Result<(), Fail> {
     let alloc = rt.alloc();
-    assert_eq!(rt; first_other_in(alloc, &FILE, SECOND), Some(4));
+    equal(first_other_in(alloc, &FILE, SECOND), Some(4))?;
     let found = taken_up(alloc, &PRICED, THIRD, 79, &[0xa5, 0, 0, 0, 0, 0]);
-    assert_eq!(rt; found, Some((85, true)));
+    equal(found, Some((85, true)))?;
+    Ok(())
 }
 
 fn read_at<D: Disk>(alloc: Global, disk: &mut D, place: Place) -> Option<Vec<u8>> {
@@ -401,8 +415,9 @@ fn is_longer_at(alloc: Global, at: u32) -> Option<bool> {
 }
 
 #[test]
-fn a_payload_is_read_at_its_place(rt: HostRuntime) {
-    assert_eq!(rt; is_longer_at(rt.alloc(), 67), Some(true));
+fn a_payload_is_read_at_its_place(rt: HostRuntime) -> Result<(), Fail> {
+    equal(is_longer_at(rt.alloc(), 67), Some(true))?;
+    Ok(())
 }
 
 /// What is read of so many bytes from this offset on.
@@ -420,9 +435,10 @@ fn reads(alloc: Global, at: u32, bytes: &[u8]) -> Option<bool> {
 
 /// The file has 80 bytes.
 #[test]
-fn bytes_that_a_disk_has_not_are_zeros(rt: HostRuntime) {
-    assert_eq!(rt; reads(rt.alloc(), 77, &[0, 3, 0, 0, 0, 0]), Some(true));
-    assert_eq!(rt; reads(rt.alloc(), 81, &[0, 0]), Some(true));
+fn bytes_that_a_disk_has_not_are_zeros(rt: HostRuntime) -> Result<(), Fail> {
+    equal(reads(rt.alloc(), 77, &[0, 3, 0, 0, 0, 0]), Some(true))?;
+    equal(reads(rt.alloc(), 81, &[0, 0]), Some(true))?;
+    Ok(())
 }
 
 /// The longest payload, of a byte that says which it is.
@@ -493,8 +509,8 @@ fn a_real_file_is_formed_appended_to_scanned_and_mended(rt: HostRuntime) -> Resu
     let holds = forms_and_finds_three(rt.alloc(), disk);
     let size = fs::metadata(&rt, name)?.len();
     fs::remove_file(&rt, name)?;
-    assert_eq!(rt; holds, Some(true));
-    assert_eq!(rt; size, 47 + 3 * (5 + 32_768) + 1);
+    equal(holds, Some(true))?;
+    equal(size, 47 + 3 * (5 + 32_768) + 1)?;
     Ok(())
 }
 
@@ -523,9 +539,10 @@ fn found_of_many(alloc: Global, count: u32) -> Option<Seen> {
 }
 
 #[test]
-fn a_scan_finds_as_many_records_as_there_are(rt: HostRuntime) {
-    assert_eq!(rt;
+fn a_scan_finds_as_many_records_as_there_are(rt: HostRuntime) -> Result<(), Fail> {
+    equal(
         found_of_many(rt.alloc(), 70_000),
-        Some(Seen::Formed(70_000))
-    );
+        Some(Seen::Formed(70_000)),
+    )?;
+    Ok(())
 }

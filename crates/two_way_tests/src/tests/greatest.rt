@@ -2,6 +2,7 @@
 ghost use Rattle.std.specs.Prelude.{◌≡◌};
 
 use super::*;
+use expected_values::{equal, equal_in};
 
 /// Twelve bidders for six goods of a unit each, in all three forms.
 const TWELVE_BIDDERS: &str = "[[valuations]]
@@ -104,7 +105,7 @@ const GREATEST: &[Case] = &[
 fn the_greatest_auctions_float(rt: HostRuntime) -> Result<(), Fail> {
     for case in GREATEST {
         let line = case_line(&rt, rt.alloc(), case)?;
-        assert_eq!(rt; line.as_str(), case.text, "{}", case.story);
+        equal_in(case.story, line.as_str(), case.text)?;
     }
     Ok(())
 }
@@ -154,8 +155,8 @@ fn report_both(
     let second = read_demand(rt, alloc, goods, demands[1])?;
     let by_first = offer(alloc, clock, 1, round, first)?;
     let by_second = offer(alloc, clock, 2, round, second)?;
-    assert_eq!(rt; by_first.as_str(), "Take", "{round}");
-    assert_eq!(rt; by_second.as_str(), "Take", "{round}");
+    equal_in(round, by_first.as_str(), "Take")?;
+    equal_in(round, by_second.as_str(), "Take")?;
     Ok(())
 }
 
@@ -221,9 +222,9 @@ fn long_line(rt: &impl Abort, alloc: Global) -> Result<String, Fail> {
 #[test]
 fn a_clock_of_80_000_reports_ends(rt: HostRuntime) -> Result<(), Fail> {
     let line = long_line(&rt, rt.alloc())?;
-    assert_eq!(rt;
+    equal(
         line.as_str(),
-        "round 40001 Ended [0, 0] up 20000 down 20000 sums -40000 -20000 -20000"
-    );
+        "round 40001 Ended [0, 0] up 20000 down 20000 sums -40000 -20000 -20000",
+    )?;
     Ok(())
 }

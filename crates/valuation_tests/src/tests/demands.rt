@@ -1,6 +1,8 @@
 //! Values, demands and surpluses of one bidder.
 use super::*;
+use expected_values::equal;
 use lot_base::{GoodSet, NoMemory};
+use std::test::Fail;
 
 /// The valuation of a bidder who wants one unit, at best for 7 of good 1 and else for 5 of good 0.
 fn bidder(rt: &(impl AllocGlobal + Abort)) -> Valuation {
@@ -73,62 +75,67 @@ fn value(rt: &(impl AllocGlobal + Abort), index: u32) -> i64 {
 }
 
 #[test]
-fn values_are_those_of_the_file(rt: HostRuntime) {
-    assert_eq!(&rt; value(&rt, 0), 0);
-    assert_eq!(&rt; value(&rt, 2), 5);
-    assert_eq!(&rt; value(&rt, 5), 7);
+fn values_are_those_of_the_file(rt: HostRuntime) -> Result<(), Fail> {
+    equal(value(&rt, 0), 0)?;
+    equal(value(&rt, 2), 5)?;
+    equal(value(&rt, 5), 7)?;
+    Ok(())
 }
 
 #[test]
-fn demands_are_the_best_bundles(rt: HostRuntime) {
-    assert_eq!(&rt; demands(&rt, &[3, 4], &[0, 1]), Ok(true));
-    assert_eq!(&rt; demands(&rt, &[5, 7], &[0, 0, 0, 1, 1, 0]), Ok(true));
-    assert_eq!(&rt; demands(&rt, &[0, 7], &[1, 0, 2, 0]), Ok(true));
-    assert_eq!(&rt; demands(&rt, &[4294967295, 4294967295], &[0, 0]), Ok(true));
+fn demands_are_the_best_bundles(rt: HostRuntime) -> Result<(), Fail> {
+    equal(demands(&rt, &[3, 4], &[0, 1]), Ok(true))?;
+    equal(demands(&rt, &[5, 7], &[0, 0, 0, 1, 1, 0]), Ok(true))?;
+    equal(demands(&rt, &[0, 7], &[1, 0, 2, 0]), Ok(true))?;
+    equal(demands(&rt, &[4294967295, 4294967295], &[0, 0]), Ok(true))?;
+    Ok(())
 }
 
 #[test]
-fn surpluses_are_carried_along(rt: HostRuntime) {
-    assert_eq!(&rt; after_steps(&rt, 0, &[0, 1, 1, 1, 2, 1]), Ok((1, true)));
-    assert_eq!(&rt;
+fn surpluses_are_carried_along(rt: HostRuntime) -> Result<(), Fail> {
+    equal(after_steps(&rt, 0, &[0, 1, 1, 1, 2, 1]), Ok((1, true)))?;
+    equal(
         after_steps(&rt, 2, &[0, 1, 1, 0, 1, 1, 2, 0, 2, 1]),
-        Ok((1, true))
-    );
-    assert_eq!(&rt; after_steps(&rt, 3, &[1, 0, 2, 0]), Ok((1, true)));
+        Ok((1, true)),
+    )?;
+    equal(after_steps(&rt, 3, &[1, 0, 2, 0]), Ok((1, true)))?;
+    Ok(())
 }
 
 #[test]
-fn surpluses_are_told_anew_where_prices_fall(rt: HostRuntime) {
-    assert_eq!(&rt; moved(&rt, &[3, 4], &[1, 2], &[0, 1]), Ok((true, true)));
-    assert_eq!(&rt;
+fn surpluses_are_told_anew_where_prices_fall(rt: HostRuntime) -> Result<(), Fail> {
+    equal(moved(&rt, &[3, 4], &[1, 2], &[0, 1]), Ok((true, true)))?;
+    equal(
         moved(&rt, &[3, 4], &[2, 4], &[0, 1, 1, 0]),
-        Ok((false, true))
-    );
-    assert_eq!(&rt;
+        Ok((false, true)),
+    )?;
+    equal(
         moved(&rt, &[0, 7], &[0, 3], &[1, 0, 2, 0]),
-        Ok((true, true))
-    );
-    assert_eq!(&rt;
+        Ok((true, true)),
+    )?;
+    equal(
         moved(&rt, &[10000, 10000], &[0, 0], &[0, 1, 1, 1, 2, 1]),
-        Ok((false, true))
-    );
-    assert_eq!(&rt;
+        Ok((false, true)),
+    )?;
+    equal(
         moved(&rt, &[10000, 10000], &[6, 8], &[0, 0]),
-        Ok((true, true))
-    );
+        Ok((true, true)),
+    )?;
+    Ok(())
 }
 
 #[test]
-fn surpluses_are_told_anew_where_prices_rise(rt: HostRuntime) {
-    assert_eq!(&rt; moved(&rt, &[3, 4], &[4, 4], &[0, 1]), Ok((true, true)));
-    assert_eq!(&rt; moved(&rt, &[0, 0], &[1, 0], &[0, 1]), Ok((false, true)));
-    assert_eq!(&rt;
+fn surpluses_are_told_anew_where_prices_rise(rt: HostRuntime) -> Result<(), Fail> {
+    equal(moved(&rt, &[3, 4], &[4, 4], &[0, 1]), Ok((true, true)))?;
+    equal(moved(&rt, &[0, 0], &[1, 0], &[0, 1]), Ok((false, true)))?;
+    equal(
         moved(&rt, &[5, 7], &[10000, 10000], &[0, 0]),
-        Ok((false, true))
-    );
-    assert_eq!(&rt;
+        Ok((false, true)),
+    )?;
+    equal(
         moved(&rt, &[10000, 10000], &[4294967295, 4294967295], &[0, 0]),
-        Ok((true, true))
-    );
-    assert_eq!(&rt; moved(&rt, &[3, 4], &[3, 4], &[0, 1]), Ok((true, true)));
+        Ok((true, true)),
+    )?;
+    equal(moved(&rt, &[3, 4], &[3, 4], &[0, 1]), Ok((true, true)))?;
+    Ok(())
 }

@@ -1,5 +1,6 @@
 //! Each fault at each key, and neighbouring faults in their order.
 use super::*;
+use expected_values::equal;
 
 const ONE: &str = "[[valuations]]\n";
 
@@ -217,6 +218,6 @@ fn two_bidders(rt: HostRuntime) -> Result<(), Fail> {
 #[test]
 fn bytes_that_are_no_text(rt: HostRuntime) -> Result<(), Fail> {
     let found = answer(&rt, 1, b"valuations = [] # \xff\n")?;
-    assert_eq!(&rt; found.as_str(), "NotToml");
+    equal(found.as_str(), "NotToml")?;
     Ok(())
 }
