@@ -10,7 +10,6 @@ ghost use Rattle.step_choice.specs.Table.{excess_in};
 pub mod laws;
 
 use lot_base::{Excess, GoodSet, Goods};
-use std::cmp::Ordering;
 
 /// The set of greatest excess; among several the one with fewest goods; among these the smallest as a number. It is the
 /// least set of goods in excess demand of Gul and Stacchetti and of Ausubel, and empty where nothing is in excess demand.
@@ -34,11 +33,10 @@ fn comes_before(goods: &Goods, excess: &Excess, set: u8, other: u8) -> bool
     ensures { result ≡ is_lt (set_cmp (excess_in excess.now.0) (length goods.now) set other) }
 {
     let _sets = goods.set_count();
-    match excess.0[other as usize].cmp(&excess.0[set as usize]) {
-        Ordering::Less => true,
-        Ordering::Greater => false,
-        Ordering::Equal => is_less(set, other),
+    if excess.0[set as usize] < excess.0[other as usize] {
+        return false;
     }
+    excess.0[set as usize] > excess.0[other as usize] || is_less(set, other)
 }
 
 /// Whether a set has fewer goods than another one, or as many and is smaller as a number.
