@@ -118,19 +118,17 @@ pub(crate) fn read_report(alloc: Global, payload: &[u8]) -> Result<Option<RawRep
     let Some(view) = view_report(payload) else {
         return Ok(None);
     };
-    match short_numbers_of(alloc, view.quantities) {
-        Ok(quantities) => {
-            Ok(Some(RawReport {
-                bidder: view.bidder,
-                round: view.round,
-                demand: RawDemand {
-                    goods: view.goods,
-                    quantities: Sequence::from_vec(quantities),
-                },
-            }))
-        }
-        Err(_) => Err(NoMemory),
-    }
+    let Ok(quantities) = short_numbers_of(alloc, view.quantities) else {
+        return Err(NoMemory);
+    };
+    Ok(Some(RawReport {
+        bidder: view.bidder,
+        round: view.round,
+        demand: RawDemand {
+            goods: view.goods,
+            quantities: Sequence::from_vec(quantities),
+        },
+    }))
 }
 
 /// The report of a payload of any length as it lies there, if it is one.

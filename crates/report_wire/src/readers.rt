@@ -73,30 +73,22 @@ fn read_front<F: Frame>(alloc: Global, bytes: &[u8]) -> Result<Front<F>, NoMemor
 {
     let mut frames = Vec::new(alloc);
     let mut at = 0;
-    loop {
-        match next_frame::<F>(alloc, &bytes[at..])? {
-            Found::Message(message, size) => {
-                if frames.push(message).is_err() {
-                    return Err(NoMemory);
-                }
-                at += size;
-            }
-            Found::Partial => {
-                return Ok(Front {
-                    frames,
-                    length: at,
-                    fault: None,
-                });
-            }
-            Found::Fault(fault) => {
-                return Ok(Front {
-                    frames,
-                    length: at,
-                    fault: Some(fault),
-                });
-            }
+    let fault = loop {
+        let (message, size) = match next_frame::<F>(alloc, &bytes[at..])? {
+            Found::Message(message, size) => (message, size),
+            Found::Partial => break None,
+            Found::Fault(fault) => break Some(fault),
+        };
+        if frames.push(message).is_err() {
+            return Err(NoMemory);
         }
-    }
+        at += size;
+    };
+    Ok(Front {
+        frames,
+        length: at,
+        fault,
+    })
 }
 
 /// Reads the frames of one direction off a stream, seen as what it keeps.

@@ -1,6 +1,6 @@
 //! Frames to the house.
-ghost use Rattle.std.specs.Prelude.{◌≡◌, ◌++◌, length, true, OnOk};
-ghost use Rattle.report_wire.specs.Frames.{IsMessage, spelling};
+ghost use Rattle.std.specs.Prelude.{◌≡◌, ◌++◌, length, true, IfOk, OnOk};
+ghost use Rattle.report_wire.specs.Frames.{IsMessage, IsRead, spelling};
 ghost use Rattle.report_wire.specs.Messages.{to_house, house_kind, house_payload};
 ghost use Rattle.report_wire.specs.Payloads.{report_payload};
 
@@ -43,24 +43,7 @@ impl Frame for ToHouse {
                 }))
             }
             2 => Ok(Some(ToHouse::Look { clock: payload[0] })),
-            3 => {
-                match read_report(alloc, payload) {
-                    Ok(Some(report)) => {
-                        let RawReport {
-                            bidder: clock,
-                            round,
-                            demand,
-                        } = report;
-                        Ok(Some(ToHouse::Report {
-                            clock,
-                            round,
-                            demand,
-                        }))
-                    }
-                    Ok(None) => Ok(None),
-                    Err(NoMemory) => Err(NoMemory),
-                }
-            }
+            3 => report_of(alloc, payload),
             _ => Ok(Some(ToHouse::Quit)),
         }
     }
@@ -74,6 +57,25 @@ impl Frame for ToHouse {
     }
 
     ghost formed = { house_is };
+}
+
+/// The report of a payload, if it is one.
+fn report_of(alloc: Global, payload: &[u8]) -> Result<Option<ToHouse>, NoMemory>
+    ensures { IfOk result (λ found. IsRead to_house house_kind house_payload 3 payload.now found) }
+{
+    let Some(report) = read_report(alloc, payload)? else {
+        return Ok(None);
+    };
+    let RawReport {
+        bidder: clock,
+        round,
+        demand,
+    } = report;
+    Ok(Some(ToHouse::Report {
+        clock,
+        round,
+        demand,
+    }))
 }
 
 /// Appends the frame of a message.
