@@ -121,6 +121,40 @@ fn first_good_broken(
     None
 }
 
+/// The first triple that is not exchanged among those of the bundle at x.
+fn first_broken_from(
+    supply: &[u16],
+    strides: &[usize; 6],
+    size: u32,
+    values: &[u16],
+    x: u32,
+) -> Option<Triple>
+    requires goods { length supply.now ≤ 6 }
+    requires strides { AreStrides supply.now strides.now }
+    requires size { box_size supply.now ≡ size }
+    requires few { size ≤ 2048 }
+    requires x { x < size }
+    ensures at { IfSome result (λ b. b.x ≡ x) }
+    ensures some { IfSome result (λ b. (b.y < size) × (b.good < length supply.now)
+        × (IsExchanged (valuation_of supply.now values.now) (bundle_at supply.now x) (bundle_at supply.now b.y) b.good → ⊥)
+        × ((c : ℕ) → c < b.good
+        → IsExchanged (valuation_of supply.now values.now) (bundle_at supply.now x) (bundle_at supply.now b.y) c)
+        × ((y c : ℕ) → y < b.y → c < length supply.now
+        → IsExchanged (valuation_of supply.now values.now) (bundle_at supply.now x) (bundle_at supply.now y) c)) }
+    ensures none { IfNone result ((y c : ℕ) → y < size → c < length supply.now
+        → IsExchanged (valuation_of supply.now values.now) (bundle_at supply.now x) (bundle_at supply.now y) c) }
+{
+    let free_x = free_units(supply, strides, x as usize);
+    for y in 0..size {
+        if let Some(good) = first_good_broken(
+            supply, strides, values, x as usize, y as usize, &free_x,
+        ) {
+            return Some(Triple { x, y, good });
+        }
+    }
+    None
+}
+
 /// The first triple that is not exchanged.
 pub(crate) fn first_broken(
     supply: &[u16],
@@ -136,12 +170,9 @@ pub(crate) fn first_broken(
     ensures none { IfNone result (IsStrongSubstitutes supply.now (valuation_of supply.now values.now)) }
 {
     for x in 0..size {
-        let free_x = free_units(supply, strides, x as usize);
-        for y in 0..size {
-            match first_good_broken(supply, strides, values, x as usize, y as usize, &free_x) {
-                Some(good) => return Some(Triple { x, y, good }),
-                None => {}
-            }
+        let broken = first_broken_from(supply, strides, size, values, x);
+        if broken.is_some() {
+            return broken;
         }
     }
     None

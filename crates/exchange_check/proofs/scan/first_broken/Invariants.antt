@@ -8,8 +8,3 @@ use Rattle.exchange_check.specs.Exchange.{IsExchanged}
 abbrev pub invariant-loop-x : goal.invariant-loop-x
 invariant-loop-x l =
     (a b c : ℕ) → a < l.x → b < box_size l.supply → c < length l.supply → IsExchanged (valuation_of l.supply l.values) (bundle_at l.supply a) (bundle_at l.supply b) c
-
-abbrev pub invariant-loop-y : goal.invariant-loop-y
-invariant-loop-y l =
-    ((a b c : ℕ) → a < l.x → b < box_size l.supply → c < length l.supply → IsExchanged (valuation_of l.supply l.values) (bundle_at l.supply a) (bundle_at l.supply b) c)
-    × ((b c : ℕ) → b < l.y → c < length l.supply → IsExchanged (valuation_of l.supply l.values) (bundle_at l.supply l.x) (bundle_at l.supply b) c)

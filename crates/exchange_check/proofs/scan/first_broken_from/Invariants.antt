@@ -1,0 +1,9 @@
+use Rattle.std.proofs.Common.{◌<◌, ℕ, length}
+use Rattle.exchange_check.proofs.scan.first_broken_from.Given as goal
+use Rattle.lot_base.specs.Box.{bundle_at}
+use Rattle.valuation.specs.Values.{valuation_of}
+use Rattle.exchange_check.specs.Exchange.{IsExchanged}
+
+abbrev pub invariant-loop-y : goal.invariant-loop-y
+invariant-loop-y l =
+    (b c : ℕ) → b < l.y → c < length l.supply → IsExchanged (valuation_of l.supply l.values) (bundle_at l.supply l.x) (bundle_at l.supply b) c
