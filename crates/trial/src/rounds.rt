@@ -98,20 +98,18 @@ fn tell_round(
     let round = clock.look().round;
     for place in 0..terms.bidders {
         let bidder = place + 1;
-        if bidder != number {
-            let demand = match followers[place as usize].demand(alloc) {
-                Ok(demand) => demand,
-                Err(NoMemory) => return Err(NoMemory),
-            };
-            let report = Report {
-                bidder,
-                round,
-                demand,
-            };
-            match clock.apply(alloc, report) {
-                Ok(()) => {}
-                Err(_) => return Err(NoMemory),
-            }
+        if bidder == number {
+            continue;
+        }
+        let demand = followers[place as usize].demand(alloc)?;
+        let report = Report {
+            bidder,
+            round,
+            demand,
+        };
+        match clock.apply(alloc, report) {
+            Ok(()) => {}
+            Err(_) => return Err(NoMemory),
         }
     }
     Ok(())

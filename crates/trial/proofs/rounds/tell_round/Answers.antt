@@ -11,28 +11,27 @@ use Rattle.trial.proofs.Leading.{followed-here, report-here}
 use Rattle.trial.proofs.Telling.{takes-next, told-with, told-without}
 use Rattle.trial.proofs.Turning.{turned}
 use Rattle.trial.proofs.rounds.tell_round.Goals as goal
-use Rattle.trial.proofs.rounds.tell_round.Goals.{then-bidder-number+in-Ok+in-Ok-apply, else-bidder-number}
 
 pub apply-requires-clause-take : goal.apply-requires-clause-take
 apply-requires-clause-take c =
     let old = c.args.clock.now.history in
     let terms = c.args.terms.now in
     let u = bidders_of terms.goods c.args.valuations.now in
-    let here = followed-here terms u old.number (prices_of old) c.args.followers.now c.index-followers-place.result c.loop-place.place c.requires.followed c.loop-place-test.true (λ e. c.if-bidder-number.true (e ∙ sym c.number-number.ensures.value)) c.index-followers-place.is in
-    let same = report-here terms old u c.loop-place.place c.look-round.result.round c.index-followers-place.result c.in-Ok.demand c.requires.terms here c.look-round.ensures.round (c.in-Ok.ensures (u (c.loop-place.place + 1)) (prices_of old) here.follows) in
+    let here = followed-here terms u old.number (prices_of old) c.args.followers.now c.index-followers-place.result c.loop-place.place c.requires.followed c.loop-place-test.true (λ e. c.if-bidder-number.false (e ∙ sym c.number-number.ensures.value)) c.index-followers-place.is in
+    let same = report-here terms old u c.loop-place.place c.look-round.result.round c.index-followers-place.result c.in_ok-demand.demand c.requires.terms here c.look-round.ensures.round (c.in_ok-demand.ensures (u (c.loop-place.place + 1)) (prices_of old) here.follows) in
     let bidders = ap (λ t. t.bidders) c.requires.terms in
     ap (judgement_of c.loop-place.clock.history) same
-    ∙ takes-next u old c.loop-place.clock.history c.loop-place.place c.requires.fresh c.loop-place.invariant.told c.loop-place.invariant.grown (omega (arith, bidders, c.loop-place-test.true)) (λ e. c.if-bidder-number.true (e ∙ sym c.number-number.ensures.value))
+    ∙ takes-next u old c.loop-place.clock.history c.loop-place.place c.requires.fresh c.loop-place.invariant.told c.loop-place.invariant.grown (omega (arith, bidders, c.loop-place-test.true)) (λ e. c.if-bidder-number.false (e ∙ sym c.number-number.ensures.value))
 
 pub apply-requires-clause-fits : goal.apply-requires-clause-fits
 apply-requires-clause-fits c =
     let old = c.args.clock.now.history in
     let terms = c.args.terms.now in
     let u = bidders_of terms.goods c.args.valuations.now in
-    let here = followed-here terms u old.number (prices_of old) c.args.followers.now c.index-followers-place.result c.loop-place.place c.requires.followed c.loop-place-test.true (λ e. c.if-bidder-number.true (e ∙ sym c.number-number.ensures.value)) c.index-followers-place.is in
-    let is = c.in-Ok.ensures (u (c.loop-place.place + 1)) (prices_of old) here.follows in
+    let here = followed-here terms u old.number (prices_of old) c.args.followers.now c.index-followers-place.result c.loop-place.place c.requires.followed c.loop-place-test.true (λ e. c.if-bidder-number.false (e ∙ sym c.number-number.ensures.value)) c.index-followers-place.is in
+    let is = c.in_ok-demand.ensures (u (c.loop-place.place + 1)) (prices_of old) here.follows in
     let goods : c.index-followers-place.result.supply ≡ c.loop-place.clock.history.terms.goods = here.over ∙ ap (λ t. t.goods) (sym c.requires.terms) ∙ ap (λ (k : ClockHistory). k.terms.goods) (sym c.loop-place.invariant.told) in
-    let G : List ℕ → Type 0 = λ g. IsDemand g c.in-Ok.demand in
+    let G : List ℕ → Type 0 = λ g. IsDemand g c.in_ok-demand.demand in
     let D : List (List ℕ) → Type 0 = IsDemand c.index-followers-place.result.supply in
     subst G goods (subst D (sym is) (IsDemand-demand c.index-followers-place.result.supply (u (c.loop-place.place + 1)) (prices_of old)))
 
@@ -41,25 +40,27 @@ loop-place-preserved c =
     let old = c.args.clock.now.history in
     let terms = c.args.terms.now in
     let u = bidders_of terms.goods c.args.valuations.now in
-    elim c.if-bidder-number.branch [
-      | then-bidder-number+in-Ok+in-Ok-apply w ↦
-          let here = followed-here terms u old.number (prices_of old) c.args.followers.now w.index-followers-place.result c.loop-place.place c.requires.followed c.loop-place-test.true (λ e. w.if-bidder-number.true (e ∙ sym c.number-number.ensures.value)) w.index-followers-place.is in
-          let same = report-here terms old u c.loop-place.place c.look-round.result.round w.index-followers-place.result w.in-Ok.demand c.requires.terms here c.look-round.ensures.round (w.in-Ok.ensures (u (c.loop-place.place + 1)) (prices_of old) here.follows) in
-          let number = λ (e : c.loop-place.place + 1 ≡ old.number). w.if-bidder-number.true (e ∙ sym c.number-number.ensures.value) in
-          let bidders = ap (λ t. t.bidders) c.requires.terms in
-          let take = takes-next u old c.loop-place.clock.history c.loop-place.place c.requires.fresh c.loop-place.invariant.told c.loop-place.invariant.grown (omega (arith, bidders, c.loop-place-test.true)) number in
-          let next = ap (λ k. k.history) w.clock-is ∙ w.in-Ok-apply.ensures.ok ∙ ap (with_report c.loop-place.clock.history) same in
-          let G : ClockHistory → Type 0 = λ h. steps_of c.loop-place.clock.history ≤ steps_of h in
-          let grown = subst G (sym next) (grows c.loop-place.clock.history _ take).steps in
-          record {
-            told = next ∙ told-with u old c.loop-place.clock.history c.loop-place.place c.loop-place.invariant.told number;
-            grown = omega (arith, c.loop-place.invariant.grown, grown);
-          }
-      | else-bidder-number w ↦ record {
-        told = ap (λ k. k.history) w.clock-is ∙ told-without u old c.loop-place.clock.history c.loop-place.place c.loop-place.invariant.told (w.if-bidder-number.false ∙ c.number-number.ensures.value);
-        grown = (let e = ap (λ k. steps_of k.history) w.clock-is in omega (arith, c.loop-place.invariant.grown, e));
-      }
-    ]
+    let number = λ (e : c.loop-place.place + 1 ≡ old.number). c.if-bidder-number.false (e ∙ sym c.number-number.ensures.value) in
+    let here = followed-here terms u old.number (prices_of old) c.args.followers.now c.index-followers-place.result c.loop-place.place c.requires.followed c.loop-place-test.true number c.index-followers-place.is in
+    let same = report-here terms old u c.loop-place.place c.look-round.result.round c.index-followers-place.result c.in_ok-demand.demand c.requires.terms here c.look-round.ensures.round (c.in_ok-demand.ensures (u (c.loop-place.place + 1)) (prices_of old) here.follows) in
+    let bidders = ap (λ t. t.bidders) c.requires.terms in
+    let take = takes-next u old c.loop-place.clock.history c.loop-place.place c.requires.fresh c.loop-place.invariant.told c.loop-place.invariant.grown (omega (arith, bidders, c.loop-place-test.true)) number in
+    let next = c.in-Ok.ensures.ok ∙ ap (with_report c.loop-place.clock.history) same in
+    let G : ClockHistory → Type 0 = λ h. steps_of c.loop-place.clock.history ≤ steps_of h in
+    let grown = subst G (sym next) (grows c.loop-place.clock.history _ take).steps in
+    record {
+      told = next ∙ told-with u old c.loop-place.clock.history c.loop-place.place c.loop-place.invariant.told number;
+      grown = omega (arith, c.loop-place.invariant.grown, grown);
+    }
+
+pub loop-place-preserved-then-bidder-number : goal.loop-place-preserved-then-bidder-number
+loop-place-preserved-then-bidder-number c =
+    let old = c.args.clock.now.history in
+    let u = bidders_of c.args.terms.now.goods c.args.valuations.now in
+    record {
+      told = told-without u old c.loop-place.clock.history c.loop-place.place c.loop-place.invariant.told (c.if-bidder-number.true ∙ c.number-number.ensures.value);
+      grown = c.loop-place.invariant.grown;
+    }
 
 pub returns-clause-turned : goal.returns-clause-turned
 returns-clause-turned c =
