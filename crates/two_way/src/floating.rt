@@ -319,28 +319,23 @@ fn tell_round(
     let round = clock.look().round;
     for place in 0..terms.bidders {
         let bidder = place + 1;
-        if bidder != number {
-            let from = &bidders[place as usize];
-            if from.stays {
-                match clock.apply_again(alloc, bidder) {
-                    Ok(()) => {}
-                    Err(NoMemory) => return Err(NoMemory),
-                }
-            } else {
-                let demand = match from.follower.demand(alloc) {
-                    Ok(demand) => demand,
-                    Err(NoMemory) => return Err(NoMemory),
-                };
-                let report = Report {
-                    bidder,
-                    round,
-                    demand,
-                };
-                match clock.apply(alloc, report) {
-                    Ok(()) => {}
-                    Err(_) => return Err(NoMemory),
-                }
-            }
+        if bidder == number {
+            continue;
+        }
+        let from = &bidders[place as usize];
+        if from.stays {
+            clock.apply_again(alloc, bidder)?;
+            continue;
+        }
+        let demand = from.follower.demand(alloc)?;
+        let report = Report {
+            bidder,
+            round,
+            demand,
+        };
+        match clock.apply(alloc, report) {
+            Ok(()) => {}
+            Err(_) => return Err(NoMemory),
         }
     }
     Ok(())

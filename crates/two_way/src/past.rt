@@ -1,5 +1,6 @@
 //! The reports of a two-way clock, as they are kept.
-ghost use Rattle.std.specs.Prelude.{◌≡◌, ◌<◌, ◌≤◌, ◌+◌, ◌==◌, ◌&&◌, ◌++◌, [], ◌∷◌, List, ℕ, length, drop, find, reverse, option_copied, option_map, is_some, true, slice_index_or, OnOk, OnErr, IfErr, IfSome};
+ghost use Rattle.std.specs.Prelude.{◌≡◌, ◌<◌, ◌≤◌, ◌+◌, ◌==◌, ◌&&◌, ◌++◌, [], ◌∷◌, List, ℕ, length};
+ghost use Rattle.std.specs.Prelude.{drop, find, reverse, option_copied, option_map, is_some, true, slice_index_or, OnOk, OnErr, IfErr, IfSome};
 ghost use Rattle.std.specs.Vec.{vec_capacity};
 ghost use Rattle.std.specs.List.{AllByRecursion};
 ghost use Rattle.lot_base.specs.Demands.{IsDemand, IsTable, least};
