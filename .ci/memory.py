@@ -32,10 +32,10 @@ HANDING_BACK = {("clock_family/src/house_books.rt", "new"), ("turn_desk/src/boar
 
 # Where it is said and no such call failed: under which condition, and why that is right.
 ELSEWHERE = {
-    ("clock/src/places.rt", "make_room"): ("if quantities.len() + more as usize > u32::MAX as usize", "32 bits count no more quantities"),
+    ("clock/src/kept_quantities.rt", "make_room"): ("if quantities.len() + more as usize > u32::MAX as usize", "32 bits count no more quantities"),
     ("clock/src/repeating.rt", "repeat_idle"): (
         "let Some(room) = reports.checked_add(most * members as u32) else", "32 bits count no more reports"),
-    ("house_io/src/memory/places.rt", "reserve"): ("match self.free.checked_add(more): None", "64 bits count no more places"),
+    ("house_io/src/memory/given_back.rt", "reserve"): ("match self.free.checked_add(more): None", "64 bits count no more places"),
     ("clock/src/packing.rt", "report"): (
         "match Demand::read_quantities(alloc, goods, self.goods, kept): Err(_)", "what was kept of a demand is one: no other fault comes"),
     ("valuation/src/surpluses.rt", "demanded"): (

@@ -116,7 +116,7 @@ pub(crate) fn visit<D: Demands, L: Link>(
         Ok(look) => look,
         Err(end) => return Err(end),
     };
-    let known = before.behind(look.round, look.phase);
+    let known = before.after_look(look.round, look.phase);
     if known.closed {
         return match seen.push(SeenLook { clock, look }) {
             Ok(()) => Ok(known),
@@ -138,7 +138,7 @@ pub(crate) fn visit<D: Demands, L: Link>(
         &look.prices,
         link,
     ) {
-        Ok(()) => Ok(known.behind_report()),
+        Ok(()) => Ok(known.after_report()),
         Err(end) => Err(end),
     }
 }

@@ -14,7 +14,7 @@ use Rattle.demand_set.specs.Reading.{demand_of, bundles_of}
 use Rattle.demand_set.proofs.Joined.{demand_of-demand}
 use Rattle.std.specs.Prelude.{Ok}
 use Rattle.clock.specs.Past.{report_at, history_of, AllFit}
-use Rattle.clock.specs.declared.places.Place.{Place}
+use Rattle.clock.specs.declared.kept_quantities.Place.{Place}
 
 drop-front : (n : ℕ) (xs ys : List ℕ) → n ≤ length xs → drop n (xs ++ ys) ≡ drop n xs ++ ys
 drop-front zero xs ys h = refl

@@ -14,7 +14,7 @@ use Rattle.lot_base.proofs.Within.{both}
 use Rattle.lyapunov.specs.Excesses.{entry, IsExcessOf}
 use Rattle.credit_book.specs.Account.{least_in, Sums, sum_without}
 use Rattle.demand_set.specs.declared.reports.Report.{Report}
-use Rattle.clock.specs.declared.standing.Standing.{Standing}
+use Rattle.clock.specs.declared.next_step.Standing.{Standing}
 use Rattle.clock.specs.Past.{PastOf}
 use Rattle.clock.specs.Reports.{ClockHistory, set_numbers, demand_in, demands_in, members_of, with_report}
 use Rattle.clock.specs.Standing.{sets_of, step_set_after, leads_on, is_full_after, good_at_ceiling, good_from, prices_after, phase_after}

@@ -7,7 +7,7 @@ use Rattle.demand_set.specs.Reading.{groups}
 use Rattle.demand_set.specs.declared.reports.Report.{Report}
 use Rattle.demand_set.proofs.Groups.{length-groups}
 use Rattle.demand_set.proofs.PackedForm.{concat-groups}
-use Rattle.clock.specs.declared.places.Place.{Place}
+use Rattle.clock.specs.declared.kept_quantities.Place.{Place}
 use Rattle.clock.specs.Past.{AllFit, Fits, history_of, quantities_of, report_at}
 use Rattle.clock.specs.Latest.{IsRepeat, latest_of}
 use Rattle.clock.proofs.Stored.{fit-take, found-fit, groups-quantities, history-find, history-take, length-quantities}

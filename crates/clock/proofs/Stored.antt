@@ -14,7 +14,7 @@ use Rattle.demand_set.proofs.Groups.{length-groups}
 use Rattle.demand_set.proofs.Same.{same_slices, same-test}
 use Rattle.demand_set.proofs.Joined.{length-concat}
 use Rattle.demand_set.proofs.PackedForm.{concat-groups}
-use Rattle.clock.specs.declared.places.Place.{Place}
+use Rattle.clock.specs.declared.kept_quantities.Place.{Place}
 use Rattle.clock.specs.Past.{AllFit, Fits, IsPast, IsSharedAt, IsStoredAt, PastOf, again_among, history_of, quantities_of, report_at, with_again}
 use Rattle.clock.proofs.Appended.{demand-back, fit-more, fitted, groups-front, history-more, pushed}
 

@@ -19,7 +19,7 @@ use Rattle.lyapunov.specs.Excesses.{entry, IsAdded}
 use Rattle.credit_book.specs.Account.{Sums, sum_without, least_in}
 use Rattle.demand_set.specs.declared.reports.Report.{Report}
 use Rattle.clock.specs.declared.judging.Judgement.TheVariants.{Take}
-use Rattle.clock.specs.declared.standing.Standing.{Standing}
+use Rattle.clock.specs.declared.next_step.Standing.{Standing}
 use Rattle.clock.specs.Reports.{ClockHistory, demand_in, demands_in, members_of, with_report}
 use Rattle.clock.specs.Standing.{step_set_after, leads_on, is_full_after, good_at_ceiling, good_from, prices_after, phase_after}
 use Rattle.clock.specs.Judging.{judgement_of, is_member}

@@ -4,7 +4,7 @@ use Rattle.std.specs.List.{AllByRecursion, concat}
 use Rattle.demand_set.specs.Reading.{groups}
 use Rattle.demand_set.specs.declared.reports.Report.{Report}
 use Rattle.lot_base.specs.declared.supply.GoodSet.{GoodSet}
-use Rattle.clock.specs.declared.places.Place.{Place}
+use Rattle.clock.specs.declared.kept_quantities.Place.{Place}
 
 -- the quantities at a place, and the report
 abbrev pub quantities_of : ℕ → List ℕ → Place → List ℕ

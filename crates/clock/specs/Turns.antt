@@ -7,7 +7,7 @@ use Rattle.lot_base.specs.declared.supply.GoodSet.{GoodSet}
 use Rattle.lot_base.specs.declared.phases.Phase.TheVariants.{Running, Ended, Halted}
 use Rattle.lyapunov.specs.Excesses.{entry}
 use Rattle.credit_book.specs.Account.{Sums, sum_without, units_left}
-use Rattle.clock.specs.declared.standing.Standing.{Standing}
+use Rattle.clock.specs.declared.next_step.Standing.{Standing}
 use Rattle.clock.specs.Standing.{good_from}
 
 -- some member has not reported: all is as it was

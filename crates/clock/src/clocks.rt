@@ -6,9 +6,9 @@ ghost use Rattle.lot_base.specs.Goods.{IsSupply};
 ghost use Rattle.lot_base.specs.Demands.{IsDemand, IsTable, least};
 ghost use Rattle.clock.specs.Kept.{CountsIn};
 
+use crate::next_step::Standing;
 use crate::packing::Past;
 use crate::rounds::{find_demand, member_count, missing_in, prices_along};
-use crate::standing::Standing;
 use credit_book::Account;
 use demand_set::{Demand, Report};
 use lot_base::limits::MOST_BIDDERS;

@@ -3,13 +3,13 @@
 
 pub mod clocks;
 pub mod judging;
+mod kept_quantities;
 pub mod laws;
+mod next_step;
 mod packing;
-mod places;
 pub mod repeating;
 pub mod replaying;
 pub mod rounds;
-mod standing;
 
 pub use clocks::{Clock, Look, NotApplied};
 pub use judging::{Judgement, Offered};

@@ -11,7 +11,7 @@ ghost use Rattle.clock.specs.Tables.{is_member_of};
 ghost use Rattle.clock.specs.Latest.{IsRepeat};
 ghost use Rattle.clock.specs.Past.{PastOf, again_among, with_again, with_spare, pushed, raised_on};
 
-use crate::places::{
+use crate::kept_quantities::{
     Place, has_same, is_demand, keep, latest_place, make_room, place_again, place_of,
     quantities_at, shared_start,
 };

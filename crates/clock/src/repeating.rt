@@ -5,9 +5,9 @@ ghost use Rattle.clock.specs.Reports.{members_of};
 ghost use Rattle.clock.specs.Repeats.{IsIdle, with_round, repeated};
 
 use crate::clocks::Clock;
+use crate::next_step::first_at;
 use crate::packing::push_round;
 use crate::rounds::member_count;
-use crate::standing::first_at;
 use lot_base::{GoodSet, NoMemory};
 use std::alloc::Global;
 

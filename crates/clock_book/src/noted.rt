@@ -7,7 +7,7 @@ ghost use Rattle.clock.specs.Judging.{judgement_of};
 ghost use Rattle.clock.specs.Reports.{with_report, applied};
 ghost use Rattle.clock.specs.declared.judging.Judgement.TheVariants.{Take};
 
-use crate::entries::{Note, Since, note_behind};
+use crate::entries::{Note, Since, note_after};
 use clock::Clock;
 use demand_set::Report;
 use std::alloc::Global;
@@ -111,7 +111,7 @@ impl NotedClock {
         ensures reports { self.old.spare_reports ≤ self.new.spare_reports + 1 }
         ensures quantities { self.old.spare_quantities ≤ self.new.spare_quantities + length (concat report.demand) }
     {
-        self.since = note_behind(&self.since, &report, note);
+        self.since = note_after(&self.since, &report, note);
         apply_reserved(alloc, &mut self.clock, report);
     }
 
@@ -122,7 +122,7 @@ impl NotedClock {
         ensures reports { self.new.spare_reports ≡ self.old.spare_reports }
         ensures quantities { self.new.spare_quantities ≡ self.old.spare_quantities }
     {
-        self.since = note_behind(&self.since, report, Note::Failed);
+        self.since = note_after(&self.since, report, Note::Failed);
         self.marks = self.marks.wrapping_add(1);
     }
 }

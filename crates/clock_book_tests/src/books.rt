@@ -474,7 +474,7 @@ fn taken_of(stand: &mut Stand) -> u64 {
 }
 
 /// Whether the four reports are answered `Again`, as many as these, and `Taken` from then on.
-fn goes_on_behind(stand: &mut Stand, found: u64) -> bool {
+fn goes_on_after(stand: &mut Stand, found: u64) -> bool {
     let mut left = found;
     let mut as_wanted = true;
     for line in four() {
@@ -529,7 +529,7 @@ fn found_on(alloc: Global, file: &[u8]) -> Option<(u64, bool, u64)> {
         None => None,
         Some(mut stand) => {
             let found = stand.entries();
-            let goes_on = goes_on_behind(&mut stand, found);
+            let goes_on = goes_on_after(&mut stand, found);
             Some((found, goes_on, stand.entries()))
         }
     }
@@ -557,7 +557,7 @@ fn taken_until(alloc: Global, first: u64) -> Option<u64> {
 }
 
 #[test]
-fn each_crash_behind_a_stop_leaves_what_was_taken(rt: HostRuntime) -> Result<(), Fail> {
+fn each_crash_after_a_stop_leaves_what_was_taken(rt: HostRuntime) -> Result<(), Fail> {
     // The first call that no run makes.
     let end = OPENING + 4 * APPEND + 1;
     for first in OPENING + 1..=end {

@@ -8,8 +8,8 @@ ghost use Rattle.clock_family.specs.Opening.{IsNotOpen};
 ghost use Rattle.clock_family.specs.Turns.{LooksAt, OffersAt, AreOf};
 ghost use Rattle.clock_family.specs.Houses.{IsOpened, AreAllOf, AreClosed, all_still};
 
+use crate::clock_passes::close_all;
 use crate::closing::Closing;
-use crate::columns::close_all;
 use crate::dealing::{Tray, deal, gather, reserve};
 use crate::house_books::HouseBook;
 use crate::opening::{NotOpen, lay_all};

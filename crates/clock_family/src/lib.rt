@@ -1,8 +1,8 @@
 //! A house: clock books on desks, where each pass of a desk looks at the clock or offers it a report when its turn comes.
 #![tactic(auto)]
 
+mod clock_passes;
 mod closing;
-mod columns;
 mod dealing;
 mod hints;
 pub mod house_books;

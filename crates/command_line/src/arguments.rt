@@ -38,11 +38,11 @@ pub fn join_words(alloc: Global, words: &[String]) -> Result<Option<Joined<'_>>,
     let [name, behind @ ..] = words else {
         return Ok(None);
     };
-    join_behind(alloc, name.as_str(), behind)
+    join_after(alloc, name.as_str(), behind)
 }
 
 /// The same, of the name and the words after it.
-fn join_behind<'a>(
+fn join_after<'a>(
     alloc: Global,
     name: &'a str,
     behind: &[String],

@@ -1,7 +1,7 @@
 //! The demands that bidders report: which bundles they would like best at the prices of a round.
 #![tactic(auto)]
 
-pub mod places;
+pub mod box_order;
 pub mod quantities;
 pub mod reading;
 pub mod reports;

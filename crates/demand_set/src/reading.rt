@@ -4,7 +4,7 @@ ghost use Rattle.byte_numbers.specs.Spelling.{short_numbers};
 ghost use Rattle.demand_set.specs.Reading.{IsOrNoMemory};
 ghost use Rattle.demand_set.specs.Same.{same_demand};
 
-use crate::places::fault_of;
+use crate::box_order::fault_of;
 use byte_numbers::short_numbers_of;
 use lot_base::{Bundle, Goods, NoMemory, RawDemand};
 use std::alloc::{AllocError, AllocFailed, Global};

@@ -2,12 +2,12 @@
 //! calls fail.
 mod addresses;
 mod failing;
+mod given_back;
 pub mod list;
 pub mod list_disk;
 pub mod list_link;
 pub mod list_net;
 pub mod list_shelf;
-mod places;
 pub mod recorded_file;
 mod rows;
 mod shelved;

@@ -15,7 +15,7 @@ use Rattle.report_wire.specs.declared.frames.WireKind.{WireKind}
 use Rattle.report_wire.specs.declared.frames.WireFault.{WireFault}
 use Rattle.report_wire.proofs.Streams.{stream_on}
 use Rattle.session.specs.declared.halls.Asked.{Asked}
-use Rattle.session.specs.Turns.{frames_of, bytes_of, goes_on_behind}
+use Rattle.session.specs.Turns.{frames_of, bytes_of, goes_on_after}
 use Rattle.house_serve.specs.declared.ends.SessionEnd.{SessionEnd}
 use Rattle.house_serve.specs.declared.ends.SessionEnd.TheVariants as ends
 use Rattle.house_serve.specs.Ends.{EndsBy, fault_bytes}
@@ -46,7 +46,7 @@ ends_by auction w fs tail place left bytes given ends.LinkFault h k = (h, (k.0, 
 ends_by auction w fs tail place left bytes given ends.NoMemory h k = (h, (k.0, inl k.1))
 
 -- the reply to a fault behind the replies
-fault_ends : (auction : Auction) (w : Option ℕ) (fs : List ToHouse) (tail : List ℕ) (place : ℕ) (bytes : List ℕ) (f : WireFault) (e : SessionEnd) (x y z : LinkBytes) → goes_on_behind auction w fs ≡ true → IsFault to_house f.kind tail → f.place ≡ place
+fault_ends : (auction : Auction) (w : Option ℕ) (fs : List ToHouse) (tail : List ℕ) (place : ℕ) (bytes : List ℕ) (f : WireFault) (e : SessionEnd) (x y z : LinkBytes) → goes_on_after auction w fs ≡ true → IsFault to_house f.kind tail → f.place ≡ place
     → Adds bytes x y → IsFaultSent f e y z → (given : List ℕ) × Adds given x z × ((more : List ℕ) × (given ≡ bytes ++ more)) × EndsBy auction w fs tail place z.left bytes given e
 fault_ends auction w fs tail place bytes f (ends.Wire other) x y z go is at a h = (
   bytes ++ fault_bytes f.kind,

@@ -11,7 +11,7 @@ use Rattle.report_wire.specs.Reading.{ReaderState, fresh}
 use Rattle.report_wire.specs.declared.messages.ToHouse.{ToHouse}
 use Rattle.report_wire.proofs.Streams.{stream_on, all-append}
 use Rattle.session.specs.declared.halls.Asked.{Asked}
-use Rattle.session.specs.Turns.{Turn, frames_of, bytes_of, goes_on_behind, bidder_behind}
+use Rattle.session.specs.Turns.{Turn, frames_of, bytes_of, goes_on_after, bidder_behind}
 use Rattle.house_serve.specs.declared.ends.SessionEnd.{SessionEnd}
 use Rattle.house_serve.specs.declared.ends.SessionEnd.TheVariants as ends
 use Rattle.house_serve.specs.Ends.{EndsBy, TakesBy, IsCut, fault_bytes, most}
@@ -38,7 +38,7 @@ length_turns ts us =
 placed : (place a b n : ℕ) → place ≡ a % 2 ^ 64 → n ≡ a + b → (place + b) % 2 ^ 64 ≡ n % 2 ^ 64
 placed place a b n p q = omega (arith, p, q)
 
-cut_join : (auction : Auction) (fs gs : List ToHouse) (w : Option ℕ) (tail : List ℕ) (done bytes given : List ℕ) → goes_on_behind auction w fs ≡ true
+cut_join : (auction : Auction) (fs gs : List ToHouse) (w : Option ℕ) (tail : List ℕ) (done bytes given : List ℕ) → goes_on_after auction w fs ≡ true
     → IsCut auction (bidder_behind auction w fs) gs tail bytes given → IsCut auction w (fs ++ gs) tail (done ++ bytes) (done ++ given)
 cut_join auction fs gs w tail done bytes given p h = (
   one_on auction fs gs w p h.0,
@@ -51,7 +51,7 @@ cut_join auction fs gs w tail done bytes given p h = (
   ),
 )
 
-ends_join : (auction : Auction) (fs gs : List ToHouse) (w : Option ℕ) (tail : List ℕ) (place : ℕ) (left done bytes given : List ℕ) (e : SessionEnd) → goes_on_behind auction w fs ≡ true
+ends_join : (auction : Auction) (fs gs : List ToHouse) (w : Option ℕ) (tail : List ℕ) (place : ℕ) (left done bytes given : List ℕ) (e : SessionEnd) → goes_on_after auction w fs ≡ true
     → EndsBy auction (bidder_behind auction w fs) gs tail place left bytes given e → EndsBy auction w (fs ++ gs) tail place left (done ++ bytes) (done ++ given) e
 ends_join auction fs gs w tail place left done bytes given ends.Quit p h = (ends_on auction fs gs w ends.Quit p h.0, ap (λ (l : List ℕ). done ++ l) h.1)
 ends_join auction fs gs w tail place left done bytes given ends.BadToken p h = (ends_on auction fs gs w ends.BadToken p h.0, ap (λ (l : List ℕ). done ++ l) h.1)
@@ -111,8 +111,8 @@ module _ {M : Type 0} (allows : M → Asked → M → Type 0) (auction : Auction
           held = turns_on allows auction u.turns new None w w2 m m1 m2 u.held s.2.1;
           each = subst (AllByRecursion (IsSent to_house)) (sym (sent_on u.turns new)) (all-append (IsSent to_house) (map house_sent (frames_of u.turns)) (map house_sent (frames_of new)) u.each s.2.2);
           replies = replies_on u.turns new u.replies s.2.3;
-          going = subst (λ (l : List ToHouse). goes_on_behind auction None l ≡ true) (sym (frames_on u.turns new))
-              (behind_on auction (frames_of u.turns) (frames_of new) None u.going (subst (λ (x : Option ℕ). goes_on_behind auction x (frames_of new) ≡ true) who_is goes.goes));
+          going = subst (λ (l : List ToHouse). goes_on_after auction None l ≡ true) (sym (frames_on u.turns new))
+              (behind_on auction (frames_of u.turns) (frames_of new) None u.going (subst (λ (x : Option ℕ). goes_on_after auction x (frames_of new) ≡ true) who_is goes.goes));
           partial = goes.partial;
           whole = goes.whole;
           place = goes.place ∙ placed reader.place (length (stream_of (map house_sent (frames_of u.turns)) [])) (length (stream_of (map house_sent (frames_of new)) [])) (length (stream_of (map house_sent (frames_of (u.turns ++ new))) [])) u.place (length_turns u.turns new);

@@ -7,7 +7,7 @@ use Rattle.report_wire.specs.declared.messages.ToHouse.TheVariants as house
 use Rattle.report_wire.specs.Frames.{IsFault, IsPartial, spelled}
 use Rattle.report_wire.specs.Messages.{to_house, bidder_sent}
 use Rattle.session.specs.Table.{goes_on, bidder_after, wire_reply}
-use Rattle.session.specs.Turns.{goes_on_behind}
+use Rattle.session.specs.Turns.{goes_on_after}
 use Rattle.house_serve.specs.declared.ends.SessionEnd.{SessionEnd}
 use Rattle.house_serve.specs.declared.ends.SessionEnd.TheVariants as ends
 
@@ -39,7 +39,7 @@ abbrev pub IsCut : Auction → Option ℕ → List ToHouse → List ℕ → List
 IsCut auction who frames tail bytes given =
     IsOneSession auction who frames
     × ((more : List ℕ) × ((bytes ≡ given ++ more)
-    ⊎ ((kind : WireKind) × (goes_on_behind auction who frames ≡ true) × IsFault to_house kind tail × (bytes ++ fault_bytes kind ≡ given ++ more))))
+    ⊎ ((kind : WireKind) × (goes_on_after auction who frames ≡ true) × IsFault to_house kind tail × (bytes ++ fault_bytes kind ≡ given ++ more))))
 
 -- The frames came, and this tail behind them, at whose place so many bytes had come; these bytes are the replies', these were given,
 -- and these are left: how each end comes.
@@ -47,10 +47,10 @@ abbrev pub EndsBy : Auction → Option ℕ → List ToHouse → List ℕ → ℕ
 EndsBy auction who frames tail place left bytes given ends.Quit = EndsWith auction who frames ends.Quit × (given ≡ bytes)
 EndsBy auction who frames tail place left bytes given ends.BadToken = EndsWith auction who frames ends.BadToken × (given ≡ bytes)
 EndsBy auction who frames tail place left bytes given (ends.Wire fault) =
-    (goes_on_behind auction who frames ≡ true) × IsFault to_house fault.kind tail × (fault.place ≡ place) × (given ≡ bytes ++ fault_bytes fault.kind)
+    (goes_on_after auction who frames ≡ true) × IsFault to_house fault.kind tail × (fault.place ≡ place) × (given ≡ bytes ++ fault_bytes fault.kind)
 EndsBy auction who frames tail place left bytes given (ends.Closed rest) =
-    (goes_on_behind auction who frames ≡ true) × IsPartial to_house tail × (rest ≡ length tail) × (left ≡ []) × (given ≡ bytes)
-EndsBy auction who frames tail place left bytes given ends.Spent = (goes_on_behind auction who frames ≡ true) × IsPartial to_house tail × (given ≡ bytes)
+    (goes_on_after auction who frames ≡ true) × IsPartial to_house tail × (rest ≡ length tail) × (left ≡ []) × (given ≡ bytes)
+EndsBy auction who frames tail place left bytes given ends.Spent = (goes_on_after auction who frames ≡ true) × IsPartial to_house tail × (given ≡ bytes)
 EndsBy auction who frames tail place left bytes given ends.LinkFault = IsCut auction who frames tail bytes given
 EndsBy auction who frames tail place left bytes given ends.NoMemory = IsCut auction who frames tail bytes given
 

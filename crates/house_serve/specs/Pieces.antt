@@ -9,7 +9,7 @@ use Rattle.report_wire.specs.Frames.{IsSent, IsPartial, spelled, stream_of}
 use Rattle.report_wire.specs.Messages.{to_house, house_sent, to_bidder, bidder_sent}
 use Rattle.report_wire.specs.Reading.{ReaderState}
 use Rattle.session.specs.declared.halls.Asked.{Asked}
-use Rattle.session.specs.Turns.{Turn, AreTurns, frames_of, replies_of, bytes_of, goes_on_behind}
+use Rattle.session.specs.Turns.{Turn, AreTurns, frames_of, replies_of, bytes_of, goes_on_after}
 use Rattle.house_serve.specs.declared.ends.SessionEnd.{SessionEnd}
 use Rattle.house_serve.specs.declared.ends.SessionEnd.TheVariants as ends
 use Rattle.house_serve.specs.declared.answering.Cut.{Cut}
@@ -35,7 +35,7 @@ WritesBy (Some ends.NoMemory) bytes given = (more : List ℕ) × (bytes ≡ give
 
 -- the session went on behind the frames, or ended with the last of them, or was cut off
 abbrev pub GoesBy : Auction → Option ℕ → List ToHouse → Option SessionEnd → Type 0
-GoesBy auction who frames None = goes_on_behind auction who frames ≡ true
+GoesBy auction who frames None = goes_on_after auction who frames ≡ true
 GoesBy auction who frames (Some ends.Quit) = EndsWith auction who frames ends.Quit
 GoesBy auction who frames (Some ends.BadToken) = EndsWith auction who frames ends.BadToken
 GoesBy auction who frames (Some (ends.Wire fault)) = ⊥
@@ -67,7 +67,7 @@ pub record Answers {M : Type 0} (allows : M → Asked → M → Type 0) (auction
 
 -- what a reader has behind a piece that ended no session
 pub record GoesOn (auction : Auction) (who : Option ℕ) (frames : List ToHouse) (tail : List ℕ) (reader reader_after : ReaderState) : Type 0 where
-  pub goes : goes_on_behind auction who frames ≡ true
+  pub goes : goes_on_after auction who frames ≡ true
   pub tail_is : tail ≡ reader_after.rest
   pub partial : IsPartial to_house tail
   pub whole : reader_after.fault ≡ None

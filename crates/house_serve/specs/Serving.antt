@@ -8,7 +8,7 @@ use Rattle.report_wire.specs.Frames.{IsSent, IsPartial, stream_of}
 use Rattle.report_wire.specs.Messages.{to_house, house_sent, to_bidder, bidder_sent}
 use Rattle.report_wire.specs.Reading.{ReaderState}
 use Rattle.session.specs.declared.halls.Asked.{Asked}
-use Rattle.session.specs.Turns.{Turn, AreTurns, frames_of, replies_of, bytes_of, goes_on_behind}
+use Rattle.session.specs.Turns.{Turn, AreTurns, frames_of, replies_of, bytes_of, goes_on_after}
 use Rattle.house_serve.specs.declared.ends.SessionEnd.{SessionEnd}
 use Rattle.house_serve.specs.declared.ends.SessionEnd.TheVariants as ends
 use Rattle.house_serve.specs.declared.serving.Step.{Step}
@@ -26,7 +26,7 @@ pub record IsPulledLast {M : Type 0} (auction : Auction) (turns : List (Turn M))
   pub piece : List ℕ
   pub turns_are : turns ≡ done ++ new
   pub taken_is : taken ≡ stream_of (map house_sent (frames_of done)) rest ++ piece
-  pub goes : goes_on_behind auction None (frames_of done) ≡ true
+  pub goes : goes_on_after auction None (frames_of done) ≡ true
   pub partial : IsPartial to_house rest
   pub short : length piece ≤ CHUNK
 
@@ -70,7 +70,7 @@ pub record Underway {M : Type 0} (allows : M → Asked → M → Type 0) (auctio
   pub held : AreTurns allows auction None before turns who after
   pub each : AllByRecursion (IsSent to_house) (map house_sent (frames_of turns))
   pub replies : AllByRecursion (IsSent to_bidder) (map bidder_sent (replies_of turns))
-  pub going : goes_on_behind auction None (frames_of turns) ≡ true
+  pub going : goes_on_after auction None (frames_of turns) ≡ true
   pub partial : IsPartial to_house reader.rest
   pub whole : reader.fault ≡ None
   pub place : reader.place ≡ length (stream_of (map house_sent (frames_of turns)) []) % 2 ^ 64

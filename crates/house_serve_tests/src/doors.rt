@@ -116,7 +116,7 @@ fn serves_two<T: Wait>(rt: &T, alloc: Global) -> bool {
 }
 
 /// The door has one link, and fails after it.
-fn fails_behind_one<T: Wait>(rt: &T, alloc: Global) -> bool {
+fn fails_after_one<T: Wait>(rt: &T, alloc: Global) -> bool {
     match list_door(alloc) {
         None => false,
         Some(mut door) => {
@@ -128,7 +128,7 @@ fn fails_behind_one<T: Wait>(rt: &T, alloc: Global) -> bool {
 #[test]
 fn a_door_serves_one_link_after_another(rt: HostRuntime) {
     assert!(rt; serves_two(&rt, rt.alloc()));
-    assert!(rt; fails_behind_one(&rt, rt.alloc()));
+    assert!(rt; fails_after_one(&rt, rt.alloc()));
 }
 
 /// Puts the link of a session after others, if there is memory.

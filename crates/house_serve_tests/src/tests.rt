@@ -229,7 +229,7 @@ const FAULTS: &[Faulty] = &[
 ];
 
 #[test]
-fn a_fault_is_answered_behind_the_frames_and_ends_the_session(rt: HostRuntime) {
+fn a_fault_is_answered_after_the_frames_and_ends_the_session(rt: HostRuntime) {
     for (comes, goes, place, kind) in FAULTS {
         check(&rt, rt.alloc(), &[(*comes, *goes, fault(*place, *kind))]);
     }

@@ -25,7 +25,7 @@ pub fn lays_next(gate: u32, size: u32, next: usize) -> bool
 }
 
 /// The zeros after so many bytes of payload, or of payload and next record, put at this gate of a file that has bytes up to `laid`.
-pub fn pad_behind(gate: u32, laid: u32, size: u32) -> u32
+pub fn pad_after(gate: u32, laid: u32, size: u32) -> u32
     requires { gate + 6 + size ≤ GREATEST_FILE }
     ensures { result ≡ pad_of gate laid size }
 {

@@ -7,7 +7,7 @@ ghost use Rattle.report_journal.specs.Puts.{HasRecord};
 ghost use Rattle.report_journal.specs.declared.spellings.TheConstants.{LONGEST_RECORD};
 
 use crate::hints::{Hint, LONGEST_HINT};
-use crate::padding::{lays_next, pad_behind};
+use crate::padding::{lays_next, pad_after};
 use byte_numbers::number_bytes;
 use lot_base::limits::GREATEST_PAYLOAD;
 
@@ -36,7 +36,7 @@ pub fn fill_record(bytes: &mut Vec<u8>, payload: &[u8])
 
 /// Puts after the record of a payload, put at this gate of a file that has bytes up to `laid`, what is written after it: the record that
 /// is hinted at, and zeros. Takes no memory.
-pub fn lay_behind<H: Hint>(bytes: &mut Vec<u8>, gate: u32, laid: u32, payload: &[u8], hint: &H)
+pub fn lay_after<H: Hint>(bytes: &mut Vec<u8>, gate: u32, laid: u32, payload: &[u8], hint: &H)
     requires fits { gate + 6 + length payload.now ≤ GREATEST_FILE }
     requires record { bytes.old.items ≡ body payload.now ++ 0 ∷ [] }
     requires room { LONGEST_RECORD ≤ vec_capacity bytes.old }
@@ -46,11 +46,11 @@ pub fn lay_behind<H: Hint>(bytes: &mut Vec<u8>, gate: u32, laid: u32, payload: &
 {
     let mut next = [0; LONGEST_HINT];
     let length = hint.next(&mut next);
-    push_behind(bytes, gate, laid, payload, &next[..length]);
+    push_after(bytes, gate, laid, payload, &next[..length]);
 }
 
 /// Puts after it what is written where `next` is the payload that is likely to come next. Takes no memory.
-fn push_behind(bytes: &mut Vec<u8>, gate: u32, laid: u32, payload: &[u8], next: &[u8])
+fn push_after(bytes: &mut Vec<u8>, gate: u32, laid: u32, payload: &[u8], next: &[u8])
     requires fits { gate + 6 + length payload.now ≤ GREATEST_FILE }
     requires record { bytes.old.items ≡ body payload.now ++ 0 ∷ [] }
     requires room { LONGEST_RECORD ≤ vec_capacity bytes.old }
@@ -63,7 +63,7 @@ fn push_behind(bytes: &mut Vec<u8>, gate: u32, laid: u32, payload: &[u8], next: 
         push_record(bytes, next);
         size += next.len() as u32 + 5;
     }
-    let pad = pad_behind(gate, laid, size);
+    let pad = pad_after(gate, laid, size);
     let _zeros = bytes.resize(size as usize + 5 + pad as usize, SHUT);
 }
 

@@ -11,7 +11,7 @@ ghost use Rattle.report_journal.specs.declared.headers.Header.{Header};
 ghost use Rattle.report_journal.specs.declared.spellings.TheConstants.{OPEN, LONGEST_RECORD};
 
 use crate::hints::Hint;
-use crate::spellings::{OPEN, SHORTEST_FORMED, SHUT, lay_behind};
+use crate::spellings::{OPEN, SHORTEST_FORMED, SHUT, lay_after};
 use house_io::{Disk, Failed};
 
 /// Writes and syncs.
@@ -47,7 +47,7 @@ fn put_after_gate<D: Disk>(disk: &mut D, gate: u64, bytes: &[u8]) -> Result<(), 
     ensures cause { HasCause (D.shown disk.old).faults (D.shown disk.new).faults result }
 {
     // The bytes are on the disk before the gate is open, as those of a record are: the other way round a crash could leave an open gate, and
-    // after it no header (must-fail/the_header_behind_its_gate.edit).
+    // after it no header (must-fail/the_header_after_its_gate.edit).
     write_synced(disk, gate + 1, bytes)?;
     write_synced(disk, gate, &[OPEN])
 }
@@ -141,7 +141,7 @@ pub fn put_record<D: Disk, H: Hint>(
     // open gate would count what nobody appended (must-fail/a_gate_is_opened_before_another_record.edit).
     write_record(disk, gate as u64, bytes, lies_there)?;
     // What comes next is asked after that sync, since it may be told while it runs.
-    lay_behind(bytes, gate, laid, payload, hint);
+    lay_after(bytes, gate, laid, payload, hint);
     open_record(disk, gate as u64, payload, bytes)
 }
 

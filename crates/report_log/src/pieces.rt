@@ -98,7 +98,7 @@ impl LogReader {
 }
 
 /// Pulls at most so many bytes after those that the buffer holds.
-fn pull_behind<R: Source>(
+fn pull_after<R: Source>(
     source: &mut R,
     buffer: &mut [u8],
     held: usize,
@@ -143,7 +143,7 @@ fn read_pieces<R: Source>(
     let mut held = 0;
     'pulls: while so_far <= LIMIT {
         let room = (LIMIT - so_far).min(PIECE as u64 - 1) as usize + 1;
-        let count = match pull_behind(source, buffer, held, room) {
+        let count = match pull_after(source, buffer, held, room) {
             Err(Failed) => return Err(LogFault::Failed),
             Ok(0) => return reader.finish(so_far, held),
             Ok(count) => count,

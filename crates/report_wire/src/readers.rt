@@ -187,7 +187,7 @@ impl<F: Frame> Reader<F> {
         }
         let bytes = joined(self.alloc, &self.rest, piece)?;
         let front = read_front::<F>(self.alloc, &bytes)?;
-        let rest = behind(self.alloc, &bytes, front.length)?;
+        let rest = rest_from(self.alloc, &bytes, front.length)?;
         let Front {
             frames,
             length,
@@ -227,7 +227,7 @@ fn joined(alloc: Global, first: &[u8], second: &[u8]) -> Result<Vec<u8>, NoMemor
 }
 
 /// The bytes from a place on.
-fn behind(alloc: Global, bytes: &[u8], at: usize) -> Result<Vec<u8>, NoMemory>
+fn rest_from(alloc: Global, bytes: &[u8], at: usize) -> Result<Vec<u8>, NoMemory>
     requires { at ≤ length bytes.now }
     ensures { IfOk result (λ v. v.items ≡ drop at bytes.now) }
 {

@@ -39,7 +39,7 @@ fn whole_after(
 }
 
 /// The fault after the talk, where these bytes follow it.
-fn fault_behind(alloc: Global, bytes: &[u8]) -> Result<Option<WireFault>, Fail> {
+fn fault_after(alloc: Global, bytes: &[u8]) -> Result<Option<WireFault>, Fail> {
     let mut reader = Reader::new(alloc);
     let _ = fed(&mut reader, &TALK)?;
     let (_, fault) = fed(&mut reader, bytes)?;
@@ -73,7 +73,7 @@ const FAULTS: &[(&[u8], WireKind)] = &[
 #[test]
 fn a_fault_has_the_place_of_its_frame(rt: HostRuntime) -> Result<(), Fail> {
     for (bytes, kind) in FAULTS {
-        let fault = fault_behind(rt.alloc(), bytes)?;
+        let fault = fault_after(rt.alloc(), bytes)?;
         let wanted = WireFault {
             place: 15,
             kind: *kind,

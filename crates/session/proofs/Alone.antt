@@ -6,7 +6,7 @@ use Rattle.auction_file.specs.declared.listing.Auction.{Auction}
 use Rattle.report_wire.specs.declared.messages.ToHouse.{ToHouse}
 use Rattle.report_wire.specs.declared.messages.ToHouse.TheVariants as house
 use Rattle.session.specs.Table.{knows, goes_on, bidder_after}
-use Rattle.session.specs.Turns.{goes_on_behind, bidder_behind}
+use Rattle.session.specs.Turns.{goes_on_after, bidder_behind}
 
 module _ (a b : Auction) (e : a.token_digests ≡ b.token_digests) where
   known : (who : ℕ) (token : List ℕ) → knows a who token ≡ knows b who token
@@ -34,11 +34,11 @@ module _ (a b : Auction) (e : a.token_digests ≡ b.token_digests) where
   after None house.Quit = refl
   after (Some w) house.Quit = refl
 
-  pub same_going : (who : Option ℕ) (frames : List ToHouse) → goes_on_behind a who frames ≡ goes_on_behind b who frames
+  pub same_going : (who : Option ℕ) (frames : List ToHouse) → goes_on_after a who frames ≡ goes_on_after b who frames
   same_going who [] = refl
   same_going who (f ∷ fs) =
       let g = on who f in
-      let rest = same_going (bidder_after a who f) fs ∙ ap (λ (w : Option ℕ). goes_on_behind b w fs) (after who f) in
+      let rest = same_going (bidder_after a who f) fs ∙ ap (λ (w : Option ℕ). goes_on_after b w fs) (after who f) in
       λ i. elim (g i) [ true ↦ rest i | false ↦ false ]
 
   pub same_bidder : (who : Option ℕ) (frames : List ToHouse) → bidder_behind a who frames ≡ bidder_behind b who frames

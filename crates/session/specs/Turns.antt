@@ -50,9 +50,9 @@ abbrev pub bytes_of : {M : Type 0} → List (Turn M) → List ℕ
 bytes_of turns = flat_map (λ t. spelled (bidder_sent t.reply)) turns
 
 -- whether a session goes on behind all of the frames, and its bidder then
-abbrev pub goes_on_behind : Auction → Option ℕ → List ToHouse → Bool
-goes_on_behind auction who [] = true
-goes_on_behind auction who (f ∷ fs) = elim (goes_on auction who f) [ true ↦ goes_on_behind auction (bidder_after auction who f) fs | false ↦ false ]
+abbrev pub goes_on_after : Auction → Option ℕ → List ToHouse → Bool
+goes_on_after auction who [] = true
+goes_on_after auction who (f ∷ fs) = elim (goes_on auction who f) [ true ↦ goes_on_after auction (bidder_after auction who f) fs | false ↦ false ]
 
 abbrev pub bidder_behind : Auction → Option ℕ → List ToHouse → Option ℕ
 bidder_behind auction who [] = who

@@ -15,8 +15,8 @@ mod awarding;
 mod choosing;
 pub mod incentives;
 pub mod laws;
+mod open_clocks;
 pub mod outcome;
-mod standing;
 
 use choosing::Choices;
 pub use choosing::row_of;
@@ -53,7 +53,7 @@ fn settle_exactly(alloc: Global, terms: &Terms, clocks: &[Clock]) -> Result<Sett
     ensures outcome { IfOk result (IsOutcomeOf (histories clocks.now)) }
     ensures whole { IfOk result IsWholeSettlement }
 {
-    if let Some(settlement) = standing::before_the_end(clocks) {
+    if let Some(settlement) = open_clocks::before_the_end(clocks) {
         return Ok(settlement);
     }
     match choosing::clock_rows(alloc, terms, clocks) {
@@ -74,7 +74,7 @@ pub fn settle_found(
     ensures outcome { IfOk result (IsOutcomeOf (histories clocks.now)) }
     ensures whole { IfOk result IsWholeSettlement }
 {
-    if let Some(settlement) = standing::before_the_end(clocks) {
+    if let Some(settlement) = open_clocks::before_the_end(clocks) {
         return Ok(settlement);
     }
     match choosing::found_rows(alloc, clocks, found) {

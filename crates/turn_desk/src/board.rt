@@ -29,7 +29,7 @@ pub(crate) const GAUGE: usize = 3;
 pub(crate) const BOOK: usize = 0;
 
 /// A seat at the table, with the view of the desk that it has.
-pub type Place<B> = Seat<Option<B>, View<<B as Book>::Entry, <B as Book>::Origin>>;
+pub type DeskSeat<B> = Seat<Option<B>, View<<B as Book>::Entry, <B as Book>::Origin>>;
 
 /// The table of a desk, with its four words and its one slot.
 pub(crate) struct Board<B: Book> {
@@ -44,7 +44,7 @@ pub(crate) struct Board<B: Book> {
 
 impl<B: Book> Board<B> {
     /// A board with this book on it, and its first seat.
-    pub(crate) fn open(alloc: Global, book: B) -> Result<(Board<B>, Place<B>), B>
+    pub(crate) fn open(alloc: Global, book: B) -> Result<(Board<B>, DeskSeat<B>), B>
         ensures key { IfOk result (λ r. r.0.table.shared.key.value ≡ book) }
         ensures seat { IfOk result (λ r. (r.1.table_id ≡ r.0.table.shared.table_id)
             × (r.1.me ≡ (founder (B.history book) (B.origin book), []))) }
@@ -78,7 +78,7 @@ impl<B: Book> Board<B> {
     }
 
     /// The book, once no thread shares the board any more.
-    pub(crate) fn shut(self, seat: Place<B>) -> B
+    pub(crate) fn shut(self, seat: DeskSeat<B>) -> B
         requires desk { seat.table_id ≡ self.table.shared.table_id }
         requires all { (seat.me.0.stage ≡ Rests) × (seat.me.0.seats ≡ seat.me.0.made) × (0 < seat.me.0.made) }
         ensures { Ends B.history B.origin self.table.shared.key.value seat.me.0 result }

@@ -6,7 +6,7 @@ ghost use Rattle.turn_desk.specs.Histories.{StartsWith, StartsWithAll, GoesOn};
 ghost use Rattle.turn_desk.specs.Views.{hands_of};
 ghost use Rattle.turn_desk.specs.Passes.{known, heard, IsWitness, AreNew, AreAll, Gathers, Closes, PassGlances, at_turn, after_giving};
 
-use crate::board::{Board, Place};
+use crate::board::{Board, DeskSeat};
 use crate::book::Book;
 use crate::notes::LONGEST_NOTE;
 use std::alloc::Global;
@@ -33,7 +33,7 @@ pub struct Pass<B: Book> {
     /// The number of entries at the take, modulo 2^64. 0 at rest.
     count: u64,
     /// Its seat at the table of the desk, with what the pass has seen and appended. It stands for itself alone, and waits for no turn.
-    seat: Place<B>,
+    seat: DeskSeat<B>,
 }
 
 impl<B: Book> Model for Pass<B> {
@@ -49,7 +49,7 @@ impl<B: Book> Model for Pass<B> {
 /// What a pass had seen of its desk, for another pass to hear. It stands for no pass, and waits for no turn.
 pub struct Witness<B: Book> {
     /// A seat at the table of the desk that stands for none.
-    seat: Place<B>,
+    seat: DeskSeat<B>,
 }
 
 impl<B: Book> Model for Witness<B> {
@@ -69,7 +69,7 @@ impl<B: Book> Drop for Witness<B> {
 }
 
 impl<B: Book> Witness<B> {
-    fn into_seat(self) -> Place<B>
+    fn into_seat(self) -> DeskSeat<B>
         ensures seat { (result.table_id ≡ self.desk) × (result.me.0.seen ≡ self.seen) }
         ensures witness { IsWitness result.me }
     {
@@ -102,7 +102,7 @@ impl<B: Book> Pass<B> {
         self.number
     }
 
-    fn into_seat(self) -> Place<B>
+    fn into_seat(self) -> DeskSeat<B>
         ensures seat { known result.table_id result.me.0 ≡ self }
         ensures whole { result.me.0.seats ≡ 1 }
         ensures rests { self.turn ≡ None → (result.me.0.stage ≡ Rests) × (result.me.1 ≡ []) }
@@ -243,7 +243,7 @@ impl<B: Book> Desk<B> {
     }
 
     /// One seat that stands for all these passes.
-    fn gather(&self, mut passes: Vec<Pass<B>>) -> Place<B>
+    fn gather(&self, mut passes: Vec<Pass<B>>) -> DeskSeat<B>
         requires all { AreAll self.now.id passes.items }
         ensures desk { (result.table_id ≡ self.now.id) × (result.me.1 ≡ []) }
         ensures all { Gathers result.me.0 passes.items }

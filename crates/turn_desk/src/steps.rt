@@ -5,13 +5,13 @@ ghost use Rattle.turn_desk.specs.Histories.{StartsWith};
 ghost use Rattle.turn_desk.specs.Views.{holding, reached, ticket_of};
 ghost use Rattle.turn_desk.specs.Steps.{Begins, grown, shown_to, Glances, rested, in_hand, parent, child, witness, both_of, DrawsTicket};
 
-use crate::board::{Board, COUNT, GAUGE, Place, SERVING, TICKET};
+use crate::board::{Board, COUNT, DeskSeat, GAUGE, SERVING, TICKET};
 use crate::book::Book;
 use crate::rule::{Append, Draw, Glance, Hand, Look, PassOn, Tell, Vouch};
 
 impl<B: Book> Board<B> {
     /// Draws a ticket, and answers the number on it.
-    pub(crate) fn draw(&self, seat: &mut Place<B>) -> u64
+    pub(crate) fn draw(&self, seat: &mut DeskSeat<B>) -> u64
         requires desk { seat.old.table_id ≡ self.now.table.shared.table_id }
         requires rests { (seat.old.me.0.stage ≡ Rests) × (0 < seat.old.me.0.seats) }
         ensures same { (seat.new.table_id ≡ seat.old.table_id) × (seat.new.id ≡ seat.old.id) × (seat.new.me.1 ≡ seat.old.me.1) }
@@ -21,7 +21,7 @@ impl<B: Book> Board<B> {
     }
 
     /// Reads the number that is served. Where it is the seat's own, its turn begins.
-    pub(crate) fn look(&self, seat: &mut Place<B>) -> u64
+    pub(crate) fn look(&self, seat: &mut DeskSeat<B>) -> u64
         requires desk { seat.old.table_id ≡ self.now.table.shared.table_id }
         requires waits { (n : ℕ) × (seat.old.me.0.stage ≡ Waits n) }
         ensures same { (seat.new.table_id ≡ seat.old.table_id) × (seat.new.id ≡ seat.old.id) }
@@ -32,7 +32,7 @@ impl<B: Book> Board<B> {
     }
 
     /// Counts the next entry of the book in hand, which becomes the seat's own.
-    pub(crate) fn append(&self, seat: &mut Place<B>)
+    pub(crate) fn append(&self, seat: &mut DeskSeat<B>)
         requires desk { seat.old.table_id ≡ self.now.table.shared.table_id }
         requires turn { holding seat.old.me.0.stage ≡ 1 }
         requires more { (e : B.Entry) × StartsWith (in_hand B.history seat.old.me.1) (reached seat.old.me.0.stage ++ e ∷ []) }
@@ -44,7 +44,7 @@ impl<B: Book> Board<B> {
     }
 
     /// Writes the gauge of the book in hand, whose entries are all counted: who glances from now on sees its history.
-    pub(crate) fn tell(&self, seat: &mut Place<B>, gauge: u64)
+    pub(crate) fn tell(&self, seat: &mut DeskSeat<B>, gauge: u64)
         requires desk { seat.old.table_id ≡ self.now.table.shared.table_id }
         requires turn { holding seat.old.me.0.stage ≡ 1 }
         requires book { (b : B) × (B.history b ≡ reached seat.old.me.0.stage) × (seat.old.me.0.origin ≡ Some (B.origin b))
@@ -56,7 +56,7 @@ impl<B: Book> Board<B> {
     }
 
     /// Reads the gauge of the history that is shown at this moment.
-    pub(crate) fn glance(&self, seat: &mut Place<B>) -> u64
+    pub(crate) fn glance(&self, seat: &mut DeskSeat<B>) -> u64
         requires desk { seat.old.table_id ≡ self.now.table.shared.table_id }
         requires rests { (seat.old.me.0.stage ≡ Rests) × (0 < seat.old.me.0.seats) }
         ensures same { (seat.new.table_id ≡ seat.old.table_id) × (seat.new.id ≡ seat.old.id) × (seat.new.me.1 ≡ seat.old.me.1) }
@@ -66,7 +66,7 @@ impl<B: Book> Board<B> {
     }
 
     /// Ends the turn, with the book in hand on the board again, and answers its number.
-    pub(crate) fn pass_on(&self, seat: &mut Place<B>) -> u64
+    pub(crate) fn pass_on(&self, seat: &mut DeskSeat<B>) -> u64
         requires desk { seat.old.table_id ≡ self.now.table.shared.table_id }
         requires turn { holding seat.old.me.0.stage ≡ 1 }
         requires book { (b : B) × (seat.old.me.1 ≡ (0, Some b) ∷ []) × (B.history b ≡ reached seat.old.me.0.stage)
@@ -79,7 +79,7 @@ impl<B: Book> Board<B> {
     }
 
     /// Splits a new seat from this one.
-    pub(crate) fn split(&self, seat: &mut Place<B>) -> Place<B>
+    pub(crate) fn split(&self, seat: &mut DeskSeat<B>) -> DeskSeat<B>
         requires desk { seat.old.table_id ≡ self.now.table.shared.table_id }
         requires made { (0 < seat.old.me.0.made) × (seat.old.me.0.made < 64) × (0 < seat.old.me.0.seats) }
         ensures same { (seat.new.table_id ≡ seat.old.table_id) × (seat.new.id ≡ seat.old.id) × (seat.new.me.1 ≡ seat.old.me.1) }
@@ -90,7 +90,7 @@ impl<B: Book> Board<B> {
     }
 
     /// Splits a seat from this one that stands for none, and has seen what this one has.
-    pub(crate) fn vouch(&self, seat: &mut Place<B>) -> Place<B>
+    pub(crate) fn vouch(&self, seat: &mut DeskSeat<B>) -> DeskSeat<B>
         requires desk { seat.old.table_id ≡ self.now.table.shared.table_id }
         ensures same { (seat.new.table_id ≡ seat.old.table_id) × (seat.new.id ≡ seat.old.id) × (seat.new.me ≡ seat.old.me) }
         ensures other { (result.table_id ≡ seat.old.table_id) × (result.me ≡ (witness seat.old.me.0, [])) }
@@ -99,7 +99,7 @@ impl<B: Book> Board<B> {
     }
 
     /// Joins another seat into this one.
-    pub(crate) fn join(&self, seat: &mut Place<B>, other: Place<B>)
+    pub(crate) fn join(&self, seat: &mut DeskSeat<B>, other: DeskSeat<B>)
         requires desk { (seat.old.table_id ≡ self.now.table.shared.table_id) × (other.table_id ≡ self.now.table.shared.table_id) }
         requires part { 0 < seat.old.me.0.seats }
         requires rests { (other.me.0.stage ≡ Rests) × (other.me.1 ≡ []) }

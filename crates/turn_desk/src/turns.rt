@@ -5,7 +5,7 @@ ghost use Rattle.turn_desk.specs.Histories.{StartsWith, StartsWithAll};
 ghost use Rattle.turn_desk.specs.Views.{holding, began, unsteady};
 ghost use Rattle.turn_desk.specs.Steps.{TakesTurn, after_turn};
 
-use crate::board::{BOOK, Board, Place};
+use crate::board::{BOOK, Board, DeskSeat};
 use crate::book::Book;
 use std::hint::spin_loop;
 use std::sync::Wait;
@@ -18,7 +18,7 @@ const NEAR: u64 = 4;
 
 impl<B: Book> Board<B> {
     /// Waits for the turn, and takes the book out.
-    pub(crate) fn enter<T: Wait>(&self, rt: &T, seat: &mut Place<B>) -> B
+    pub(crate) fn enter<T: Wait>(&self, rt: &T, seat: &mut DeskSeat<B>) -> B
         requires desk { seat.old.table_id ≡ self.now.table.shared.table_id }
         requires rests { (seat.old.me.0.stage ≡ Rests) × (0 < seat.old.me.0.seats) × (seat.old.me.1 ≡ []) }
         ensures same { (seat.new.table_id ≡ seat.old.table_id) × (seat.new.id ≡ seat.old.id) × (seat.new.me.1 ≡ (0, None) ∷ []) }
@@ -53,7 +53,7 @@ impl<B: Book> Board<B> {
 
     /// Puts the book back, makes its last `more` entries the seat's own, shows them, passes the turn on, and wakes the thread whose turn is
     /// next and the one after it: turns that are shorter than a wake would else each wait for one.
-    pub(crate) fn leave(&self, seat: &mut Place<B>, book: B, more: u64)
+    pub(crate) fn leave(&self, seat: &mut DeskSeat<B>, book: B, more: u64)
         requires desk { seat.old.table_id ≡ self.now.table.shared.table_id }
         requires turn { (holding seat.old.me.0.stage ≡ 1) × (unsteady seat.old.me.0.stage ≡ 0) × (seat.old.me.1 ≡ (0, None) ∷ []) }
         requires goes_on { (xs : List B.Entry) × (B.history book ≡ began seat.old.me.0.stage ++ xs) × (length xs ≡ more) }

@@ -100,7 +100,7 @@ fn leave_many(desk: &Desk<Notes>) {
 }
 
 /// The number of the note after those that two threads leave at once. None where there is no memory.
-fn number_behind_two<T: Threads>(rt: &T, alloc: Global) -> Option<u64> {
+fn number_after_two<T: Threads>(rt: &T, alloc: Global) -> Option<u64> {
     let Ok((desk, passes)) = Desk::new(alloc, Notes::empty(alloc), 1) else {
         return None;
     };
@@ -113,6 +113,6 @@ fn number_behind_two<T: Threads>(rt: &T, alloc: Global) -> Option<u64> {
 
 #[test]
 fn each_note_has_a_number_of_its_own(rt: HostRuntime) -> Result<(), Fail> {
-    equal(number_behind_two(&rt, rt.alloc()), Some(2 * LEFT))?;
+    equal(number_after_two(&rt, rt.alloc()), Some(2 * LEFT))?;
     Ok(())
 }

@@ -12,7 +12,7 @@ use Rattle.two_way.specs.Standing.{steps_of, last_round, judgement_of, again_by}
 use Rattle.two_way.specs.Turns.{IsTurned}
 use Rattle.two_way.specs.Kept.{IsKept, KeepsPast}
 use Rattle.two_way.specs.Past.{PastOf, with_report}
-use Rattle.two_way.specs.declared.standing.Standing.{Standing}
+use Rattle.two_way.specs.declared.next_step.Standing.{Standing}
 use Rattle.clock.proofs.Excesses.{found-fits}
 use Rattle.trial.proofs.Finding.{all-more}
 use Rattle.two_way.proofs.Keeping.{GoesOn, Stays, advanced, take-longer, longer, with-report, same-demands, same-full, kept-applied}

@@ -29,7 +29,7 @@ use Rattle.two_way.specs.Falling.{fall_set}
 use Rattle.two_way.specs.Histories.{TwoWayHistory, IsStart, members_in, told, as_clock}
 use Rattle.two_way.specs.Standing.{demands_after, is_full_after, up_set_after, is_down, prices_after, down_set_after, set_after, good_at_ceiling, leads_on, phase_after, steps_of, phase_of, last_round, judgement_of, ups_after, downs_after, sum_after}
 use Rattle.two_way.specs.Turns.{GoesDown, IsTurned, Rises, Halts, Falls, Ends, HasRoom, set_down}
-use Rattle.two_way.specs.declared.standing.Standing.{Standing}
+use Rattle.two_way.specs.declared.next_step.Standing.{Standing}
 use Rattle.two_way.specs.Kept.{was_down, HasCome, StandsAt, IsKept}
 use Rattle.two_way.proofs.Rounds.{leads, one-more, set-down, set-up, good-up, good-down, prices-down, prices-up, ups-up, ups-down, downs-up, downs-down, steps-only, on_the_way, few-on_way, few-downs}
 use Rattle.two_way.proofs.Growing.{is_down-stays, prices-stay, leads_on-stays, ups-stay, downs-stay, sum-stays}

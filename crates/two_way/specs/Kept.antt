@@ -7,7 +7,7 @@ use Rattle.demand_set.specs.declared.reports.Report.{Report}
 use Rattle.credit_book.specs.Account.{sum_without as kept_without}
 use Rattle.two_way.specs.Histories.{TwoWayHistory, IsStart, members_in}
 use Rattle.two_way.specs.Standing.{is_down, prices_after, leads_on, phase_after, steps_of, ups_after, downs_after, sum_after}
-use Rattle.two_way.specs.declared.standing.Standing.{Standing}
+use Rattle.two_way.specs.declared.next_step.Standing.{Standing}
 
 -- whether the direction was down in a round before
 abbrev pub was_down : TwoWayHistory → ℕ → Bool

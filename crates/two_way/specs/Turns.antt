@@ -10,7 +10,7 @@ use Rattle.credit_book.specs.Account.{sum_without}
 use Rattle.overshoot.specs.Shortfall.{shortfall}
 use Rattle.clock.specs.Standing.{good_from}
 use Rattle.two_way.specs.Falling.{fall_set}
-use Rattle.two_way.specs.declared.standing.Standing.{Standing}
+use Rattle.two_way.specs.declared.next_step.Standing.{Standing}
 
 -- the set on which the round would raise the prices, and that on which it would lower them
 abbrev pub set_up : Terms → (ℕ → List (List ℕ)) → List ℕ → ℕ

@@ -6,8 +6,8 @@ ghost use Rattle.demand_set.specs.declared.reports.Report.{Report as ReportValue
 ghost use Rattle.clock.specs.Reports.{members, demands_in, is_full};
 ghost use Rattle.two_way.specs.Turns.{IsTurned, HasRoom};
 
+use crate::next_step::Standing;
 use crate::past::Past;
-use crate::standing::Standing;
 use clock::{Judgement, Look, NotApplied};
 use demand_set::{Demand, Report};
 use lot_base::{NoMemory, Phase, Prices, Terms};

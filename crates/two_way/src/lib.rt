@@ -7,9 +7,9 @@ mod choosing;
 pub mod clocks;
 pub mod floating;
 pub mod laws;
+mod next_step;
 mod past;
 mod quantities;
-mod standing;
 mod starting;
 
 pub use clocks::TwoWay;

@@ -1,5 +1,6 @@
 //! Doors and a net in memory of which chosen calls fail.
-ghost use Rattle.std.specs.Prelude.{◌≡◌, refl, ◌≤◌, ◌<◌, ◌+◌, ◌↔◌, [], ◌∷◌, ℕ, List, length, map, take, drop, vec_len, vec_capacity, Some, IfOk, IfErr, OnOk, OnErr, MatchResult, IsErr, IsTrue, if◌then◌else◌, ◌⊎◌};
+ghost use Rattle.std.specs.Prelude.{◌≡◌, refl, ◌≤◌, ◌<◌, ◌+◌, ◌↔◌, ◌⊎◌, [], ◌∷◌, if◌then◌else◌};
+ghost use Rattle.std.specs.Prelude.{ℕ, List, length, map, take, drop, vec_len, vec_capacity, Some, IfOk, IfErr, OnOk, OnErr, MatchResult, IsErr, IsTrue};
 ghost use Rattle.std.specs.List.{AllByRecursion};
 ghost use Rattle.house_io.specs.Faults.{faults_after, raised_by};
 ghost use Rattle.house_io.specs.Doors.{HangsUp};
@@ -7,11 +8,12 @@ ghost use Rattle.house_io.specs.Nets.{TakesDoor, TakesLink};
 ghost use Rattle.house_io.specs.NetsShown.{net_shown};
 ghost use Rattle.house_io.specs.ListForms.{IsToFail, counted};
 ghost use Rattle.house_io.specs.ListShelves.{plan_after};
-ghost use Rattle.house_io.specs.LinkForms.{ListedLink, ListedDoor, ListedNet, FailsBy, IsFirstLink, IsReady, ListsDoors, ListsLink, fresh_list_door, fresh_list_net, net_faults_after, ready_door, unfailed_link};
+ghost use Rattle.house_io.specs.LinkForms.{ListedLink, ListedDoor, ListedNet, FailsBy, IsFirstLink, IsReady, ListsDoors, ListsLink};
+ghost use Rattle.house_io.specs.LinkForms.{fresh_list_door, fresh_list_net, net_faults_after, ready_door, unfailed_link};
 
 use crate::memory::addresses::Addresses;
 use crate::memory::failing::FailingCalls;
-use crate::memory::places::Places;
+use crate::memory::given_back::Places;
 use crate::memory::rows::first_of;
 use crate::{Door, Failed, Link, ListLink, Net, Refusal};
 use lot_base::NoMemory;

@@ -8,7 +8,7 @@ ghost use Rattle.house_io.specs.LinkForms.{SuredLink, fresh_net, with_places};
 ghost use Rattle.house_io.specs.declared.shelves.Refusal.TheVariants as why;
 
 use crate::memory::addresses::Addresses;
-use crate::memory::places::Places;
+use crate::memory::given_back::Places;
 use crate::memory::rows::first_of;
 use crate::{Door, Failed, Link, Net, Refusal, SureLink};
 use lot_base::NoMemory;

@@ -32,7 +32,7 @@ const TARGET: usize = 4;
 const CALLS: u64 = 20;
 
 /// What is left of a text after this front, if it begins with it. Nothing, here and below, where there is no memory.
-fn rest_behind<'a>(text: &'a [u8], front: &str) -> Option<&'a [u8]> {
+fn rest_after<'a>(text: &'a [u8], front: &str) -> Option<&'a [u8]> {
     if text.starts_with(front.as_bytes()) {
         text.get(front.len()..)
     } else {
@@ -49,7 +49,7 @@ fn settle_alike(
     let (before, old) = settled(rt, alloc, journals)?;
     let (after, new) = settled_on(rt, alloc, journals)?;
     let done = before == 0 && after == 0;
-    Some(done && rest_behind(&old, SETTLED)? == rest_behind(&new, SETTLED_ON)?)
+    Some(done && rest_after(&old, SETTLED)? == rest_after(&new, SETTLED_ON)?)
 }
 
 /// In the life under the newer file both came back: whether all was there that was acknowledged before the move.
@@ -80,7 +80,7 @@ fn goes_well(rt: &(impl Threads + Wait + Sync + Clock), alloc: Global, fill: u8)
 }
 
 #[test]
-fn what_was_acknowledged_before_a_move_settles_behind_it(rt: HostRuntime) -> Result<(), Fail> {
+fn what_was_acknowledged_before_a_move_settles_after_it(rt: HostRuntime) -> Result<(), Fail> {
     for fill in FILLS {
         equal_in(fill, goes_well(&rt, rt.alloc(), *fill), Some(true))?;
     }

@@ -50,7 +50,7 @@ pub(super) struct Kill {
 }
 
 /// The numbers of the calls that fail. Nothing, here and below, where there is no memory.
-fn calls_behind(alloc: Global, kill: Kill) -> Option<Vec<u64>> {
+fn calls_after(alloc: Global, kill: Kill) -> Option<Vec<u64>> {
     let mut calls = Vec::new(alloc);
     for more in 0..CALLS_BEHIND {
         calls.push(kill.call.saturating_add(more)).ok()?;
@@ -61,7 +61,7 @@ fn calls_behind(alloc: Global, kill: Kill) -> Option<Vec<u64>> {
 /// The calls that fail on the journal of this number: none but on the one that is killed.
 fn failing_at(alloc: Global, journal: usize, kill: Option<Kill>) -> Option<Vec<u64>> {
     match kill {
-        Some(kill) if kill.journal == journal => calls_behind(alloc, kill),
+        Some(kill) if kill.journal == journal => calls_after(alloc, kill),
         _ => Some(Vec::new(alloc)),
     }
 }

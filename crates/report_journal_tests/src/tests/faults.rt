@@ -161,7 +161,7 @@ const PADDED_ONCE: &[Step] = &[
 ];
 
 #[test]
-fn a_record_with_zeros_behind_it_is_dropped_or_counted(rt: HostRuntime) -> Result<(), Fail> {
+fn a_record_with_zeros_after_it_is_dropped_or_counted(rt: HostRuntime) -> Result<(), Fail> {
     for (failing, steps) in [
         (12, PADDED_AGAIN),
         (13, PADDED_AGAIN),
@@ -361,7 +361,7 @@ fn asks(alloc: Global, failing: u64) -> Option<u32> {
 }
 
 #[test]
-fn a_hint_is_asked_behind_the_sync_of_the_record(rt: HostRuntime) -> Result<(), Fail> {
+fn a_hint_is_asked_after_the_sync_of_the_record(rt: HostRuntime) -> Result<(), Fail> {
     for (failing, times) in [(12, 0), (13, 0), (14, 1), (16, 1), (17, 1)] {
         equal_in(failing, asks(rt.alloc(), failing), Some(times))?;
     }

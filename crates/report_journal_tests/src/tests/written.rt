@@ -150,7 +150,7 @@ fn has_at(alloc: Global, steps: &[Step], at: usize, bytes: &[u8]) -> Option<bool
 }
 
 #[test]
-fn a_journal_that_has_grown_writes_zeros_behind_a_record(rt: HostRuntime) -> Result<(), Fail> {
+fn a_journal_that_has_grown_writes_zeros_after_a_record(rt: HostRuntime) -> Result<(), Fail> {
     equal(
         has_at(rt.alloc(), LENGTHS[1].0, 4_137, &OVER_ZEROS),
         Some(true),

@@ -13,34 +13,34 @@ returns-in-Err-clause-visits g c =
 pub returns-in-Ok-push-clause-visits : goal.returns-in-Ok-push-clause-visits
 returns-in-Ok-push-clause-visits g c =
     λ talk told stands next knows going.
-    closed_seen (part c.args.auction.now c.args.bidder c.args.token.now (g.D.Demands.demands c.args.demands.now) c.args.looks) talk c.args.clock c.args.before.now c.args.seen.now.items told (g.L.Link.told c.args.link.now) (g.L.Link.told c.look_at.new.link) stands next knows going c.in-Ok.look c.in-Ok.ensures.look c.behind-known.result c.behind-known.ensures c.if-known.true c.push.new.self.items
+    closed_seen (part c.args.auction.now c.args.bidder c.args.token.now (g.D.Demands.demands c.args.demands.now) c.args.looks) talk c.args.clock c.args.before.now c.args.seen.now.items told (g.L.Link.told c.args.link.now) (g.L.Link.told c.look_at.new.link) stands next knows going c.in-Ok.look c.in-Ok.ensures.look c.after_look-known.result c.after_look-known.ensures c.if-known.true c.push.new.self.items
     (let b = c.requires.below in omega (arith, b)) c.in-Ok-push.ensures.items
 
 pub returns-in-Err-push-clause-visits : goal.returns-in-Err-push-clause-visits
 returns-in-Err-push-clause-visits g c =
     λ talk told stands next knows going.
-    closed_starved (part c.args.auction.now c.args.bidder c.args.token.now (g.D.Demands.demands c.args.demands.now) c.args.looks) talk c.args.clock c.args.before.now c.args.seen.now.items told (g.L.Link.told c.args.link.now) (g.L.Link.told c.look_at.new.link) stands next knows going c.in-Ok.look c.in-Ok.ensures.look c.behind-known.result c.behind-known.ensures c.if-known.true
+    closed_starved (part c.args.auction.now c.args.bidder c.args.token.now (g.D.Demands.demands c.args.demands.now) c.args.looks) talk c.args.clock c.args.before.now c.args.seen.now.items told (g.L.Link.told c.args.link.now) (g.L.Link.told c.look_at.new.link) stands next knows going c.in-Ok.look c.in-Ok.ensures.look c.after_look-known.result c.after_look-known.ensures c.if-known.true
     (let b = c.requires.below in omega (arith, b))
 
 pub returns-then-known-looks-clause-visits : goal.returns-then-known-looks-clause-visits
 returns-then-known-looks-clause-visits g c =
     λ talk told stands next knows going.
-    looks_spent (part c.args.auction.now c.args.bidder c.args.token.now (g.D.Demands.demands c.args.demands.now) c.args.looks) talk c.args.clock c.args.before.now c.args.seen.now.items told (g.L.Link.told c.args.link.now) (g.L.Link.told c.look_at.new.link) stands next knows going c.in-Ok.look c.in-Ok.ensures.look c.behind-known.result c.behind-known.ensures c.if-known.false c.if-known-looks.true
+    looks_spent (part c.args.auction.now c.args.bidder c.args.token.now (g.D.Demands.demands c.args.demands.now) c.args.looks) talk c.args.clock c.args.before.now c.args.seen.now.items told (g.L.Link.told c.args.link.now) (g.L.Link.told c.look_at.new.link) stands next knows going c.in-Ok.look c.in-Ok.ensures.look c.after_look-known.result c.after_look-known.ensures c.if-known.false c.if-known-looks.true
 
 pub returns-then-known-2-clause-visits : goal.returns-then-known-2-clause-visits
 returns-then-known-2-clause-visits g c =
     λ talk told stands next knows going.
-    reported_already (part c.args.auction.now c.args.bidder c.args.token.now (g.D.Demands.demands c.args.demands.now) c.args.looks) talk c.args.clock c.args.before.now c.args.seen.now.items told (g.L.Link.told c.args.link.now) (g.L.Link.told c.look_at.new.link) stands next knows going c.in-Ok.look c.in-Ok.ensures.look c.behind-known.result c.behind-known.ensures c.if-known.false c.if-known-2.true (below_behind c.args.looks c.in-Ok.look.round c.in-Ok.look.phase c.args.before.now c.behind-known.result c.behind-known.ensures c.requires.below c.if-known-looks.false)
+    reported_already (part c.args.auction.now c.args.bidder c.args.token.now (g.D.Demands.demands c.args.demands.now) c.args.looks) talk c.args.clock c.args.before.now c.args.seen.now.items told (g.L.Link.told c.args.link.now) (g.L.Link.told c.look_at.new.link) stands next knows going c.in-Ok.look c.in-Ok.ensures.look c.after_look-known.result c.after_look-known.ensures c.if-known.false c.if-known-2.true (below_behind c.args.looks c.in-Ok.look.round c.in-Ok.look.phase c.args.before.now c.after_look-known.result c.after_look-known.ensures c.requires.below c.if-known-looks.false)
 
 pub returns-in-Ok-report-clause-visits : goal.returns-in-Ok-report-clause-visits
 returns-in-Ok-report-clause-visits g c =
     λ talk told stands next knows going.
-    subst (λ (x : Known). Visited (part c.args.auction.now c.args.bidder c.args.token.now (g.D.Demands.demands c.args.demands.now) c.args.looks) talk c.args.clock c.args.seen.now.items told (g.L.Link.told c.report.new.link) x) (sym c.behind_report.ensures)
-    (report_done (part c.args.auction.now c.args.bidder c.args.token.now (g.D.Demands.demands c.args.demands.now) c.args.looks) talk c.args.clock c.args.before.now c.args.seen.now.items told (g.L.Link.told c.args.link.now) (g.L.Link.told c.look_at.new.link) stands next knows going c.in-Ok.look c.in-Ok.ensures.look c.behind-known.result c.behind-known.ensures c.if-known.false c.if-known-2.false (below_behind c.args.looks c.in-Ok.look.round c.in-Ok.look.phase c.args.before.now c.behind-known.result c.behind-known.ensures c.requires.below c.if-known-looks.false)
+    subst (λ (x : Known). Visited (part c.args.auction.now c.args.bidder c.args.token.now (g.D.Demands.demands c.args.demands.now) c.args.looks) talk c.args.clock c.args.seen.now.items told (g.L.Link.told c.report.new.link) x) (sym c.after_report.ensures)
+    (report_done (part c.args.auction.now c.args.bidder c.args.token.now (g.D.Demands.demands c.args.demands.now) c.args.looks) talk c.args.clock c.args.before.now c.args.seen.now.items told (g.L.Link.told c.args.link.now) (g.L.Link.told c.look_at.new.link) stands next knows going c.in-Ok.look c.in-Ok.ensures.look c.after_look-known.result c.after_look-known.ensures c.if-known.false c.if-known-2.false (below_behind c.args.looks c.in-Ok.look.round c.in-Ok.look.phase c.args.before.now c.after_look-known.result c.after_look-known.ensures c.requires.below c.if-known-looks.false)
     (g.L.Link.told c.report.new.link) c.in-Ok-report.ensures.done.0 c.in-Ok-report.ensures.done.1)
 
 pub returns-in-Err-report-clause-visits : goal.returns-in-Err-report-clause-visits
 returns-in-Err-report-clause-visits g c =
     λ talk told stands next knows going.
-    report_ends (part c.args.auction.now c.args.bidder c.args.token.now (g.D.Demands.demands c.args.demands.now) c.args.looks) talk c.args.clock c.args.before.now c.args.seen.now.items told (g.L.Link.told c.args.link.now) (g.L.Link.told c.look_at.new.link) stands next knows going c.in-Ok.look c.in-Ok.ensures.look c.behind-known.result c.behind-known.ensures c.if-known.false c.if-known-2.false (below_behind c.args.looks c.in-Ok.look.round c.in-Ok.look.phase c.args.before.now c.behind-known.result c.behind-known.ensures c.requires.below c.if-known-looks.false)
+    report_ends (part c.args.auction.now c.args.bidder c.args.token.now (g.D.Demands.demands c.args.demands.now) c.args.looks) talk c.args.clock c.args.before.now c.args.seen.now.items told (g.L.Link.told c.args.link.now) (g.L.Link.told c.look_at.new.link) stands next knows going c.in-Ok.look c.in-Ok.ensures.look c.after_look-known.result c.after_look-known.ensures c.if-known.false c.if-known-2.false (below_behind c.args.looks c.in-Ok.look.round c.in-Ok.look.phase c.args.before.now c.after_look-known.result c.after_look-known.ensures c.requires.below c.if-known-looks.false)
     (g.L.Link.told c.report.new.link) c.in-Err-report.end c.in-Err-report.ensures.done

@@ -52,16 +52,16 @@ returns-clause-puts g c =
     let old = told_moments (g.D.Disk.shown c.args.disk.now) in
     let mid = told_moments (g.D.Disk.shown c.write_record.new.disk) in
     let new = told_moments (g.D.Disk.shown c.open_record.new.disk) in
-    let next = c.lay_behind.ensures.behind.0 in
+    let next = c.lay_after.ensures.behind.0 in
     let behind = behind_of c.args.gate c.args.laid c.args.payload.now next in
     let record_is : c.deref.result.now ≡ closed c.args.payload.now = c.deref.ensures.value ∙ c.requires.buffer.0 in
-    let bytes_are = c.deref-2.ensures.value ∙ c.lay_behind.ensures.behind.2 in
+    let bytes_are = c.deref-2.ensures.value ∙ c.lay_after.ensures.behind.2 in
     let first : IsTrue (is_told (g.D.Disk.shown c.write_record.new.disk)) → AtEach (Torn (c.args.gate + 1) (length (closed c.args.payload.now)) old.now.read) old mid =
     λ told. subst (λ bytes. AtEach (Torn (c.args.gate + 1) (length bytes) old.now.read) old mid) record_is (c.write_record.ensures.moments told) in
     let opens = subst (λ bytes. Opens g.D.Disk.shown c.args.gate c.args.payload.now bytes c.write_record.new.disk c.open_record.new.disk c.open_record.result) bytes_are c.open_record.ensures.opens in (
       next,
-      has_asked (g.H.Hint.says c.args.hint.now) next c.open_record.result c.lay_behind.ensures.behind.1,
-      done_too _ c.open_record.result c.lay_behind.ensures.behind.2,
+      has_asked (g.H.Hint.says c.args.hint.now) next c.open_record.result c.lay_after.ensures.behind.1,
+      done_too _ c.open_record.result c.lay_after.ensures.behind.2,
       record {
         done = on_ok_weaker c.open_record.result (λ done told.
             let told_mid = c.open_record.ensures.later.told told in

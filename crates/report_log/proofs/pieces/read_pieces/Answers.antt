@@ -18,16 +18,16 @@ pub returns-in-Ok-eq0-clause-read : goal.returns-in-Ok-eq0-clause-read
 returns-in-Ok-eq0-clause-read g c =
     let i = c.pulls.invariant in
     let held = take c.pulls.held c.pulls.buffer in
-    let new = c.pull_behind.new.buffer in
+    let new = c.pull_after.new.buffer in
     let room = c.min.result + 1 in
     let into = take room (drop c.pulls.held new) in
     let zero : c.in-Ok-eq0.field-0 ≡ 0 = (let test = c.in-Ok-eq0.field-0-test in grind (arith, nat_tests)) in
-    let none = subst (λ (n : ℕ). IfTold (g.R.Source.left c.pulls.source) (g.R.Source.left c.pull_behind.new.source) (Takes n into)) zero c.in-Ok-eq0.ensures.bytes in
+    let none = subst (λ (n : ℕ). IfTold (g.R.Source.left c.pulls.source) (g.R.Source.left c.pull_after.new.source) (Takes n into)) zero c.in-Ok-eq0.ensures.bytes in
     let few : room ≤ length (drop c.pulls.held new) = omega (arith, length-drop c.pulls.held new) in
     let some : 0 < length into = omega (arith, length-take-le room (drop c.pulls.held new) few) in
-    let is = whole-so-far c.args.terms.now c.pulls.reader.clock.history c.pulls.reader.fault (g.R.Source.left c.args.source.now) (g.R.Source.left c.pulls.source) (g.R.Source.left c.pull_behind.new.source) c.pulls.so_far held into i.read none some (omega arith) in
+    let is = whole-so-far c.args.terms.now c.pulls.reader.clock.history c.pulls.reader.fault (g.R.Source.left c.args.source.now) (g.R.Source.left c.pulls.source) (g.R.Source.left c.pull_after.new.source) c.pulls.so_far held into i.read none some (omega arith) in
     let long : length held ≡ c.pulls.held = length-take-le c.pulls.held c.pulls.buffer (omega arith) in
-    whole-given c.args.terms.now c.finish.result (g.R.Source.left c.args.source.now) (g.R.Source.left c.pull_behind.new.source) i.read.all is (c.finish.ensures c.args.terms.now i.read.all held i.read.long (sym long) i.read.has)
+    whole-given c.args.terms.now c.finish.result (g.R.Source.left c.args.source.now) (g.R.Source.left c.pull_after.new.source) i.read.all is (c.finish.ensures c.args.terms.now i.read.all held i.read.long (sym long) i.read.has)
 
 pub returns-in-Ok-eq0-clause-failed : goal.returns-in-Ok-eq0-clause-failed
 returns-in-Ok-eq0-clause-failed g c e =
@@ -43,7 +43,7 @@ pulls-preserved g c =
     let count = c.in-Ok.count in
     let left = c.in-Ok-take.left in
     let held = take c.pulls.held c.pulls.buffer in
-    let new = c.pull_behind.new.buffer in
+    let new = c.pull_after.new.buffer in
     let room = c.min.result + 1 in
     let into = take room (drop c.pulls.held new) in
     let piece = take count into in
@@ -66,6 +66,6 @@ pulls-preserved g c =
       within = omega (arith, c.in-Ok-take.ensures.within, long, i.within);
       steady = c.in-Ok.ensures.cause.steady ∙ i.steady;
       read = more-so-far c.args.terms.now c.pulls.reader.clock.history c.take.new.self.clock.history c.pulls.reader.fault c.take.new.self.fault
-          (g.R.Source.left c.args.source.now) (g.R.Source.left c.pulls.source) (g.R.Source.left c.pull_behind.new.source) c.pulls.so_far (c.pulls.so_far + count) count held into (take left c.keep_end.new.buffer) i.read c.in-Ok.ensures.bytes
+          (g.R.Source.left c.args.source.now) (g.R.Source.left c.pulls.source) (g.R.Source.left c.pull_after.new.source) c.pulls.so_far (c.pulls.so_far + count) count held into (take left c.keep_end.new.buffer) i.read c.in-Ok.ensures.bytes
           piece_bytes size refl (subst (HasRead c.args.terms.now c.take.new.self.clock.history c.take.new.self.fault (all ++ piece)) later read);
     }

@@ -9,7 +9,7 @@ use Rattle.lot_base.specs.declared.phases.Phase.TheVariants.{Running}
 use Rattle.lot_base.specs.declared.supply.GoodSet.{GoodSet}
 use Rattle.demand_set.proofs.PackedForm.{lengths-demand}
 use Rattle.demand_set.specs.declared.reports.Report.{Report}
-use Rattle.clock.specs.declared.standing.Standing.{Standing}
+use Rattle.clock.specs.declared.next_step.Standing.{Standing}
 use Rattle.clock.specs.declared.judging.Judgement.TheVariants.{Take}
 use Rattle.clock.specs.Past.{PastOf, pushed, raised_on}
 use Rattle.clock.specs.Reports.{ClockOf, ClockHistory, members_of, with_report, demand_in}

@@ -2,7 +2,7 @@ use Rattle.std.proofs.Common.{◌≡◌, ◌<◌, ℕ, nat_eq, sym, ap, subst, a
 use Rattle.std.specs.Prelude.{slice_get, find, reverse, option_copied}
 use Rattle.clock.specs.Past.{PastOf, Fits, history_of, report_at, quantities_of}
 use Rattle.clock.specs.Latest.{IsRepeat}
-use Rattle.clock.specs.declared.places.Place.{Place}
+use Rattle.clock.specs.declared.kept_quantities.Place.{Place}
 use Rattle.clock.proofs.Appended.{fits-at, get-at, length-history, history-at}
 use Rattle.clock.proofs.LatestPlaces.{latest_place, latest-fits, first-repeats, later-repeats, same-demands, demands-same}
 use Rattle.clock.proofs.packing.Past.is_repeat.Goals as goal

@@ -3,7 +3,7 @@ use Rattle.std.specs.Prelude.{find, is_some}
 use Rattle.std.specs.Vec.{vec_len, vec_capacity}
 use Rattle.std.proofs.lemmas.List.{length-take-le}
 use Rattle.demand_set.specs.declared.reports.Report.{Report}
-use Rattle.clock.specs.declared.places.Place.{Place}
+use Rattle.clock.specs.declared.kept_quantities.Place.{Place}
 use Rattle.clock.specs.Past.{PastOf, again_among, with_again}
 use Rattle.clock.proofs.Appended.{length-history}
 use Rattle.clock.proofs.Stored.{is-there, again-history, again-fits, in-room, pushed-items}

@@ -4,7 +4,7 @@ use Rattle.std.proofs.lemmas.List.{length-take-le}
 use Rattle.demand_set.specs.Same.{same_demand}
 use Rattle.demand_set.specs.Reading.{groups}
 use Rattle.demand_set.specs.declared.reports.Report.{Report}
-use Rattle.clock.specs.declared.places.Place.{Place}
+use Rattle.clock.specs.declared.kept_quantities.Place.{Place}
 use Rattle.clock.specs.Past.{PastOf, Fits, report_at, quantities_of}
 use Rattle.clock.proofs.Appended.{length-history}
 use Rattle.clock.proofs.Stored.{slice-find, fit-drop, fit-take, found-fit, length-quantities, groups-quantities}

@@ -10,12 +10,12 @@ pub invariant_of-self : goal.invariant_of-self
 invariant_of-self c =
     let n = c.self.inside in
     let h = history_of n.opened.value.history.reports (noted_in n.since) in
-    let push : history_of n.opened.value.history.reports (noted_in c.note_behind.result) ≡ h ++ Mark c.args.report.now ∷ [] =
-    ap (history_of n.opened.value.history.reports) c.note_behind.ensures ∙ history-push n.opened.value.history.reports (noted_in n.since) (c.args.report.now, Failed) in
+    let push : history_of n.opened.value.history.reports (noted_in c.note_after.result) ≡ h ++ Mark c.args.report.now ∷ [] =
+    ap (history_of n.opened.value.history.reports) c.note_after.ensures ∙ history-push n.opened.value.history.reports (noted_in n.since) (c.args.report.now, Failed) in
     rw push (noted-marked n.clock.history.reports h n.marks ((n.marks + 1) % 2 ^ 64) c.args.report.now refl c.self.invariant)
 
 pub returns-clause-history : goal.returns-clause-history
 returns-clause-history c =
     let n = c.self.inside in
-    ap (history_of n.opened.value.history.reports) c.note_behind.ensures ∙ history-push n.opened.value.history.reports (noted_in n.since) (c.args.report.now, Failed)
+    ap (history_of n.opened.value.history.reports) c.note_after.ensures ∙ history-push n.opened.value.history.reports (noted_in n.since) (c.args.report.now, Failed)
     ∙ ap (λ (v : NotedOf). v.history ++ Mark c.args.report.now ∷ []) c.self.view_is
