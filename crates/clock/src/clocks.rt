@@ -81,6 +81,8 @@ pub struct NotApplied {
 impl Clock {
     ghost use Rattle.lot_base.specs.Goods.{at};
     ghost use Rattle.lot_base.specs.Demands.{IsDemand, IsTable, least};
+    ghost use Rattle.demand_set.specs.Same.{same_demand};
+    ghost use Rattle.std.specs.Prelude.{◌==◌, true, option_map, find, take, drop};
     ghost use Rattle.std.specs.Prelude.{ℤ, pos, ◌≤ℤ◌, ◌+ℤ◌, ◌-ℤ◌};
     ghost use Rattle.lot_base.specs.declared.phases.Phase.TheVariants.{Halted};
     ghost use Rattle.lyapunov.specs.Paths.{highest_rise};
@@ -195,7 +197,8 @@ impl Clock {
         ensures { self.new ≡ applied self.old report }
     {
         let goods = self.terms.goods;
-        let again = self.is_again(&report);
+        let (from, members) = self.round_before();
+        let again = self.past.push(from, members, &report);
         count_in(
             &goods,
             &mut self.excess,
@@ -203,7 +206,6 @@ impl Clock {
             again,
             &report.demand,
         );
-        self.past.push(&report, 2 * MOST_BIDDERS as usize);
         let _in_room = self.present.push(report);
         self.left -= 1;
         if self.left > 0 {
@@ -231,17 +233,18 @@ impl Clock {
         reopen(&goods, &mut self.excess);
     }
 
-    /// Whether a report demands what its bidder did in the round before.
-    fn is_again(&self, report: &Report) -> bool
-        ensures { IsTrue result → IsAgain self.now.history report.now }
+    /// Where the reports of the round before begin among all, and how many they are. Where no step was made they are none.
+    fn round_before(&self) -> (usize, usize)
+        ensures inside { result.0 + result.1 ≤ length self.now.history.reports }
+        ensures again { (r : ReportValue) → option_map (λ (before : ReportValue). same_demand before.demand r.demand)
+            (find (λ (before : ReportValue). before.bidder == r.bidder) (take result.1 (drop result.0 self.now.history.reports)))
+            ≡ Some true → IsAgain self.now.history r }
     {
         if self.steps == 0 {
-            return false;
+            return (0, 0);
         }
-        match self.repeats(report.bidder, self.steps, &report.demand) {
-            Some(again) => again,
-            None => false,
-        }
+        let members = member_count(self.terms.bidders, self.number) as usize;
+        ((self.steps as usize - 1) * members, members)
     }
 
     /// How many reports were applied. Where there is one more to be taken, they are below the most.

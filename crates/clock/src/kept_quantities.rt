@@ -1,10 +1,11 @@
 //! Where the quantities of reports stand in a buffer.
-ghost use Rattle.std.specs.Prelude.{◌≡◌, ◌<◌, ◌≤◌, ◌+◌, ◌*◌, ◌==◌, ◌^◌, ℕ, List, length, take, drop, find, reverse, option_copied, Some, OnOk, IfSome, IsTrue, ◌↔◌};
+ghost use Rattle.std.specs.Prelude.{◌≡◌, ◌<◌, ◌≤◌, ◌+◌, ◌*◌, ◌==◌, ◌^◌, ℕ, List, length, take, drop, find, reverse, option_copied, option_map, true, Some, OnOk, IfSome, IsTrue, ◌↔◌};
 ghost use Rattle.std.specs.Vec.{vec_len, vec_capacity};
 ghost use Rattle.std.specs.List.{concat};
 ghost use Rattle.demand_set.specs.Reading.{groups};
 ghost use Rattle.demand_set.specs.Same.{same_demand};
-ghost use Rattle.clock.specs.Past.{AllFit, Fits, IsSharedAt, IsStoredAt, quantities_of};
+ghost use Rattle.demand_set.specs.declared.reports.Report.{Report as ReportValue};
+ghost use Rattle.clock.specs.Past.{AllFit, Fits, IsSharedAt, IsStoredAt, history_of, quantities_of};
 ghost use Rattle.clock.specs.declared.kept_quantities.Place.{Place as PlaceValue};
 
 use demand_set::Demand;
@@ -76,28 +77,31 @@ pub(crate) fn quantities_at<'a>(quantities: &'a [u16], goods: u8, place: &Place)
     &others[..place.count as usize * goods as usize]
 }
 
-/// Where these quantities stand, if the first report of a bidder has them.
+/// Where the quantities of a demand stand, if the first of some reports that is of a bidder has this demand.
 pub(crate) fn shared_start(
     quantities: &[u16],
     places: &[Place],
     goods: u8,
     bidder: u8,
-    more: &[u16],
+    demand: &Demand,
 ) -> Option<u32>
-    requires { AllFit goods quantities.now places.now }
-    ensures { IfSome result (IsSharedAt quantities.now more.now) }
+    requires some { 1 ≤ goods }
+    requires fit { AllFit goods quantities.now places.now }
+    ensures shared { IfSome result (IsSharedAt quantities.now (concat demand.now)) }
+    ensures same { IfSome result (λ _. option_map (λ (r : ReportValue). same_demand r.demand demand.now)
+        (find (λ (r : ReportValue). r.bidder == bidder) (history_of goods quantities.now places.now)) ≡ Some true) }
 {
     match place_of(places, bidder) {
         None => None,
-        Some(place) => start_if_same(quantities_at(quantities, goods, place), more, place.start),
+        Some(place) => {
+            let kept = quantities_at(quantities, goods, place);
+            if is_demand(kept, goods, place.count, demand) {
+                Some(place.start)
+            } else {
+                None
+            }
+        }
     }
-}
-
-/// The start, if the quantities there are these.
-fn start_if_same(kept: &[u16], more: &[u16], start: u32) -> Option<u32>
-    ensures { IfSome result (λ place. (place ≡ start) × (kept.now ≡ more.now)) }
-{
-    if kept == more { Some(start) } else { None }
 }
 
 /// Keeps these quantities after the others, if they are not shared, and tells where they stand.

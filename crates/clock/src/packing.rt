@@ -1,6 +1,7 @@
 //! The reports of a clock, packed: the quantities of all demands in one buffer, a place for each report, and the step set of each
 //! step. Reports of one demand may share its quantities.
-ghost use Rattle.std.specs.Prelude.{◌≡◌, ◌<◌, ◌≤◌, ◌+◌, ◌*◌, ◌==◌, ◌^◌, [], ◌∷◌, true, ℕ, List, length, map, take, drop, max, find, is_some, option_map, slice_get, Some, OnOk, OnErr, IfOk, IfSome, IsTrue, ◌↔◌};
+ghost use Rattle.std.specs.Prelude.{◌≡◌, ◌<◌, ◌≤◌, ◌+◌, ◌*◌, ◌==◌, ◌^◌, [], ◌∷◌, ◌↔◌};
+ghost use Rattle.std.specs.Prelude.{true, ℕ, List, length, map, take, drop, max, find, is_some, option_map, slice_get, Some, OnOk, OnErr, IfOk, IfSome, IsTrue};
 ghost use Rattle.std.specs.List.{AllByRecursion, concat};
 ghost use Rattle.lot_base.specs.Demands.{IsDemand};
 ghost use Rattle.demand_set.specs.Same.{same_demand};
@@ -108,18 +109,26 @@ impl Past {
         self.spare_quantities = quantities;
     }
 
-    /// Adds a report after the others, in the room for it. Where one of the last so many reports is of the same bidder, and the
-    /// first of these has the same demand, it shares its quantities.
-    pub(crate) fn push(&mut self, report: &Report, recent: usize)
-        requires reports { 1 ≤ self.old.spare_reports }
+    /// Adds a report after the others, in the room for it. Where the first of some reports that is of the same bidder has the same
+    /// demand, it shares its quantities. Tells whether it does.
+    pub(crate) fn push(&mut self, from: usize, reports: usize, report: &Report) -> bool
+        requires room { 1 ≤ self.old.spare_reports }
         requires quantities { length (concat report.now.demand) ≤ self.old.spare_quantities }
         requires goods { AllByRecursion (λ x. length x ≡ self.old.goods) report.now.demand }
-        ensures { self.new ≡ pushed self.old report.now }
+        requires inside { from + reports ≤ length self.old.reports }
+        ensures pushed { self.new ≡ pushed self.old report.now }
+        ensures again { IsTrue result → option_map (λ (r : ReportValue). same_demand r.demand report.now.demand)
+            (find (λ (r : ReportValue). r.bidder == report.now.bidder) (take reports (drop from self.old.reports))) ≡ Some true }
     {
+        let others = self.places.split_at(from).1;
+        let shared = shared_start(
+            &self.quantities,
+            &others[..reports],
+            self.goods,
+            report.bidder,
+            &report.demand,
+        );
         let more = report.demand.quantities();
-        let from = self.places.len().saturating_sub(recent);
-        let latest = self.places.split_at(from).1;
-        let shared = shared_start(&self.quantities, latest, self.goods, report.bidder, more);
         let start = keep(&mut self.quantities, shared, more);
         let _in_room = self.places.push(Place {
             bidder: report.bidder,
@@ -129,6 +138,7 @@ impl Past {
         });
         self.spare_reports -= 1;
         self.spare_quantities -= more.len() as u32;
+        shared.is_some()
     }
 
     /// Adds the report of a bidder among some reports once more, in another round and in the room for it. It shares its quantities.

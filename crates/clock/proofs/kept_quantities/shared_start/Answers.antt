@@ -1,19 +1,42 @@
-use Rattle.std.proofs.Common.{◌≡◌, ◌∙◌, sym, ap, subst, Some, None, List, ℕ}
-use Rattle.std.specs.Prelude.{option_copied, IfSome, Option}
+use Rattle.std.proofs.Common.{◌≡◌, ◌∙◌, sym, ap, length, Some, nat_eq}
+use Rattle.std.specs.Prelude.{option_copied, option_map, find, Option}
+use Rattle.std.specs.List.{concat}
+use Rattle.demand_set.specs.Reading.{groups}
+use Rattle.demand_set.specs.Same.{same_demand}
+use Rattle.demand_set.specs.declared.reports.Report.{Report}
+use Rattle.demand_set.proofs.PackedForm.{concat-groups}
 use Rattle.clock.specs.declared.kept_quantities.Place.{Place}
-use Rattle.clock.specs.Past.{Fits, IsSharedAt, quantities_of}
-use Rattle.clock.proofs.Stored.{found-fit, shared-at}
+use Rattle.clock.specs.Past.{report_at}
+use Rattle.clock.proofs.Judges.{same-means}
+use Rattle.clock.proofs.Stored.{found-fit, groups-quantities, history-find, length-quantities, shared-at}
 use Rattle.clock.proofs.kept_quantities.shared_start.Goals as goal
 
-pub quantities_at-requires : goal.quantities_at-requires
-quantities_at-requires c =
-    found-fit c.args.goods c.args.bidder c.args.quantities.now c.args.places.now c.in-Some.place.now (sym c.place_of.ensures ∙ ap option_copied c.in-Some.is) c.requires
+pub quantities_at-kept-requires : goal.quantities_at-kept-requires
+quantities_at-kept-requires c =
+    found-fit c.args.goods c.args.bidder c.args.quantities.now c.args.places.now c.in-Some.place.now (sym c.place_of.ensures ∙ ap option_copied c.in-Some.is) c.requires.fit
 
-shared-by : (goods : ℕ) (q kept more : List ℕ) (p : Place) (o : Option ℕ) → Fits goods q p → kept ≡ quantities_of goods q p → IfSome o (λ place. (place ≡ p.start) × (kept ≡ more)) → IfSome o (IsSharedAt q more)
-shared-by goods q kept more p None fits is h = tt
-shared-by goods q kept more p (Some start) fits is h = let S : ℕ → Type 0 = λ s. IsSharedAt q more s in subst S (sym h.0) (shared-at goods q more p fits (sym is ∙ h.1))
+pub is_demand-requires-clause-whole : goal.is_demand-requires-clause-whole
+is_demand-requires-clause-whole c =
+    let fits = found-fit c.args.goods c.args.bidder c.args.quantities.now c.args.places.now c.in-Some.place.now (sym c.place_of.ensures ∙ ap option_copied c.in-Some.is) c.requires.fit in
+    ap length c.quantities_at-kept.ensures ∙ length-quantities c.args.goods c.args.quantities.now c.in-Some.place.now fits
 
-pub returns-in-Some : goal.returns-in-Some
-returns-in-Some c =
-    shared-by c.args.goods c.args.quantities.now c.quantities_at.result.now c.args.more.now c.in-Some.place.now c.start_if_same.result
-    (found-fit c.args.goods c.args.bidder c.args.quantities.now c.args.places.now c.in-Some.place.now (sym c.place_of.ensures ∙ ap option_copied c.in-Some.is) c.requires) c.quantities_at.ensures c.start_if_same.ensures
+pub returns-then-is_demand-clause-shared : goal.returns-then-is_demand-clause-shared
+returns-then-is_demand-clause-shared c =
+    let place = c.in-Some.place.now in
+    let kept = c.quantities_at-kept.result.now in
+    let fits = found-fit c.args.goods c.args.bidder c.args.quantities.now c.args.places.now place (sym c.place_of.ensures ∙ ap option_copied c.in-Some.is) c.requires.fit in
+    let whole = ap length c.quantities_at-kept.ensures ∙ length-quantities c.args.goods c.args.quantities.now place fits in
+    let same : groups place.count c.args.goods kept ≡ c.args.demand.now = (same-means (groups place.count c.args.goods kept) c.args.demand.now).0 (sym c.is_demand.ensures ∙ c.if-is_demand.true) in
+    shared-at c.args.goods c.args.quantities.now (concat c.args.demand.now) place fits (sym c.quantities_at-kept.ensures ∙ sym (concat-groups place.count c.args.goods kept whole) ∙ ap concat same)
+
+pub returns-then-is_demand-clause-same : goal.returns-then-is_demand-clause-same
+returns-then-is_demand-clause-same c =
+    let goods = c.args.goods in
+    let q = c.args.quantities.now in
+    let place = c.in-Some.place.now in
+    let found : find (λ (p : Place). nat_eq p.bidder c.args.bidder) c.args.places.now ≡ Some place = sym c.place_of.ensures ∙ ap option_copied c.in-Some.is in
+    let fits = found-fit goods c.args.bidder q c.args.places.now place found c.requires.fit in
+    let test = λ (o : Option Report). option_map (λ (r : Report). same_demand r.demand c.args.demand.now) o in
+    ap test (history-find goods c.args.bidder q c.args.places.now ∙ ap (option_map (report_at goods q)) found)
+    ∙ ap (λ d. Some (same_demand d c.args.demand.now)) (groups-quantities goods q place fits ∙ sym (ap (groups place.count goods) c.quantities_at-kept.ensures))
+    ∙ ap Some (sym c.is_demand.ensures ∙ c.if-is_demand.true)

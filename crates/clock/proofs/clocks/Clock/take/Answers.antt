@@ -1,5 +1,7 @@
 -- With the report the round goes on or the next one begins, by what is left of the members.
-use Rattle.std.proofs.Common.{◌≡◌, ◌∙◌, ◌≤◌, ◌<◌, ◌-◌, ◌*◌, ◌++◌, ◌∷◌, [], ℕ, sym, ap, subst, arith, length, length-append, set, List, refl, Some, None}
+use Rattle.std.proofs.Common.{◌≡◌, ◌∙◌, ◌≤◌, ◌<◌, ◌-◌, ◌*◌, ◌++◌, ◌∷◌, [], ℕ, sym, ap, subst, arith, length, length-append, set, List, refl, Some, None, true, nat_eq, take, drop}
+use Rattle.std.specs.Prelude.{option_map, find}
+use Rattle.demand_set.specs.Same.{same_demand}
 use Rattle.std.specs.List.{AllByRecursion}
 use Rattle.std.specs.Vec.{vec_len, vec_capacity}
 use Rattle.std.proofs.lemmas.List.{map-append, length-map}
@@ -44,14 +46,16 @@ count_in-requires-clause-again c = λ yes.
     let r = c.args.report in
     let h : ClockHistory = record { terms = i.terms; number = i.number; reports = i.past.reports } in
     let taken : judgement_of h r ≡ Take = ap (λ (k : ClockOf). judgement_of k.history r) c.self.view_is ∙ c.requires.take in
-    let again : IsAgain h r = subst (λ (k : ClockOf). IsAgain k.history r) (sym c.self.view_is) (c.is_again-again.ensures yes) in
+    let same : option_map (λ (before : Report). same_demand before.demand r.demand) (find (λ (before : Report). nat_eq before.bidder r.bidder) (take c.round_before-from.result.1 (drop c.round_before-from.result.0 c.args.self.now.history.reports))) ≡ Some true =
+    ap (λ (k : ClockOf). option_map (λ (before : Report). same_demand before.demand r.demand) (find (λ (before : Report). nat_eq before.bidder r.bidder) (take c.round_before-from.result.1 (drop c.round_before-from.result.0 k.history.reports)))) (sym c.self.view_is) ∙ c.push-again.ensures.again yes in
+    let again : IsAgain h r = subst (λ (k : ClockOf). IsAgain k.history r) (sym c.self.view_is) (c.round_before-from.ensures.again r same) in
     let are : i.steps ≡ steps_of h = c.self.invariant.standing.steps_are in
     let S : ℕ → Type 0 = λ n. 1 ≤ n in
     let D : ℕ → Type 0 = λ n. demand_in h.reports n r.bidder ≡ Some r.demand in
     table-again h r i.steps i.phase i.prices i.account i.tables c.self.invariant.standing c.self.invariant.round.tables taken (subst S (sym are) again.some) (subst D (sym are) again.same)
 
-pub push-requires-clause-goods : goal.push-requires-clause-goods
-push-requires-clause-goods c =
+pub push-again-requires-clause-goods : goal.push-again-requires-clause-goods
+push-again-requires-clause-goods c =
     let i = c.self.inside in
     let r = c.args.report in
     let h : ClockHistory = record { terms = i.terms; number = i.number; reports = i.past.reports } in
@@ -129,7 +133,7 @@ invariant_of-self c =
     let K : PastOf → Type 0 = λ p. IsKept (record { terms = i.terms; number = i.number; reports = p.reports }) p c.push-in_room.new.self.items (i.left - 1) i.steps Running i.prices
     (set i.tables r.bidder c.count_in.new.kept) c.count_in.new.excess.0 i.account (vec_capacity c.push-in_room.new.self) in
     let room = c.push-in_room.ensures.capacity in
-    subst K (sym c.push.ensures) (kept-here (with_report h r) (pushed i.past r) c.push-in_room.new.self.items (i.left - 1) i.steps (set i.tables r.bidder c.count_in.new.kept) c.count_in.new.excess.0 i.account s (vec_capacity c.push-in_room.new.self)
+    subst K (sym c.push-again.ensures.pushed) (kept-here (with_report h r) (pushed i.past r) c.push-in_room.new.self.items (i.left - 1) i.steps (set i.tables r.bidder c.count_in.new.kept) c.count_in.new.excess.0 i.account s (vec_capacity c.push-in_room.new.self)
     on refl c.self.invariant.goods (c.self.invariant.sets ∙ sym stay) (omega (arith, c.self.invariant.room, room)))
 
 pub invariant_of-self-in_default : goal.invariant_of-self-in_default
@@ -153,7 +157,7 @@ invariant_of-self-in_default c =
     let K : PastOf → Type 0 = λ p. IsKept (record { terms = i.terms; number = i.number; reports = p.reports }) p c.push-in_room.new.self.items (i.left - 1) c.next-standing.result.steps c.next-standing.result.phase c.next-standing.result.prices
     (set i.tables r.bidder c.count_in.new.kept) c.count_in.new.excess.0 c.next-standing.new.account (vec_capacity c.push-in_room.new.self) in
     let room = c.push-in_room.ensures.capacity in
-    subst K (sym c.push.ensures) (kept-here (with_report h r) (pushed i.past r) c.push-in_room.new.self.items (i.left - 1) i.steps (set i.tables r.bidder c.count_in.new.kept) c.count_in.new.excess.0 c.next-standing.new.account c.next-standing.result (vec_capacity c.push-in_room.new.self)
+    subst K (sym c.push-again.ensures.pushed) (kept-here (with_report h r) (pushed i.past r) c.push-in_room.new.self.items (i.left - 1) i.steps (set i.tables r.bidder c.count_in.new.kept) c.count_in.new.excess.0 c.next-standing.new.account c.next-standing.result (vec_capacity c.push-in_room.new.self)
     on c.in_default.is c.self.invariant.goods (c.self.invariant.sets ∙ sym stay) (omega (arith, c.self.invariant.room, room)))
 
 pub raise-requires : goal.raise-requires
@@ -167,8 +171,8 @@ raise-requires c =
     let n = count-reports h i.present.items i.left i.steps 0 i.phase i.prices i.account i.tables i.excess.0 c.self.invariant.standing c.self.invariant.round in
     let s = ap length c.self.invariant.sets ∙ length-sets_of h i.steps in
     let l = length-map i.past.sets (λ (z : GoodSet). z.0) in
-    let a = ap (λ (p : PastOf). length p.sets) c.push.ensures in
-    let b = ap (λ (p : PastOf). length p.reports) c.push.ensures ∙ length-append i.past.reports (r ∷ []) in
+    let a = ap (λ (p : PastOf). length p.sets) c.push-again.ensures.pushed in
+    let b = ap (λ (p : PastOf). length p.reports) c.push-again.ensures.pushed ∙ length-append i.past.reports (r ∷ []) in
     let one : 1 ≤ length (members_of h) = omega (arith, left, c.self.invariant.round.counted) in
     let w : i.steps * 1 ≤ i.steps * length (members_of h) = mul-le-mul_left i.steps one in
     omega (arith, n, s, l, a, b, w)
@@ -212,7 +216,7 @@ invariant_of-self-2 c =
     c.self.invariant.standing c.self.invariant.round taken fit counted.is_table counted.is_added (ap (λ s. set i.tables r.bidder s) counted.is_kept) now in
     let on = on-any h r c.push-in_room.new.self.items i.left i.steps i.phase i.prices (set i.tables r.bidder c.count_in.new.kept) c.count_in.new.excess.0 i.account c.next-standing.new.account c.next-standing.result m c.next-standing.ensures.waits c.next-standing.ensures.turns in
     let stay = sets-stay h r i.steps (kept-path h (reports_before h i.steps) i.steps i.phase i.prices i.account c.self.invariant.standing) in
-    let past = c.raise.ensures ∙ ap (λ (p : PastOf). raised_on p c.in-Some.set) c.push.ensures in
+    let past = c.raise.ensures ∙ ap (λ (p : PastOf). raised_on p c.in-Some.set) c.push-again.ensures.pushed in
     let K : PastOf → Type 0 = λ p. IsKept (record { terms = i.terms; number = i.number; reports = p.reports }) p c.clear.new.self.items c.len.result c.next-standing.result.steps c.next-standing.result.phase c.next-standing.result.prices
     (set i.tables r.bidder c.count_in.new.kept) c.reopen.new.excess.0 c.next-standing.new.account (vec_capacity c.clear.new.self) in
     let room = c.push-in_room.ensures.capacity in
