@@ -29,10 +29,7 @@ pub(crate) fn job<H: Shelf>(
         (outside H.Shelf shelf.old shelf.new) result }
     ensures frame { Frame (explain_needs auction.now journals.now) (end_of result) (outside H.Shelf shelf.old shelf.new) }
 {
-    let house = match read_house(alloc, shelf, auction, journals, None) {
-        Ok(house) => house,
-        Err(ended) => return Err(ended),
-    };
+    let house = read_house(alloc, shelf, auction, journals, None)?;
     match explained_text(alloc, &house.terms, &house.clocks) {
         Ok(text) => Ok(text),
         Err(NoMemory) => Err(Ended::NoMemory),
@@ -57,14 +54,9 @@ fn explained_line(alloc: Global, terms: &Terms, clock: &Clock) -> Result<Vec<u8>
     requires { clock.now.history.terms ≡ terms.now }
     ensures { IfOk result (λ text. IsExplainedLine clock.now.history text.items) }
 {
-    let end = match explain(alloc, terms, clock) {
-        Ok(end) => end,
-        Err(NoMemory) => return Err(NoMemory),
-    };
-    match end_text(alloc, clock.number(), &end) {
-        Ok(text) => Ok(text.into_bytes()),
-        Err(_) => Err(NoMemory),
-    }
+    let end = explain(alloc, terms, clock)?;
+    let text = end_text(alloc, clock.number(), &end)?;
+    Ok(text.into_bytes())
 }
 
 /// The line of a clock that has come to this.

@@ -31,10 +31,7 @@ pub(crate) fn job<H: Shelf>(
         (outside H.Shelf shelf.old shelf.new) result }
     ensures frame { Frame (judge_needs auction.now journals.now bidder) (end_of result) (outside H.Shelf shelf.old shelf.new) }
 {
-    let house = match read_house(alloc, shelf, auction, journals, Some(bidder)) {
-        Ok(house) => house,
-        Err(ended) => return Err(ended),
-    };
+    let house = read_house(alloc, shelf, auction, journals, Some(bidder))?;
     match judged_text(alloc, &house, bidder) {
         Ok(text) => Ok(text),
         Err(NoMemory) => Err(Ended::NoMemory),
@@ -46,24 +43,11 @@ fn judged_text(alloc: Global, house: &AuctionClocks, bidder: u8) -> Result<Vec<u
     requires { AreClocksOf house.now.terms (histories house.now.clocks.items) }
     ensures { IfOk result (λ text. IsJudgedText house.now.terms (histories house.now.clocks.items) bidder text.items) }
 {
-    let observed = match observe(alloc, &house.terms, &house.clocks, bidder) {
-        Ok(observed) => observed,
-        Err(NoMemory) => return Err(NoMemory),
-    };
-    let decision = match observed.rationale.decide(alloc) {
-        Ok(decision) => decision,
-        Err(NoMemory) => return Err(NoMemory),
-    };
-    match decision_text(
-        alloc,
-        bidder,
-        &house.terms.goods,
-        observed.places.as_slice(),
-        &decision,
-    ) {
-        Ok(text) => Ok(text),
-        Err(_) => Err(NoMemory),
-    }
+    let observed = observe(alloc, &house.terms, &house.clocks, bidder)?;
+    let decision = observed.rationale.decide(alloc)?;
+    let places = observed.places.as_slice();
+    let text = decision_text(alloc, bidder, &house.terms.goods, places, &decision)?;
+    Ok(text)
 }
 
 /// The text of a decision on observations with these places.

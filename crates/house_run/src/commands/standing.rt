@@ -27,10 +27,7 @@ pub(crate) fn job<H: Shelf>(
         (outside H.Shelf shelf.old shelf.new) result }
     ensures frame { Frame (standing_needs auction.now journals.now) (end_of result) (outside H.Shelf shelf.old shelf.new) }
 {
-    let house = match read_house(alloc, shelf, auction, journals, None) {
-        Ok(house) => house,
-        Err(ended) => return Err(ended),
-    };
+    let house = read_house(alloc, shelf, auction, journals, None)?;
     match standing_text(alloc, &house.clocks) {
         Ok(text) => Ok(text),
         Err(NoMemory) => Err(Ended::NoMemory),

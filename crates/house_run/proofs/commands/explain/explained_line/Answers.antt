@@ -4,10 +4,10 @@ use Rattle.outcome_text.specs.Lines.{line}
 use Rattle.house_run.specs.ExplainCommand.{end_words}
 use Rattle.house_run.proofs.commands.explain.explained_line.Goals as goal
 
-pub returns-in-Ok-end_text : goal.returns-in-Ok-end_text
-returns-in-Ok-end_text c = record {
-  end = c.in-Ok.end;
-  explained = c.in-Ok.ensures.explained;
-  truthful = c.in-Ok.ensures.truthful;
-  text_is = ap (λ v. v.items) c.into_bytes.ensures.value ∙ c.in-Ok-end_text.ensures ∙ ap (λ n. line (codes "clock" ∷ decimal n ∷ end_words c.in-Ok.end)) c.number.ensures.value;
+pub returns : goal.returns
+returns c = record {
+  end = c.in_ok-end.end;
+  explained = c.in_ok-end.ensures.explained;
+  truthful = c.in_ok-end.ensures.truthful;
+  text_is = ap (λ v. v.items) c.into_bytes.ensures.value ∙ c.in_ok-text.ensures ∙ ap (λ n. line (codes "clock" ∷ decimal n ∷ end_words c.in_ok-end.end)) c.number.ensures.value;
 }

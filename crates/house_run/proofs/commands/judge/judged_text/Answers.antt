@@ -22,20 +22,20 @@ observe-requires-clause-few c =
 pub decision_text-requires : goal.decision_text-requires
 decision_text-requires c =
     let house = c.args.house.now in
-    let seen = c.in-Ok.observed.rationale.observations in
-    let places = c.as_slice.ensures.value ∙ c.in-Ok.ensures.places in
-    let P : List ℕ → Type 0 = λ supply. IsDecision supply seen c.in-Ok-decide.decision in
-    (seen, ap length c.in-Ok.ensures.observations ∙ places-count c.args.bidder (histories c.deref.result.now) ∙ ap length (sym places), subst P c.in-Ok.ensures.supply c.in-Ok-decide.ensures.decision)
+    let seen = c.in_ok-observed.observed.rationale.observations in
+    let places = c.as_slice-places.ensures.value ∙ c.in_ok-observed.ensures.places in
+    let P : List ℕ → Type 0 = λ supply. IsDecision supply seen c.in_ok-decision.decision in
+    (seen, ap length c.in_ok-observed.ensures.observations ∙ places-count c.args.bidder (histories c.deref.result.now) ∙ ap length (sym places), subst P c.in_ok-observed.ensures.supply c.in_ok-decision.ensures.decision)
 
-pub returns-in-Ok-decision_text : goal.returns-in-Ok-decision_text
-returns-in-Ok-decision_text c =
+pub returns : goal.returns
+returns c =
     let house = c.args.house.now in
     let clocks = ap (λ (ks : List ClockOf). histories ks) c.deref.ensures.value in
-    let P : List ℕ → List Observation → Type 0 = λ supply seen. IsDecision supply seen c.in-Ok-decide.decision in
-    let same = c.in-Ok.ensures.observations ∙ ap (observations_of c.args.bidder) clocks in
-    let places = c.as_slice.ensures.value ∙ c.in-Ok.ensures.places ∙ ap (places_of c.args.bidder) clocks in
+    let P : List ℕ → List Observation → Type 0 = λ supply seen. IsDecision supply seen c.in_ok-decision.decision in
+    let same = c.in_ok-observed.ensures.observations ∙ ap (observations_of c.args.bidder) clocks in
+    let places = c.as_slice-places.ensures.value ∙ c.in_ok-observed.ensures.places ∙ ap (places_of c.args.bidder) clocks in
     record {
-      decision = c.in-Ok-decide.decision;
-      decides = subst (P house.terms.goods) same (subst (λ supply. P supply c.in-Ok.observed.rationale.observations) c.in-Ok.ensures.supply c.in-Ok-decide.ensures.decision);
-      text_is = c.in-Ok-decision_text.ensures ∙ ap (λ ps. text_of (decision_lines c.args.bidder house.terms.goods ps c.in-Ok-decide.decision)) places;
+      decision = c.in_ok-decision.decision;
+      decides = subst (P house.terms.goods) same (subst (λ supply. P supply c.in_ok-observed.observed.rationale.observations) c.in_ok-observed.ensures.supply c.in_ok-decision.ensures.decision);
+      text_is = c.in_ok-text.ensures ∙ ap (λ ps. text_of (decision_lines c.args.bidder house.terms.goods ps c.in_ok-decision.decision)) places;
     }
