@@ -23,15 +23,9 @@ pub(crate) fn job<H: Shelf>(
         (outside H.Shelf shelf.old shelf.new) result }
     ensures frame { Frame (float_needs auction.now values.now start.now) (end_of result) (outside H.Shelf shelf.old shelf.new) }
 {
-    let market = match read_started(alloc, shelf, auction, values, start) {
-        Ok(market) => market,
-        Err(ended) => return Err(ended),
-    };
+    let market = read_started(alloc, shelf, auction, values, start)?;
     let valuations = market.valuations.as_slice();
-    let floated = match float_market(alloc, &market.terms, valuations, start) {
-        Ok(floated) => floated,
-        Err(ended) => return Err(ended),
-    };
+    let floated = float_market(alloc, &market.terms, valuations, start)?;
     match float_text(alloc, &market.terms, start, &floated) {
         Ok(text) => Ok(text.into_bytes()),
         Err(_) => Err(Ended::NoMemory),

@@ -36,10 +36,7 @@ pub(crate) fn job<T: Threads + Sync, H: Shelf>(
         Ok(market) => market,
         Err(NoMemory) => return Err(Ended::NoMemory),
     };
-    let outcome = match try_market(rt, alloc, &terms, valuations.as_slice(), workers) {
-        Ok(outcome) => outcome,
-        Err(ended) => return Err(ended),
-    };
+    let outcome = try_market(rt, alloc, &terms, valuations.as_slice(), workers)?;
     match line_of(alloc, number, &outcome) {
         Ok(line) => Ok(line.into_bytes()),
         Err(_) => Err(Ended::NoMemory),

@@ -27,15 +27,9 @@ pub(crate) fn job<T: Threads + Sync, H: Shelf>(
         (outside H.Shelf shelf.old shelf.new) result }
     ensures frame { Frame (trial_needs auction.now values.now) (end_of result) (outside H.Shelf shelf.old shelf.new) }
 {
-    let market = match read_market(alloc, shelf, auction, values) {
-        Ok(market) => market,
-        Err(ended) => return Err(ended),
-    };
+    let market = read_market(alloc, shelf, auction, values)?;
     let valuations = market.valuations.as_slice();
-    let outcome = match try_market(rt, alloc, &market.terms, valuations, workers) {
-        Ok(outcome) => outcome,
-        Err(ended) => return Err(ended),
-    };
+    let outcome = try_market(rt, alloc, &market.terms, valuations, workers)?;
     match write_plain(alloc, &outcome) {
         Ok(text) => Ok(text),
         Err(NoMemory) => Err(Ended::NoMemory),
