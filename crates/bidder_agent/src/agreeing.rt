@@ -45,10 +45,7 @@ pub fn agree<D: Demands, L: Link>(
     let Ok(mut known) = vec![in alloc; Known::unseen(); count] else {
         return Err(AgentEnd::NoMemory);
     };
-    match exchange(alloc, auction, None, &hello, link) {
-        Ok(_) => {}
-        Err(end) => return Err(end),
-    }
+    exchange(alloc, auction, None, &hello, link)?;
     let mut seen = Seen {
         looks: Vec::new(alloc),
     };
@@ -62,7 +59,7 @@ pub fn agree<D: Demands, L: Link>(
         }
         let place = clock as usize;
         let before = known[place];
-        let after = match visit(
+        let after = visit(
             alloc,
             auction,
             demands,
@@ -73,10 +70,7 @@ pub fn agree<D: Demands, L: Link>(
             &before,
             link,
             &mut seen.looks,
-        ) {
-            Ok(after) => after,
-            Err(end) => return Err(end),
-        };
+        )?;
         looked = looked.saturating_add(1);
         if after.is_new() {
             pause.news();
@@ -84,8 +78,6 @@ pub fn agree<D: Demands, L: Link>(
         known[place] = after;
         from = clock + 1;
     }
-    match exchange(alloc, auction, None, &ToHouse::Quit, link) {
-        Ok(_) => Ok(seen),
-        Err(end) => Err(end),
-    }
+    exchange(alloc, auction, None, &ToHouse::Quit, link)?;
+    Ok(seen)
 }

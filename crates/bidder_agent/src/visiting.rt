@@ -28,12 +28,10 @@ fn look_at<L: Link>(
         (L.told link.new) (priced clock result) }
     ensures cause { HasCauseOf (L.faults link.old) (L.faults link.new) result }
 {
-    match exchange(alloc, auction, last, &ToHouse::Look { clock }, link) {
-        Ok(reply) => match shown(&reply) {
-            Some(look) => Ok(look),
-            None => Err(AgentEnd::BadReply),
-        },
-        Err(end) => Err(end),
+    let reply = exchange(alloc, auction, last, &ToHouse::Look { clock }, link)?;
+    match shown(&reply) {
+        Some(look) => Ok(look),
+        None => Err(AgentEnd::BadReply),
     }
 }
 
@@ -84,10 +82,8 @@ fn report<D: Demands, L: Link>(
         round,
         demand,
     };
-    match exchange(alloc, auction, None, &frame, link) {
-        Ok(_) => Ok(()),
-        Err(end) => Err(end),
-    }
+    exchange(alloc, auction, None, &frame, link)?;
+    Ok(())
 }
 
 /// Looks at an open clock, and reports where its round has no report yet.
@@ -112,10 +108,7 @@ pub(crate) fn visit<D: Demands, L: Link>(
     ensures below { IfOk result (λ known. known.repeats < looks) }
     ensures cause { HasCauseOf (L.faults link.old) (L.faults link.new) result }
 {
-    let look = match look_at(alloc, auction, clock, before.last, link) {
-        Ok(look) => look,
-        Err(end) => return Err(end),
-    };
+    let look = look_at(alloc, auction, clock, before.last, link)?;
     let known = before.after_look(look.round, look.phase);
     if known.closed {
         return match seen.push(SeenLook { clock, look }) {
@@ -129,7 +122,7 @@ pub(crate) fn visit<D: Demands, L: Link>(
     if known.reported {
         return Ok(known);
     }
-    match report(
+    report(
         alloc,
         auction,
         demands,
@@ -137,8 +130,6 @@ pub(crate) fn visit<D: Demands, L: Link>(
         look.round,
         &look.prices,
         link,
-    ) {
-        Ok(()) => Ok(known.after_report()),
-        Err(end) => Err(end),
-    }
+    )?;
+    Ok(known.after_report())
 }

@@ -27,10 +27,7 @@ impl<'a> Demands for Wants<'a> {
     ghost demands = { λ wants prices. concat (demand wants.goods (valuation_of wants.goods wants.valuation.now) prices) };
 
     fn demand(&self, alloc: Global, prices: &Prices) -> Result<RawDemand, NoMemory> {
-        let demand = match self.valuation.demand(alloc, &self.goods, prices) {
-            Ok(demand) => demand,
-            Err(NoMemory) => return Err(NoMemory),
-        };
+        let demand = self.valuation.demand(alloc, &self.goods, prices)?;
         let goods = self.goods.count();
         match demand.quantities().to_vec(alloc) {
             Ok(quantities) => Ok(RawDemand {

@@ -13,11 +13,11 @@ returns-in-Err-clause-done g c = nothing_sent (g.L.Link.told c.args.link.now) (r
 pub exchange-requires : goal.exchange-requires
 exchange-requires g c = c.in-Ok.ensures.formed c.args.clock c.args.round
 
-pub returns-in-Ok-exchange-clause-done : goal.returns-in-Ok-exchange-clause-done
-returns-in-Ok-exchange-clause-done g c = (
-  c.in-Ok-exchange.field-0,
+pub returns-clause-done : goal.returns-clause-done
+returns-clause-done g c = (
+  c.in_ok-exchange.field-0,
   (
-    c.in-Ok-exchange.ensures.exchange.0,
-    subst (λ (d : RawDemand). IfTold (g.L.Link.told c.args.link.now) (g.L.Link.told c.exchange.new.link) (Converses (house.Report c.args.clock c.args.round d) (heard.Reply c.in-Ok-exchange.field-0))) c.in-Ok.ensures.value c.in-Ok-exchange.ensures.exchange.1,
+    c.in_ok-exchange.ensures.exchange.0,
+    subst (λ (d : RawDemand). IfTold (g.L.Link.told c.args.link.now) (g.L.Link.told c.exchange.new.link) (Converses (house.Report c.args.clock c.args.round d) (heard.Reply c.in_ok-exchange.field-0))) c.in-Ok.ensures.value c.in_ok-exchange.ensures.exchange.1,
   ),
 )
