@@ -164,10 +164,8 @@ fn read_fold<'a>(alloc: Global, words: &'a [&'a str]) -> Result<Option<CommandWo
     ensures none { IfOk result (λ o. IfNone o (IsNoCommand (codes "fold" ∷ texts words.entry.now))) }
 {
     let names = ["SUPPLY", "BIDDERS", "CEILING", "LOG"];
-    let matches = match named_words(alloc, "fold", &names, words) {
-        Ok(Some(matches)) => matches,
-        Ok(None) => return Ok(None),
-        Err(NoMemory) => return Err(NoMemory),
+    let Some(matches) = named_words(alloc, "fold", &names, words)? else {
+        return Ok(None);
     };
     let supply = word_of(&matches, "SUPPLY");
     let bidders = word_of(&matches, "BIDDERS");
@@ -187,13 +185,12 @@ fn read_check<'a>(alloc: Global, words: &'a [&'a str]) -> Result<Option<CommandW
     ensures some { IfOk result (λ o. IfSome o (λ command. Spells (command_as command) (codes "check" ∷ texts words.entry.now))) }
     ensures none { IfOk result (λ o. IfNone o (IsNoCommand (codes "check" ∷ texts words.entry.now))) }
 {
-    match named_words(alloc, "check", &["AUCTION"], words) {
-        Ok(Some(matches)) => Ok(Some(CommandWords::Check {
-            auction: word_of(&matches, "AUCTION"),
-        })),
-        Ok(None) => Ok(None),
-        Err(NoMemory) => Err(NoMemory),
-    }
+    let Some(matches) = named_words(alloc, "check", &["AUCTION"], words)? else {
+        return Ok(None);
+    };
+    Ok(Some(CommandWords::Check {
+        auction: word_of(&matches, "AUCTION"),
+    }))
 }
 
 /// The command `standing` of the words after its name.
@@ -205,14 +202,13 @@ fn read_standing<'a>(
     ensures some { IfOk result (λ o. IfSome o (λ command. Spells (command_as command) (codes "standing" ∷ texts words.entry.now))) }
     ensures none { IfOk result (λ o. IfNone o (IsNoCommand (codes "standing" ∷ texts words.entry.now))) }
 {
-    match named_words(alloc, "standing", &["AUCTION", "JOURNALS"], words) {
-        Ok(Some(matches)) => Ok(Some(CommandWords::Standing {
-            auction: word_of(&matches, "AUCTION"),
-            journals: word_of(&matches, "JOURNALS"),
-        })),
-        Ok(None) => Ok(None),
-        Err(NoMemory) => Err(NoMemory),
-    }
+    let Some(matches) = named_words(alloc, "standing", &["AUCTION", "JOURNALS"], words)? else {
+        return Ok(None);
+    };
+    Ok(Some(CommandWords::Standing {
+        auction: word_of(&matches, "AUCTION"),
+        journals: word_of(&matches, "JOURNALS"),
+    }))
 }
 
 /// The command `explain` of the words after its name.
@@ -224,14 +220,13 @@ fn read_explain<'a>(
     ensures some { IfOk result (λ o. IfSome o (λ command. Spells (command_as command) (codes "explain" ∷ texts words.entry.now))) }
     ensures none { IfOk result (λ o. IfNone o (IsNoCommand (codes "explain" ∷ texts words.entry.now))) }
 {
-    match named_words(alloc, "explain", &["AUCTION", "JOURNALS"], words) {
-        Ok(Some(matches)) => Ok(Some(CommandWords::Explain {
-            auction: word_of(&matches, "AUCTION"),
-            journals: word_of(&matches, "JOURNALS"),
-        })),
-        Ok(None) => Ok(None),
-        Err(NoMemory) => Err(NoMemory),
-    }
+    let Some(matches) = named_words(alloc, "explain", &["AUCTION", "JOURNALS"], words)? else {
+        return Ok(None);
+    };
+    Ok(Some(CommandWords::Explain {
+        auction: word_of(&matches, "AUCTION"),
+        journals: word_of(&matches, "JOURNALS"),
+    }))
 }
 
 /// The command `judge` of the words after its name, if the bidder is one of 1 to 12.
@@ -240,10 +235,9 @@ fn read_judge<'a>(alloc: Global, words: &'a [&'a str]) -> Result<Option<CommandW
     ensures some { IfOk result (λ o. IfSome o (λ command. Spells (command_as command) (codes "judge" ∷ texts words.entry.now))) }
     ensures none { IfOk result (λ o. IfNone o (IsNoCommand (codes "judge" ∷ texts words.entry.now))) }
 {
-    let matches = match named_words(alloc, "judge", &["AUCTION", "JOURNALS", "BIDDER"], words) {
-        Ok(Some(matches)) => matches,
-        Ok(None) => return Ok(None),
-        Err(NoMemory) => return Err(NoMemory),
+    let Some(matches) = named_words(alloc, "judge", &["AUCTION", "JOURNALS", "BIDDER"], words)?
+    else {
+        return Ok(None);
     };
     match read_number(word_of(&matches, "BIDDER"), 1, MOST_BIDDERS as u32) {
         Some(bidder) => Ok(Some(CommandWords::Judge {
@@ -268,19 +262,17 @@ fn read_settle<'a>(
     ensures none { IfOk result (λ o. IfNone o
         ((line : List (List ℕ)) → IsParted line (codes "settle") (texts words.entry.now) (texts options.now) → IsNoCommand line)) }
 {
-    let json = match flag_of(options, "--json") {
-        Some(json) => json,
-        None => return Ok(None),
+    let Some(json) = flag_of(options, "--json") else {
+        return Ok(None);
     };
-    match named_words(alloc, "settle", &["AUCTION", "JOURNALS"], words) {
-        Ok(Some(matches)) => Ok(Some(CommandWords::Settle {
-            auction: word_of(&matches, "AUCTION"),
-            journals: word_of(&matches, "JOURNALS"),
-            json,
-        })),
-        Ok(None) => Ok(None),
-        Err(NoMemory) => Err(NoMemory),
-    }
+    let Some(matches) = named_words(alloc, "settle", &["AUCTION", "JOURNALS"], words)? else {
+        return Ok(None);
+    };
+    Ok(Some(CommandWords::Settle {
+        auction: word_of(&matches, "AUCTION"),
+        journals: word_of(&matches, "JOURNALS"),
+        json,
+    }))
 }
 
 /// The command `trial` of the plain words and the options after its name.
@@ -296,19 +288,17 @@ fn read_trial<'a>(
     ensures none { IfOk result (λ o. IfNone o
         ((line : List (List ℕ)) → IsParted line (codes "trial") (texts words.entry.now) (texts options.now) → IsNoCommand line)) }
 {
-    let workers = match number_of(options, "--workers=", 1, 64, 1) {
-        Some(workers) => workers,
-        None => return Ok(None),
+    let Some(workers) = number_of(options, "--workers=", 1, 64, 1) else {
+        return Ok(None);
     };
-    match named_words(alloc, "trial", &["AUCTION", "VALUES"], words) {
-        Ok(Some(matches)) => Ok(Some(CommandWords::Trial {
-            auction: word_of(&matches, "AUCTION"),
-            values: word_of(&matches, "VALUES"),
-            workers,
-        })),
-        Ok(None) => Ok(None),
-        Err(NoMemory) => Err(NoMemory),
-    }
+    let Some(matches) = named_words(alloc, "trial", &["AUCTION", "VALUES"], words)? else {
+        return Ok(None);
+    };
+    Ok(Some(CommandWords::Trial {
+        auction: word_of(&matches, "AUCTION"),
+        values: word_of(&matches, "VALUES"),
+        workers,
+    }))
 }
 
 /// The command `float` of the words after its name, if the last one lists prices.
@@ -317,20 +307,17 @@ fn read_float<'a>(alloc: Global, words: &'a [&'a str]) -> Result<Option<CommandW
     ensures some { IfOk result (λ o. IfSome o (λ command. Spells (command_as command) (codes "float" ∷ texts words.entry.now))) }
     ensures none { IfOk result (λ o. IfNone o (IsNoCommand (codes "float" ∷ texts words.entry.now))) }
 {
-    let matches = match named_words(alloc, "float", &["AUCTION", "VALUES", "START"], words) {
-        Ok(Some(matches)) => matches,
-        Ok(None) => return Ok(None),
-        Err(NoMemory) => return Err(NoMemory),
+    let Some(matches) = named_words(alloc, "float", &["AUCTION", "VALUES", "START"], words)? else {
+        return Ok(None);
     };
-    match read_prices(alloc, word_of(&matches, "START")) {
-        Ok(Some(start)) => Ok(Some(CommandWords::Float {
-            auction: word_of(&matches, "AUCTION"),
-            values: word_of(&matches, "VALUES"),
-            start,
-        })),
-        Ok(None) => Ok(None),
-        Err(NoMemory) => Err(NoMemory),
-    }
+    let Some(start) = read_prices(alloc, word_of(&matches, "START"))? else {
+        return Ok(None);
+    };
+    Ok(Some(CommandWords::Float {
+        auction: word_of(&matches, "AUCTION"),
+        values: word_of(&matches, "VALUES"),
+        start,
+    }))
 }
 
 /// The command `make` of the plain words and the options after its name.
@@ -346,17 +333,15 @@ fn read_make<'a>(
     ensures none { IfOk result (λ o. IfNone o
         ((line : List (List ℕ)) → IsParted line (codes "make") (texts words.entry.now) (texts options.now) → IsNoCommand line)) }
 {
-    let workers = match number_of(options, "--workers=", 1, 64, 1) {
-        Some(workers) => workers,
-        None => return Ok(None),
+    let Some(workers) = number_of(options, "--workers=", 1, 64, 1) else {
+        return Ok(None);
     };
-    match named_words(alloc, "make", &["NUMBER"], words) {
-        Ok(Some(matches)) => match read_number(word_of(&matches, "NUMBER"), 0, u32::MAX) {
-            Some(number) => Ok(Some(CommandWords::Make { number, workers })),
-            None => Ok(None),
-        },
-        Ok(None) => Ok(None),
-        Err(NoMemory) => Err(NoMemory),
+    let Some(matches) = named_words(alloc, "make", &["NUMBER"], words)? else {
+        return Ok(None);
+    };
+    match read_number(word_of(&matches, "NUMBER"), 0, u32::MAX) {
+        Some(number) => Ok(Some(CommandWords::Make { number, workers })),
+        None => Ok(None),
     }
 }
 
@@ -373,27 +358,25 @@ fn read_serve<'a>(
     ensures none { IfOk result (λ o. IfNone o
         ((line : List (List ℕ)) → IsParted line (codes "serve") (texts words.entry.now) (texts options.now) → IsNoCommand line)) }
 {
-    let doors = match number_of(options, "--doors=", 1, MOST_DOORS, 4) {
-        Some(doors) => doors,
-        None => return Ok(None),
+    let Some(doors) = number_of(options, "--doors=", 1, MOST_DOORS, 4) else {
+        return Ok(None);
     };
-    let sessions = match number_of(options, "--sessions=", 1, MOST_SESSIONS, 1) {
-        Some(sessions) => sessions,
-        None => return Ok(None),
+    let Some(sessions) = number_of(options, "--sessions=", 1, MOST_SESSIONS, 1) else {
+        return Ok(None);
     };
-    match named_words(alloc, "serve", &["AUCTION", "JOURNALS", "ADDRESS"], words) {
-        Ok(Some(matches)) => Ok(Some(CommandWords::Serve {
-            auction: word_of(&matches, "AUCTION"),
-            journals: word_of(&matches, "JOURNALS"),
-            serving: Serving {
-                address: word_of(&matches, "ADDRESS"),
-                doors,
-                sessions,
-            },
-        })),
-        Ok(None) => Ok(None),
-        Err(NoMemory) => Err(NoMemory),
-    }
+    let Some(matches) = named_words(alloc, "serve", &["AUCTION", "JOURNALS", "ADDRESS"], words)?
+    else {
+        return Ok(None);
+    };
+    Ok(Some(CommandWords::Serve {
+        auction: word_of(&matches, "AUCTION"),
+        journals: word_of(&matches, "JOURNALS"),
+        serving: Serving {
+            address: word_of(&matches, "ADDRESS"),
+            doors,
+            sessions,
+        },
+    }))
 }
 
 /// The command `bid` of the plain words and the options after its name.
@@ -409,16 +392,14 @@ fn read_bid<'a>(
     ensures none { IfOk result (λ o. IfNone o
         ((line : List (List ℕ)) → IsParted line (codes "bid") (texts words.entry.now) (texts options.now) → IsNoCommand line)) }
 {
-    let looks = match number_of(options, "--looks=", 1, 1_000_000_000, 100_000) {
-        Some(looks) => looks,
-        None => return Ok(None),
+    let Some(looks) = number_of(options, "--looks=", 1, 1_000_000_000, 100_000) else {
+        return Ok(None);
     };
     let names = ["AUCTION", "VALUES", "BIDDER", "TOKEN", "ADDRESS"];
-    match named_words(alloc, "bid", &names, words) {
-        Ok(Some(matches)) => Ok(bid_of(&matches, looks)),
-        Ok(None) => Ok(None),
-        Err(NoMemory) => Err(NoMemory),
-    }
+    let Some(matches) = named_words(alloc, "bid", &names, words)? else {
+        return Ok(None);
+    };
+    Ok(bid_of(&matches, looks))
 }
 
 /// The command `bid` of its words, if the bidder is one of 1 to 12 and the token has 1 to 64 bytes.
@@ -459,11 +440,10 @@ fn read_migrate<'a>(
     ensures none { IfOk result (λ o. IfNone o (IsNoCommand (codes "migrate" ∷ texts words.entry.now))) }
 {
     let names = ["OLD", "JOURNALS", "NEW", "TARGET"];
-    match named_words(alloc, "migrate", &names, words) {
-        Ok(Some(matches)) => Ok(migrate_of(&matches)),
-        Ok(None) => Ok(None),
-        Err(NoMemory) => Err(NoMemory),
-    }
+    let Some(matches) = named_words(alloc, "migrate", &names, words)? else {
+        return Ok(None);
+    };
+    Ok(migrate_of(&matches))
 }
 
 /// The command `migrate` of its words, if the journals that are read are not those that are written.

@@ -6,12 +6,12 @@ use Rattle.command_line.proofs.PlainWords.{plain-words}
 use Rattle.command_line.proofs.NamedWords.{named-some, spells-explain}
 use Rattle.command_line.proofs.words.read_explain.Goals as goal
 
-pub word_of-requires-in-Ok-Some : goal.word_of-requires-in-Ok-Some
-word_of-requires-in-Ok-Some c =
-    let named = rw c.in-Ok-Some.field-0-is at c.in-Ok-Some.ensures.some in
-    (named-some (found_of c.in-Ok-Some.matches) (codes "AUCTION" ∷ codes "JOURNALS" ∷ []) (texts c.args.words.now) named).1.0
+pub word_of-requires-2 : goal.word_of-requires-2
+word_of-requires-2 c =
+    let named = rw c.in-Some.is at c.in_ok-matches.ensures.some in
+    (named-some (found_of c.in-Some.matches) (codes "AUCTION" ∷ codes "JOURNALS" ∷ []) (texts c.args.words.now) named).1.0
 
-pub returns-in-Ok-Some-clause-some : goal.returns-in-Ok-Some-clause-some
-returns-in-Ok-Some-clause-some c =
-    let named = rw c.in-Ok-Some.field-0-is at c.in-Ok-Some.ensures.some in
-    spells-explain (found_of c.in-Ok-Some.matches) c.word_of.result.now c.word_of-in-Ok-Some.result.now (texts c.args.words.now) named c.word_of.ensures c.word_of-in-Ok-Some.ensures (plain-words c.args.words.now c.requires)
+pub returns-clause-some : goal.returns-clause-some
+returns-clause-some c =
+    let named = rw c.in-Some.is at c.in_ok-matches.ensures.some in
+    spells-explain (found_of c.in-Some.matches) c.word_of.result.now c.word_of-2.result.now (texts c.args.words.now) named c.word_of.ensures c.word_of-2.ensures (plain-words c.args.words.now c.requires)
