@@ -36,10 +36,7 @@ pub(crate) fn read_house<H: Shelf>(
     ensures bidder { IfOk result (λ house. IfSome bidder (λ b. b ≤ house.terms.bidders)) }
     ensures ends { IfErr result (EndsAtJournals auction.now journals.now bidder (outside H.Shelf shelf.old shelf.new)) }
 {
-    let auction = match read_auction(alloc, shelf, auction) {
-        Ok(auction) => auction,
-        Err(ended) => return Err(ended),
-    };
+    let auction = read_auction(alloc, shelf, auction)?;
     if let Some(number) = missing_bidder(&auction.terms, bidder) {
         return Err(Ended::NoBidder(number));
     }

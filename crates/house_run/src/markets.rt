@@ -49,17 +49,12 @@ pub(crate) fn read_market<H: Shelf>(
     ensures frame { IfOk result (λ _. (end : End) → Frame (trial_needs auction.now values.now) end (outside H.Shelf shelf.old shelf.new)) }
     ensures ends { IfErr result (LeavesSo (trial_needs auction.now values.now) (outside H.Shelf shelf.old shelf.new)) }
 {
-    let auction = match read_auction(alloc, shelf, auction) {
-        Ok(auction) => auction,
-        Err(ended) => return Err(ended),
-    };
-    match read_values(alloc, shelf, values, &auction.terms) {
-        Ok(valuations) => Ok(Market {
-            terms: auction.terms,
-            valuations,
-        }),
-        Err(ended) => Err(ended),
-    }
+    let auction = read_auction(alloc, shelf, auction)?;
+    let valuations = read_values(alloc, shelf, values, &auction.terms)?;
+    Ok(Market {
+        terms: auction.terms,
+        valuations,
+    })
 }
 
 /// Reads an auction, whose clocks have to be able to start at these prices, and a file of valuations, or says how a command that needs both
@@ -79,21 +74,13 @@ pub(crate) fn read_started<H: Shelf>(
         → Frame (float_needs auction.now values.now start.now) end (outside H.Shelf shelf.old shelf.new)) }
     ensures ends { IfErr result (LeavesSo (float_needs auction.now values.now start.now) (outside H.Shelf shelf.old shelf.new)) }
 {
-    let auction = match read_auction(alloc, shelf, auction) {
-        Ok(auction) => auction,
-        Err(ended) => return Err(ended),
-    };
-    match check_start(&auction.terms, start) {
-        Ok(()) => {}
-        Err(ended) => return Err(ended),
-    }
-    match read_values(alloc, shelf, values, &auction.terms) {
-        Ok(valuations) => Ok(Market {
-            terms: auction.terms,
-            valuations,
-        }),
-        Err(ended) => Err(ended),
-    }
+    let auction = read_auction(alloc, shelf, auction)?;
+    check_start(&auction.terms, start)?;
+    let valuations = read_values(alloc, shelf, values, &auction.terms)?;
+    Ok(Market {
+        terms: auction.terms,
+        valuations,
+    })
 }
 
 /// Whether clocks on these terms can start at these prices, or how a command ends that would start them there.
@@ -140,20 +127,15 @@ pub(crate) fn read_bidders<H: Shelf>(
     ensures ends { IfErr result (λ end. (b : Bidding) → b.bidder ≡ bidder
         → StopsBidding auction.now values.now b (outside H.Shelf shelf.old shelf.new) end) }
 {
-    let auction = match read_auction(alloc, shelf, auction) {
-        Ok(auction) => auction,
-        Err(ended) => return Err(ended),
-    };
+    let auction = read_auction(alloc, shelf, auction)?;
     if auction.terms.bidders < bidder {
         return Err(Ended::NoBidder(bidder));
     }
-    match read_values(alloc, shelf, values, &auction.terms) {
-        Ok(valuations) => Ok(Bidders {
-            auction,
-            valuations,
-        }),
-        Err(ended) => Err(ended),
-    }
+    let valuations = read_values(alloc, shelf, values, &auction.terms)?;
+    Ok(Bidders {
+        auction,
+        valuations,
+    })
 }
 
 /// The outcome of the trial of a market by so many workers, or how a command that needs it ends.

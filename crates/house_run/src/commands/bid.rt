@@ -39,14 +39,8 @@ pub(crate) fn job<T: Clock, H: Shelf, N: Net>(
     ensures net_frame { NetFrame (bid_needs auction.now values.now (bidding_as bidding.now)) (end_of result)
         (net_seen N.Net net.old net.new) }
 {
-    let market = match read_bidders(alloc, shelf, auction, values, bidding.bidder) {
-        Ok(market) => market,
-        Err(ended) => return Err(ended),
-    };
-    let seen = match talk(rt, alloc, &market, bidding, net) {
-        Ok(seen) => seen,
-        Err(ended) => return Err(ended),
-    };
+    let market = read_bidders(alloc, shelf, auction, values, bidding.bidder)?;
+    let seen = talk(rt, alloc, &market, bidding, net)?;
     match looks_text(alloc, &seen.looks) {
         Ok(text) => Ok(text),
         Err(NoMemory) => Err(Ended::NoMemory),

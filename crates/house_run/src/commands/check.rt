@@ -15,10 +15,7 @@ pub(crate) fn job<H: Shelf>(alloc: Global, auction: &str, shelf: &mut H) -> Resu
     ensures answer { ShelfAnswer (CheckDone auction.now) (check_needs auction.now) (outside H.Shelf shelf.old shelf.new) result }
     ensures frame { Frame (check_needs auction.now) (end_of result) (outside H.Shelf shelf.old shelf.new) }
 {
-    let auction = match read_auction(alloc, shelf, auction) {
-        Ok(auction) => auction,
-        Err(ended) => return Err(ended),
-    };
+    let auction = read_auction(alloc, shelf, auction)?;
     match check_text(alloc, &auction) {
         Ok(text) => Ok(text),
         Err(_) => Err(Ended::NoMemory),

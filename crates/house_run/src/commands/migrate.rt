@@ -52,14 +52,8 @@ pub(crate) fn job<H: Shelf>(
         result }
     ensures frame { MigrateFrame old.now journals.now new.now target.now (end_of result) (outside H.Shelf shelf.old shelf.new) }
 {
-    let found = match read_move(alloc, old, journals, new, shelf) {
-        Ok(found) => found,
-        Err(ended) => return Err(ended),
-    };
-    match move_to(alloc, &found.clocks, &found.auction, target, shelf) {
-        Ok(()) => {}
-        Err(ended) => return Err(ended),
-    }
+    let found = read_move(alloc, old, journals, new, shelf)?;
+    move_to(alloc, &found.clocks, &found.auction, target, shelf)?;
     match moved_text(alloc, &found.clocks) {
         Ok(text) => Ok(text),
         Err(NoMemory) => Err(Ended::NoMemory),
@@ -79,10 +73,7 @@ fn read_move<H: Shelf>(
     ensures stops { IfErr result (λ end. (target : List ℕ)
         → StopsMoving old.now journals.now new.now target (outside H.Shelf shelf.old shelf.new) end) }
 {
-    let files = match read_files(alloc, old, new, shelf) {
-        Ok(files) => files,
-        Err(ended) => return Err(ended),
-    };
+    let files = read_files(alloc, old, new, shelf)?;
     match read_clocks(alloc, shelf, journals, &files.old.terms, &files.old.digest) {
         Ok(clocks) => Ok(Move {
             clocks,
@@ -98,14 +89,8 @@ fn read_files<H: Shelf>(alloc: Global, old: &str, new: &str, shelf: &mut H) -> R
     ensures stops { IfErr result (λ end. (journals target : List ℕ)
         → StopsMoving old.now journals new.now target (outside H.Shelf shelf.old shelf.new) end) }
 {
-    let first = match read_auction(alloc, shelf, old) {
-        Ok(first) => first,
-        Err(ended) => return Err(ended),
-    };
-    let second = match read_auction(alloc, shelf, new) {
-        Ok(second) => second,
-        Err(ended) => return Err(ended),
-    };
+    let first = read_auction(alloc, shelf, old)?;
+    let second = read_auction(alloc, shelf, new)?;
     if is_same_auction(&first, &second) {
         Ok(Files {
             old: first,

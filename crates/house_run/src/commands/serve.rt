@@ -37,14 +37,8 @@ pub(crate) fn job<T: Threads + Wait + Sync, H: Shelf, N: Net>(
     ensures net_frame { NetFrame (serve_needs auction.now journals.now (serving_as serving.now)) (end_of result)
         (net_seen N.Net net.old net.new) }
 {
-    let auction = match read_auction(alloc, shelf, auction) {
-        Ok(auction) => auction,
-        Err(ended) => return Err(ended),
-    };
-    let hosted = match serve_journals(rt, alloc, &auction, journals, serving, shelf, net) {
-        Ok(hosted) => hosted,
-        Err(ended) => return Err(ended),
-    };
+    let auction = read_auction(alloc, shelf, auction)?;
+    let hosted = serve_journals(rt, alloc, &auction, journals, serving, shelf, net)?;
     match serve_text(alloc, &hosted.ends, &hosted.clocks) {
         Ok(text) => Ok(text),
         Err(NoMemory) => Err(Ended::NoMemory),

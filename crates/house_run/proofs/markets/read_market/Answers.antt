@@ -1,5 +1,6 @@
 -- The auction is read, and then the valuations.
 use Rattle.std.proofs.Common.{refl}
+use Rattle.std.proofs.lemmas.Result.{err_from_is_err_and}
 use Rattle.auction_file.specs.Listing.{listing_of}
 use Rattle.house_run.specs.Seen.{outside}
 use Rattle.house_run.specs.TrialCommand.{trial_needs}
@@ -10,39 +11,41 @@ use Rattle.house_run.specs.Causes.{Tells}
 use Rattle.house_run.specs.Seen.{shelf_seen}
 use Rattle.house_run.proofs.markets.read_market.Goals as goal
 
-pub returns-in-Err-clause-ends : goal.returns-in-Err-clause-ends
-returns-in-Err-clause-ends g c =
+pub returns-in_err-auction-clause-ends : goal.returns-in_err-auction-clause-ends
+returns-in_err-auction-clause-ends g c =
+    let exit = err_from_is_err_and c.from_residual.result c.from_residual.ensures.1 in
     let seen = outside g.H.Shelf c.args.shelf.now c.read_auction.new.shelf in
-    auction-ends (trial_needs c.args.auction.now c.args.values.now) c.args.auction.now c.args.values.now seen c.in-Err.ended (trial-two c.args.auction.now c.args.values.now) c.read_auction.ensures.reads (c.in-Err.ensures.refused (trial_needs c.args.auction.now c.args.values.now) refl)
+    rw (exit.1, exit.2) (auction-ends (trial_needs c.args.auction.now c.args.values.now) c.args.auction.now c.args.values.now seen c.in_err-auction.field-0.0 (trial-two c.args.auction.now c.args.values.now) c.read_auction.ensures.reads (c.in_err-auction.ensures.refused (trial_needs c.args.auction.now c.args.values.now) refl))
 
-pub returns-in-Ok-read_values-clause-read : goal.returns-in-Ok-read_values-clause-read
-returns-in-Ok-read_values-clause-read g c =
+pub returns-clause-read : goal.returns-clause-read
+returns-clause-read g c =
     let seen = outside g.H.Shelf c.args.shelf.now c.read_values.new.shelf in
-    let auction = c.in-Ok.auction in
+    let auction = c.in_ok-auction.auction in
     let files = g.H.Shelf.files c.read_auction.new.shelf in
     let faults = g.H.Shelf.faults c.read_auction.new.shelf in
     let names = g.H.Shelf.opened c.read_auction.new.shelf in
-    let known = known-by c.args.auction.now seen auction.terms (listing_of auction) files faults names c.in-Ok.ensures.read (terms-of auction) c.read_auction.ensures.reads.unchanged c.in-Ok.ensures.opened c.in-Ok.ensures.steady in
-    market-read c.args.auction.now c.args.values.now seen auction.terms c.in-Ok-read_values.valuations.items files faults names known c.read_values.ensures.reads c.in-Ok-read_values.ensures.read
+    let known = known-by c.args.auction.now seen auction.terms (listing_of auction) files faults names c.in_ok-auction.ensures.read (terms-of auction) c.read_auction.ensures.reads.unchanged c.in_ok-auction.ensures.opened c.in_ok-auction.ensures.steady in
+    market-read c.args.auction.now c.args.values.now seen auction.terms c.in_ok-valuations.valuations.items files faults names known c.read_values.ensures.reads c.in_ok-valuations.ensures.read
 
-pub returns-in-Ok-read_values-clause-frame : goal.returns-in-Ok-read_values-clause-frame
-returns-in-Ok-read_values-clause-frame g c = λ end.
+pub returns-clause-frame : goal.returns-clause-frame
+returns-clause-frame g c = λ end.
     let seen = outside g.H.Shelf c.args.shelf.now c.read_values.new.shelf in
-    let auction = c.in-Ok.auction in
+    let auction = c.in_ok-auction.auction in
     let files = g.H.Shelf.files c.read_auction.new.shelf in
     let faults = g.H.Shelf.faults c.read_auction.new.shelf in
     let names = g.H.Shelf.opened c.read_auction.new.shelf in
-    let known = known-by c.args.auction.now seen auction.terms (listing_of auction) files faults names c.in-Ok.ensures.read (terms-of auction) c.read_auction.ensures.reads.unchanged c.in-Ok.ensures.opened c.in-Ok.ensures.steady in
+    let known = known-by c.args.auction.now seen auction.terms (listing_of auction) files faults names c.in_ok-auction.ensures.read (terms-of auction) c.read_auction.ensures.reads.unchanged c.in_ok-auction.ensures.opened c.in_ok-auction.ensures.steady in
     let second = shelf_seen g.H.Shelf c.read_auction.new.shelf c.read_values.new.shelf in
-    market-frame (trial_needs c.args.auction.now c.args.values.now) c.args.auction.now c.args.values.now seen auction.terms files faults names end (trial-two c.args.auction.now c.args.values.now) known c.read_values.ensures.reads (steady-counts (Tells (trial_needs c.args.auction.now c.args.values.now) end) second c.in-Ok-read_values.ensures.steady)
+    market-frame (trial_needs c.args.auction.now c.args.values.now) c.args.auction.now c.args.values.now seen auction.terms files faults names end (trial-two c.args.auction.now c.args.values.now) known c.read_values.ensures.reads (steady-counts (Tells (trial_needs c.args.auction.now c.args.values.now) end) second c.in_ok-valuations.ensures.steady)
 
-pub returns-clause-ends : goal.returns-clause-ends
-returns-clause-ends g c =
+pub returns-in_err-valuations-clause-ends : goal.returns-in_err-valuations-clause-ends
+returns-in_err-valuations-clause-ends g c =
+    let exit = err_from_is_err_and c.from_residual-in_err-valuations.result c.from_residual-in_err-valuations.ensures.1 in
     let seen = outside g.H.Shelf c.args.shelf.now c.read_values.new.shelf in
-    let auction = c.in-Ok.auction in
+    let auction = c.in_ok-auction.auction in
     let files = g.H.Shelf.files c.read_auction.new.shelf in
     let faults = g.H.Shelf.faults c.read_auction.new.shelf in
     let names = g.H.Shelf.opened c.read_auction.new.shelf in
-    let known = known-by c.args.auction.now seen auction.terms (listing_of auction) files faults names c.in-Ok.ensures.read (terms-of auction) c.read_auction.ensures.reads.unchanged c.in-Ok.ensures.opened c.in-Ok.ensures.steady in
+    let known = known-by c.args.auction.now seen auction.terms (listing_of auction) files faults names c.in_ok-auction.ensures.read (terms-of auction) c.read_auction.ensures.reads.unchanged c.in_ok-auction.ensures.opened c.in_ok-auction.ensures.steady in
     let has = terms-then c.args.auction.now seen auction.terms files faults names known c.read_values.ensures.reads.unchanged in
-    values-ends c.in-Err-read_values.ended (trial_needs c.args.auction.now c.args.values.now) c.args.auction.now c.args.values.now seen auction.terms files faults names (trial-two c.args.auction.now c.args.values.now) known (record { terms_are = has; has_bidder = tt; starts = tt }) c.read_values.ensures.reads c.in-Err-read_values.ensures.refused
+    rw (exit.1, exit.2) (values-ends c.in_err-valuations.field-0.0 (trial_needs c.args.auction.now c.args.values.now) c.args.auction.now c.args.values.now seen auction.terms files faults names (trial-two c.args.auction.now c.args.values.now) known (record { terms_are = has; has_bidder = tt; starts = tt }) c.read_values.ensures.reads c.in_err-valuations.ensures.refused)
