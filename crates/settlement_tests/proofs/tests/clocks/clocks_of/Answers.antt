@@ -2,7 +2,7 @@ use Rattle.std.proofs.Common.{ap, ◌∙◌}
 use Rattle.clock.specs.Reports.{histories}
 use Rattle.settlement.proofs.Histories.{histories-push}
 use Rattle.settlement.proofs.Auction.{first-more}
-use Rattle.settlement_tests.proofs.tests.clocks_of.Goals as goal
+use Rattle.settlement_tests.proofs.tests.clocks.clocks_of.Goals as goal
 
 pub loop-number-preserved : goal.loop-number-preserved
 loop-number-preserved g c =
