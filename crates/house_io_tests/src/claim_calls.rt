@@ -1,9 +1,8 @@
 //! What no clause says of names: which file is opened as a source, which folders are synced for a claim, and that a shelf tells whether it
 //! found a disk.
-use crate::calls::{
-    Asked, BROKEN, FOLDER, MADE, MOST_CAUSES, OPENED, Outcome, Question, failures, folder_of, found,
-};
-use crate::noted_folder::{Call, Place};
+use crate::causes::{BROKEN, MOST_CAUSES};
+use crate::folder_asking::{Asked, Outcome, Question, failures, folder_of, found};
+use crate::noted_folder::{Call, FOLDER, MADE, OPENED, Place};
 use crate::notes::notes_of;
 use expected_values::{equal, equal_in};
 use house_io::{FolderShelf, Refusal};
@@ -138,7 +137,7 @@ fn is_kept_by(
     count: usize,
     failing: &'static [usize],
     code: i32,
-) -> Option<(bool, Result<u64, Refusal>)> {
+) -> Option<(bool, Result<usize, Refusal>)> {
     match claimed_in(alloc, ".", "kept", "kept/journal", failing, code) {
         Some(found) => Some((
             Some(found.calls.as_slice()) == KEPT.get(..count),
@@ -150,7 +149,7 @@ fn is_kept_by(
 
 #[test]
 fn a_claim_fails_where_a_folder_is_not_synced(rt: HostRuntime) -> Result<(), Fail> {
-    let failing: [(usize, &'static [usize], u64); 5] = [
+    let failing: [(usize, &'static [usize], usize); 5] = [
         (9, &[], 0),
         (6, &[5], 1),
         (7, &[6], 1),

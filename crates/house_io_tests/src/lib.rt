@@ -4,11 +4,17 @@
 #[cfg(test)]
 mod calls;
 #[cfg(test)]
+mod causes;
+#[cfg(test)]
 mod claim_calls;
 #[cfg(test)]
 mod disk_tests;
 #[cfg(test)]
 mod file_tests;
+#[cfg(test)]
+mod folder_asking;
+#[cfg(test)]
+mod link_asking;
 #[cfg(test)]
 mod link_calls;
 #[cfg(test)]

@@ -47,6 +47,18 @@ pub(crate) enum Call {
     Other,
 }
 
+/// The journal is opened to be read.
+pub(crate) const OPENED: Call = Call::Open(Place::Journal, true, false, false);
+
+/// Its folder is opened.
+pub(crate) const FOLDER: Call = Call::Open(Place::Folder, true, false, false);
+
+/// The journal is opened to be written as well, and made where it is absent.
+pub(crate) const MADE: Call = Call::Open(Place::Journal, true, true, true);
+
+/// The journal's bytes are synced.
+pub(crate) const SYNCED: Call = Call::SyncData(Place::Journal);
+
 /// A folder in which a journal stands, or may be made.
 #[derive(Drop)]
 pub(crate) struct NotedFolder {

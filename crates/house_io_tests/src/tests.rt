@@ -1,5 +1,5 @@
 //! What no clause says: that the calls succeed with ample memory, and what the real streams do.
-use crate::calls::{BROKEN, MOST_CAUSES};
+use crate::causes::{BROKEN, MOST_CAUSES};
 use expected_values::{equal, equal_in};
 use house_io::{
     Failed, FileSource, FolderShelf, ListFile, ListShelf, ListSink, ListSource, ReadWhole, Refusal,
