@@ -56,7 +56,7 @@ class Bidder:
         self.codes = set()
 
     def asked(self, kind, payload):
-        """The reply to a frame, over a new link where the old one is gone, and again where it was refused for want of memory or a disk's fault."""
+        """The reply to a frame, over a new link where the old one is gone, and again where it was refused out of memory or a disk's fault."""
         for _ in range(TRIES):
             try:
                 if self.link is None:
