@@ -1,5 +1,5 @@
 -- The search through all choices, demand by demand: the first bundle of the first demand from which the search through the
--- demands behind finds something.
+-- demands after finds something.
 use Rattle.std.proofs.Common.{◌≡◌, ◌<◌, ◌⊎◌, inl, inr, ℕ, zero, suc, Bool, true, false, cond, List, [], ◌∷◌, map, Option, Some, None, refl, sym, ◌∙◌, ap, arith}
 use Rattle.std.specs.Prelude.{find, flat_map, option_map, slice_get}
 use Rattle.std.specs.Option.{option_or}
@@ -8,7 +8,7 @@ use Rattle.std.proofs.lemmas.List.Concat.{flat_map-cons}
 use Rattle.lot_base.specs.Box.{IsIn}
 use Rattle.lot_base.specs.Choices.{IsChoice, choices}
 
--- what is found behind the first bundle with which something is found
+-- what is found after the first bundle with which something is found
 abbrev pub pick : (List (List ℕ) → Bool) → List (List ℕ) → List (List (List ℕ)) → Option (List (List ℕ))
 pick test [] rest = None
 pick test (x ∷ d) rest = option_or (option_map (λ xs. x ∷ xs) (find (λ xs. test (x ∷ xs)) rest)) (pick test d rest)
@@ -32,7 +32,7 @@ find-rows test (x ∷ d) rest =
 pub find-choices : (test : List (List ℕ) → Bool) (d : List (List ℕ)) (ds : List (List (List ℕ))) → find test (choices (d ∷ ds)) ≡ pick test d (choices ds)
 find-choices test d ds = find-rows test d (choices ds)
 
--- where the search behind a bundle finds nothing, and where it finds something
+-- where the search after a bundle finds nothing, and where it finds something
 pub pick-skips : (test : List (List ℕ) → Bool) (x : List ℕ) (d : List (List ℕ)) (rest : List (List (List ℕ))) → find (λ xs. test (x ∷ xs)) rest ≡ None → pick test (x ∷ d) rest ≡ pick test d rest
 pick-skips test x d rest e = ap (λ o. option_or (option_map (λ xs. x ∷ xs) o) (pick test d rest)) e
 

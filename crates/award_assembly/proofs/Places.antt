@@ -45,7 +45,7 @@ found-empty test choice e = by (test []) refl e
         none (place ∷ others) other stand greater = stand
     by false t f = absurd (cc)
 
--- the order of two places and of the places behind
+-- the order of two places and of the places after
 not_greater : (i j : ℕ) (o behind : Ordering) → MatchOrdering o (i < j) (i ≡ j) (j < i) → ordering_then o behind ≡ Greater → (j < i) ⊎ ((i ≡ j) × (behind ≡ Greater))
 not_greater i j Less behind m e = absurd (let f : Less ≡ Greater = e in cc)
 not_greater i j Equal behind m e = inr (m, e)

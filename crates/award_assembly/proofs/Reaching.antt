@@ -1,4 +1,4 @@
--- What the demands behind can clear, from what the demands further behind can; and the walk from the first demand on.
+-- What the demands after can clear, from what the demands further after can; and the walk from the first demand on.
 use Rattle.std.proofs.Common.{◌≡◌, ◌≤◌, ℕ, ◌+◌, Bool, true, false, ◌&&◌, cond, List, [], ◌∷◌, length, Option, Some, None, is_some, refl, sym, ◌∙◌, ap, subst, arith, slice_index_or}
 use Rattle.std.specs.Prelude.{find, option_map}
 use Rattle.std.specs.List.{AllByRecursion}
@@ -57,7 +57,7 @@ has-can s o p ds table t reach same = by (is_within s t) refl
         ∙ ap (can_clear s o p ds) (bundle_at-index_of s t within)
     by false e = ap (λ b. b && slice_index_or table (index_of s t) false) e ∙ sym (ap is_some (after-outside s o p ds t same e))
 
--- with no demand behind
+-- with no demand after
 after-none : (s o p t : List ℕ) → length t ≡ length s → first_choice_after s o p [] t ≡ cond (clears o p t s) (Some []) None
 unfolding first_choice_after
 after-none s o p t same = ap (λ u. cond {A = Option (List (List ℕ))} (clears o p u s) (Some []) None) (plus-zeros s t same)
@@ -78,7 +78,7 @@ behind-after : (s o p t x : List ℕ) (ds : List (List (List ℕ))) → find (λ
 unfolding first_choice_after
 behind-after s o p t x ds = λ i. find (λ xs. clears o p (sym (plus-assoc t x (sum_of s xs)) i) s) (choices ds)
 
--- the bundle from which the demands behind can clear is the one that the search through all choices takes
+-- the bundle from which the demands after can clear is the one that the search through all choices takes
 pub record Leads (s o p t x : List ℕ) (d : List (List ℕ)) (ds : List (List (List ℕ))) : Type 0 where
   pub more : first_choice_after s o p (d ∷ ds) t ≡ option_map (λ xs. x ∷ xs) (first_choice_after s o p ds (plus t x))
   pub can : can_clear s o p ds (plus t x) ≡ true

@@ -1,4 +1,4 @@
--- A table of the totals from which a demand and those behind can clear, bundle by bundle of the demand.
+-- A table of the totals from which a demand and those after can clear, bundle by bundle of the demand.
 use Rattle.std.proofs.Common.{◌≡◌, ◌≤◌, ◌<◌, ◌⊎◌, inl, inr, ℕ, zero, suc, ◌+◌, Bool, true, false, ◌&&◌, ◌||◌, nat_eq, cond, List, [], ◌∷◌, sum, length, take, drop, replicate, Some, None, is_some, refl, sym, ◌∙◌, ap, arith, slice_index, slice_index_or}
 use Rattle.std.specs.Prelude.{find, slice_get}
 use Rattle.std.specs.List.{AllByRecursion}

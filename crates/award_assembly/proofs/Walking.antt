@@ -150,7 +150,7 @@ reaches-behind s o p ds tables table place reaches below is =
     reaches-at s o p ds (length ds) (length ds - 1 - place) tables table (drop (place + 1) ds) reaches (omega arith) is
     (let e : length ds - (length ds - 1 - place) ≡ place + 1 = omega arith in ap (λ n. drop n ds) e)
 
--- The demand at a place, the table of those behind it, and what was found or not found by them.
+-- The demand at a place, the table of those after it, and what was found or not found by them.
 record Turn (s o p : List ℕ) (ds : List (List (List ℕ))) (place : ℕ) (table : List Bool) (d : List (List ℕ)) : Type 0 where
   pub at : slice_get ds place ≡ Some d
   pub demand : IsDemand s d

@@ -1,10 +1,10 @@
--- Choosing demand by demand: some total is taken by the demands before, and the demands behind are still to choose.
+-- Choosing demand by demand: some total is taken by the demands before, and the demands after are still to choose.
 use Rattle.std.specs.Prelude.{◌≡◌, ◌<◌, ℕ, ◌+◌, ◌-◌, Bool, true, false, ◌&&◌, ◌||◌, List, length, drop, Option, is_some, find, slice_index_or}
 use Rattle.lot_base.specs.Goods.{plus, is_within, box_size}
 use Rattle.lot_base.specs.Box.{index_of, bundle_at}
 use Rattle.lot_base.specs.Choices.{choices, clears, sum_of}
 
--- the first choice of the demands behind that clears together with what is taken
+-- the first choice of the demands after that clears together with what is taken
 unfoldable pub first_choice_after : List ℕ → List ℕ → List ℕ → List (List (List ℕ)) → List ℕ → Option (List (List ℕ))
 first_choice_after supply opening p demands taken = find (λ choice. clears opening p (plus taken (sum_of supply choice)) supply) (choices demands)
 
@@ -12,7 +12,7 @@ first_choice_after supply opening p demands taken = find (λ choice. clears open
 abbrev pub can_clear : List ℕ → List ℕ → List ℕ → List (List (List ℕ)) → List ℕ → Bool
 can_clear supply opening p demands taken = is_some (first_choice_after supply opening p demands taken)
 
--- a truth value for each bundle of the box, at the bundle's place: whether the demands behind can clear where it is taken
+-- a truth value for each bundle of the box, at the bundle's place: whether the demands after can clear where it is taken
 pub record IsReach (supply opening p : List ℕ) (demands : List (List (List ℕ))) (table : List Bool) : Type 0 where
   pub size : length table ≡ box_size supply
   pub each : (place : ℕ) → place < box_size supply → slice_index_or table place false ≡ can_clear supply opening p demands (bundle_at supply place)

@@ -57,7 +57,7 @@ module _ {D : Type 0} (desks : List (Opened (BookOf D))) (passes : List HousePas
   pub last-desk : (left done : List (Opened (BookOf D))) (desk : Opened (BookOf D)) (m : ℕ) → desks ≡ (left ++ desk ∷ []) ++ done → m ≡ length left → (d : Opened (BookOf D)) → get_or desks m d ≡ desk
   last-desk left done desk m is at d = ap (λ l. get_or l m d) (is ∙ append_assoc left (desk ∷ []) done) ∙ get_or_at left desk done d m (sym at)
 
--- the column of rows that were cut behind it
+-- the column of rows that were cut after it
 pub column-left : (now passes : List HousePassOf) (m n : ℕ) → rows_of now ≡ fronts n (rows_of passes) → m < n → column m now ≡ column m passes
 column-left now passes m n is less = column-cells m now ∙ ap (cells m) is ∙ cells-fronts m n (rows_of passes) less ∙ sym (column-cells m passes)
 

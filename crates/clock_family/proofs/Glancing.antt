@@ -123,7 +123,7 @@ same-owner owner old new on of = (of.0, ap (λ (p : Known Entry Origin). p.origi
 pub looked-owner : (owner : Owner) (look : Look) (old new : Known Entry Origin) → PassLooks look old new → IsOf owner old → IsOf owner new
 looked-owner owner look old new looks of = (of.0, ap (λ (p : Known Entry Origin). p.origin) looks.same ∙ of.1, of.2)
 
--- and a look behind it is one of the pass as it was
+-- and a look after it is one of the pass as it was
 pub looks-behind : (look : Look) (old mid new : Known Entry Origin) → SeesOn old mid → PassLooks look mid new → PassLooks look old new
 looks-behind look old mid new on looks =
     let more : StartsWith looks.before on.history = subst (λ (p : Known Entry Origin). StartsWith looks.before p.seen) on.sees looks.goes_on in

@@ -1,4 +1,4 @@
--- The last is taken out of each row, and one more is put behind each row.
+-- The last is taken out of each row, and one more is put after each row.
 use Rattle.std.proofs.Common.{◌≡◌, ℕ, zero, suc, ◌+◌, ◌<◌, ◌≤◌, List, [], ◌∷◌, ◌++◌, length, get_or, set, take, drop, refl, sym, ap, subst, ◌∙◌, arith, length-append, append_assoc, append-nil}
 use Rattle.std.specs.List.{AllByRecursion}
 use Rattle.std.proofs.Math.Seq.{drop-append_seam, take-length}
@@ -70,7 +70,7 @@ module _ {A : Type 0} where
   cells-fronts c m [] lt = refl
   cells-fronts c m (r ∷ rs) lt = (λ i. cell-front c m r lt i ++ cells-fronts c m rs lt i)
 
-  -- one more is put behind a row, where those from the next row on have one more
+  -- one more is put after a row, where those from the next row on have one more
   pub deal-step : (rows : List (List A)) (j : ℕ) (done : List A) (r : List A) (x : A) → j < length rows → r ≡ get_or (take (suc j) rows ++ dealt (drop (suc j) rows) done) j r
       → set (take (suc j) rows ++ dealt (drop (suc j) rows) done) j (r ++ x ∷ []) ≡ take j rows ++ dealt (drop j rows) (x ∷ done)
   deal-step [] j done r x lt is = absurd (omega arith)

@@ -83,7 +83,7 @@ empty-front [] ys none = refl
 empty-front (x ∷ xs) ys none = absurd (omega (arith, none))
 
 module _ {D : Type 0} (shown : D → DiskShown) (all : List (LaidOf D)) (rest : List D) where
-  -- the disks of the desks that are no longer left, the last first, behind the rest
+  -- the disks of the desks that are no longer left, the last first, after the rest
   pub record AreTaken (left : List (LaidOf D)) (disks : List D) : Type 0 where
     pub gone : List (LaidOf D)
     pub front : List D

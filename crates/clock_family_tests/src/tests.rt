@@ -188,7 +188,7 @@ fn seen_of(look: &Look) -> Seen {
     }
 }
 
-/// Offers the report of a line. Nothing is answered for want of memory, or where there is no such pass, clock or bidder.
+/// Offers the report of a line. Nothing is answered where memory ran out, or where there is no such pass, clock or bidder.
 fn offer<D: Disk, T: Wait>(
     rt: &T,
     alloc: Global,

@@ -68,7 +68,7 @@ range-at low high [] k all inside = absurd (omega arith)
 range-at low high (n ∷ ns) zero all inside = all.0
 range-at low high (n ∷ ns) (suc k) all inside = range-at low high ns k all.1 (omega arith)
 
--- the part behind those that were read is the next supply's
+-- the part after those that were read is the next supply's
 pub record NextPart (xs : List ℕ) (piece : List ℕ) (supply : List ℕ) : Type 0 where
   pub more : length xs < length supply
   pub piece_is : piece ≡ decimal (get_or supply (length xs) 0)

@@ -122,7 +122,7 @@ named-some f [] words is = tt
 named-some f (id ∷ ids) [] is = absurd is
 named-some f (id ∷ ids) (word ∷ words) is = (there (first_value f id) word is.0, named-some f ids words is.1)
 
--- the arguments behind a name, where the plain words are these
+-- the arguments after a name, where the plain words are these
 other-plain : (name : List ℕ) (behind plain words options : List (List ℕ)) → plain ≡ words → AreArguments name behind plain options → AreArguments name behind words options
 other-plain name behind plain words options e are = let P : List (List ℕ) → Type 0 = λ ws. AreArguments name behind ws options in subst P e are
 

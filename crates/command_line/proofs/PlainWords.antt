@@ -100,7 +100,7 @@ unnamed name behind other = λ command is.
     let n : m.name ≡ name = cc in
     other (subst IsName n m.parted.named)
 
--- words behind a name of which one is neither plain nor an option
+-- words after a name of which one is neither plain nor an option
 pub unknown : (name : List ℕ) (behind : List (List ℕ)) → list_all (is_argument name) (joined name behind) ≡ false → IsNoCommand (name ∷ behind)
 unknown name behind other = λ command is.
     let m = command-parted command (name ∷ behind) is in
@@ -142,7 +142,7 @@ same-parted words name found plain items options others same p o is =
     let R : List (List ℕ) → Type 0 = λ ws. IsParted words name plain ws in
     subst R (sym o) (subst Q (sym p) (subst P same is))
 
--- words that were parted behind the name of a command without an option
+-- words that were parted after the name of a command without an option
 pub parted-words : (words : List (List ℕ)) (name found : List ℕ) (plain items options : List (List ℕ)) → found ≡ name → plain ≡ items → valued_of name ≡ [] → flags_of name ≡ [] → IsParted words found items options → words ≡ name ∷ plain
 parted-words words name found plain items options same are none no-flags is =
     let it = same-parted words name found plain items options options same are refl is in

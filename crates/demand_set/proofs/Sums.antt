@@ -9,7 +9,7 @@ no-units : (b : Bool) (y : ℕ) → y ≡ 0 → cond b y 0 ≡ 0
 no-units true y e = e
 no-units false y e = refl
 
--- zeros behind a bundle change nothing
+-- zeros after a bundle change nothing
 behind : (x ys : List ℕ) (set : ℕ) → AllByRecursion (λ y. y ≡ 0) ys → quantity_in (x ++ ys) set ≡ quantity_in x set
 behind [] [] set zeros = refl
 behind [] (y ∷ ys) set zeros =

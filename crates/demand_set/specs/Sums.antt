@@ -26,7 +26,7 @@ abbrev pub KeepsRows : (ℕ → ℕ → ℕ) → ℕ → List ℕ → List ℕ �
 KeepsRows pick rows low high old new =
     (row set : ℕ) → row < rows → set < 8 → slice_index new (8 * row + set) ≡ pick (slice_index old (8 * row + set)) (slice_index low set + slice_index high row)
 
--- the numbers of the sets of so many goods, and 0 behind them
+-- the numbers of the sets of so many goods, and 0 after them
 pub record CopiesSets (goods : ℕ) (table copy : List ℕ) : Type 0 where
   pub entries : (set : ℕ) → set < 2 ^ goods → slice_index copy set ≡ slice_index table set
   pub others : (set : ℕ) → 2 ^ goods ≤ set → slice_index copy set ≡ 0

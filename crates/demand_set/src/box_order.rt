@@ -1,5 +1,6 @@
 //! Bundles by their places in the box: a bundle within the supply comes after another one exactly where its place does.
 ghost use Rattle.std.specs.Prelude.{◌≡◌, ◌≤◌, ◌%◌, None, length, slice_index};
+ghost use Rattle.lot_base.specs.declared.limits.TheConstants.{MOST_BUNDLES};
 ghost use Rattle.lot_base.specs.Goods.{IsSupply, box_size};
 ghost use Rattle.demand_set.specs.Reading.{bundles_of, fault_from, unless, demand_of, AreWhole};
 ghost use Rattle.demand_set.specs.Places.{place_in};
@@ -49,7 +50,7 @@ fn first_fault(supply: &[u16], quantities: &[u16]) -> Option<DemandFault>
 /// first.
 fn place_within(supply: &[u16], quantities: &[u16]) -> Option<u32>
     requires same { length supply.now ≡ length quantities.now }
-    requires small { box_size supply.now ≤ 2048 }
+    requires small { box_size supply.now ≤ MOST_BUNDLES }
     ensures { result ≡ place_in supply.now quantities.now }
 {
     let mut place = 0u32;

@@ -1,5 +1,6 @@
 //! The local exchange test: one pass over the box.
 ghost use Rattle.std.specs.Prelude.{◌↔◌, ◌≡◌, ◌≢◌, ◌<◌, ◌≤◌, ◌+◌, ◌⊎◌, List, ℕ, IsTrue, length, slice_index};
+ghost use Rattle.lot_base.specs.declared.limits.TheConstants.{MOST_BUNDLES};
 ghost use Rattle.lot_base.specs.Goods.{at, one_more, AtMost, box_size, IsSupply};
 ghost use Rattle.lot_base.specs.Box.{bundle_at};
 ghost use Rattle.lot_base.specs.Economy.{IsStrongSubstitutes};
@@ -36,9 +37,9 @@ pub(crate) fn is_no_worse(values: &[u16], x: usize, y: usize, less: usize, more:
 
 /// Whether of units at the distances a and b one changes place with a unit at c at no loss.
 fn third_holds(values: &[u16], index: usize, a: usize, b: usize, c: usize) -> bool
-    requires ab { index + a + b < 2048 }
-    requires ac { index + a + c < 2048 }
-    requires bc { index + b + c < 2048 }
+    requires ab { index + a + b < MOST_BUNDLES }
+    requires ac { index + a + c < MOST_BUNDLES }
+    requires bc { index + b + c < MOST_BUNDLES }
     ensures { IsTrue result ↔
         ((slice_index values.now (index + a + b) + slice_index values.now (index + c)
         ≤ slice_index values.now (index + a + c) + slice_index values.now (index + b))
@@ -51,7 +52,7 @@ fn third_holds(values: &[u16], index: usize, a: usize, b: usize, c: usize) -> bo
 
 /// Whether a unit at the distance a is worth no more beside one at b.
 fn falls(values: &[u16], index: usize, a: usize, b: usize) -> bool
-    requires { index + a + b < 2048 }
+    requires { index + a + b < MOST_BUNDLES }
     ensures { IsTrue result ↔ (slice_index values.now (index + a + b) + slice_index values.now index ≤ slice_index values.now
         (index + a) + slice_index values.now (index + b)) }
 {
@@ -85,7 +86,7 @@ fn third_at(
     k: usize,
 ) -> bool
     requires goods { length supply.now ≤ 6 }
-    requires size { box_size supply.now ≤ 2048 }
+    requires size { box_size supply.now ≤ MOST_BUNDLES }
     requires within { index < box_size supply.now }
     requires strides { AreStrides supply.now strides.now }
     requires free { AreFree supply.now index free.now }
@@ -118,7 +119,7 @@ fn pair_at(
     j: usize,
 ) -> bool
     requires goods { length supply.now ≤ 6 }
-    requires size { box_size supply.now ≤ 2048 }
+    requires size { box_size supply.now ≤ MOST_BUNDLES }
     requires within { index < box_size supply.now }
     requires strides { AreStrides supply.now strides.now }
     requires free { AreFree supply.now index free.now }
@@ -143,7 +144,7 @@ fn pair_at(
 /// Whether the conditions hold at the bundle of a place.
 fn holds_at(supply: &[u16], strides: &[usize; 6], values: &[u16], index: usize) -> bool
     requires goods { length supply.now ≤ 6 }
-    requires size { box_size supply.now ≤ 2048 }
+    requires size { box_size supply.now ≤ MOST_BUNDLES }
     requires within { index < box_size supply.now }
     requires strides { AreStrides supply.now strides.now }
     ensures { IsTrue result ↔ IsLocalAt supply.now (valuation_of supply.now values.now) (bundle_at supply.now index) }
@@ -164,7 +165,7 @@ pub(crate) fn is_strong(supply: &[u16], strides: &[usize; 6], size: usize, value
     requires goods { length supply.now ≤ 6 }
     requires strides { AreStrides supply.now strides.now }
     requires size { box_size supply.now ≡ size }
-    requires few { size ≤ 2048 }
+    requires few { size ≤ MOST_BUNDLES }
     ensures { IsTrue result ↔ IsStrongSubstitutes supply.now (valuation_of supply.now values.now) }
 {
     for index in 0..size {

@@ -1,5 +1,6 @@
 //! The first triple that breaks the exchange property, by its definition.
 ghost use Rattle.std.specs.Prelude.{◌↔◌, ◌≡◌, ◌<◌, ◌≤◌, ◌+◌, ℕ, IsTrue, length, IfSome, IfNone};
+ghost use Rattle.lot_base.specs.declared.limits.TheConstants.{MOST_BUNDLES};
 ghost use Rattle.lot_base.specs.Goods.{at, box_size};
 ghost use Rattle.lot_base.specs.Box.{bundle_at};
 ghost use Rattle.lot_base.specs.Economy.{IsStrongSubstitutes};
@@ -34,7 +35,7 @@ fn goes_for(
     other: usize,
 ) -> bool
     requires goods { length supply.now ≤ 6 }
-    requires size { box_size supply.now ≤ 2048 }
+    requires size { box_size supply.now ≤ MOST_BUNDLES }
     requires x { x < box_size supply.now }
     requires y { y < box_size supply.now }
     requires strides { AreStrides supply.now strides.now }
@@ -66,7 +67,7 @@ fn is_exchanged(
     good: usize,
 ) -> bool
     requires goods { length supply.now ≤ 6 }
-    requires size { box_size supply.now ≤ 2048 }
+    requires size { box_size supply.now ≤ MOST_BUNDLES }
     requires x { x < box_size supply.now }
     requires y { y < box_size supply.now }
     requires strides { AreStrides supply.now strides.now }
@@ -102,7 +103,7 @@ fn first_good_broken(
 ) -> Option<u8>
     requires goods { length supply.now ≤ 6 }
     requires strides { AreStrides supply.now strides.now }
-    requires size { box_size supply.now ≤ 2048 }
+    requires size { box_size supply.now ≤ MOST_BUNDLES }
     requires x { x < box_size supply.now }
     requires y { y < box_size supply.now }
     requires free_x { AreFree supply.now x free_x.now }
@@ -132,7 +133,7 @@ fn first_broken_from(
     requires goods { length supply.now ≤ 6 }
     requires strides { AreStrides supply.now strides.now }
     requires size { box_size supply.now ≡ size }
-    requires few { size ≤ 2048 }
+    requires few { size ≤ MOST_BUNDLES }
     requires x { x < size }
     ensures at { IfSome result (λ b. b.x ≡ x) }
     ensures some { IfSome result (λ b. (b.y < size) × (b.good < length supply.now)
@@ -165,7 +166,7 @@ pub(crate) fn first_broken(
     requires goods { length supply.now ≤ 6 }
     requires strides { AreStrides supply.now strides.now }
     requires size { box_size supply.now ≡ size }
-    requires few { size ≤ 2048 }
+    requires few { size ≤ MOST_BUNDLES }
     ensures some { IfSome result (λ b. IsFirstPlace supply.now (valuation_of supply.now values.now) b.x b.y b.good) }
     ensures none { IfNone result (IsStrongSubstitutes supply.now (valuation_of supply.now values.now)) }
 {

@@ -47,7 +47,7 @@ empty-places (door ∷ doors) all =
     let none : 0 ≤ 0 = omega arith in
     (subst P (sym all.0) none, empty-places doors all.1)
 
--- doors that were given, and doors without links behind them, have their places
+-- doors that were given, and doors without links after them, have their places
 pub given-places : (count : ℕ) (doors before given after : List (DoorLinks SuredLink)) → HasAll doors → before ≡ [] → given ≡ before ++ take count doors
     → ((empty : List (DoorLinks SuredLink)) × (after ≡ given ++ empty) × AllByRecursion (λ (door : DoorLinks SuredLink). door ≡ fresh_door []) empty) → HasAll after
 given-places count doors before given after all none first filled =

@@ -20,7 +20,7 @@ writes :
     × (overlaid (1 ∷ []) 3 (9 ∷ []) ≡ 1 ∷ 0 ∷ 0 ∷ 9 ∷ []) × (overlaid [] 0 (9 ∷ []) ≡ 9 ∷ [])
 writes = (refl, refl, refl, refl)
 
--- A write of no bytes changes no byte. Behind the end it lengthens the file up to its offset.
+-- A write of no bytes changes no byte. After the end it lengthens the file up to its offset.
 writes_of_nothing : (overlaid (1 ∷ 2 ∷ []) 1 [] ≡ 1 ∷ 2 ∷ []) × (overlaid (1 ∷ 2 ∷ []) 2 [] ≡ 1 ∷ 2 ∷ []) × (overlaid (1 ∷ []) 3 [] ≡ 1 ∷ 0 ∷ 0 ∷ [])
 writes_of_nothing = (refl, refl, refl)
 

@@ -1,4 +1,4 @@
--- One more life behind others.
+-- One more life after others.
 use Rattle.std.proofs.Common.{List, [], ◌∷◌, ◌++◌, ℕ, refl}
 use Rattle.house_io.specs.Shelves.{NamedFile}
 use Rattle.auction_file.specs.declared.listing.Auction.{Auction}

@@ -17,7 +17,7 @@ none-before c r take = (subst (IsJudgement c r) take (judgement-is c r)).1
 named : (round bidder : ℕ) (r : Report) → r.round ≡ round → r.bidder ≡ bidder → is_named round bidder r ≡ true
 named round bidder r e f = let a : nat_eq r.round round ≡ true = grind (arith, nat_tests) in let b : nat_eq r.bidder bidder ≡ true = grind (arith, nat_tests) in λ i. a i && b i
 
--- behind reports without one, the first is found
+-- after reports without one, the first is found
 found-behind : (round bidder : ℕ) (xs ys : List Report) (r : Report) → demand_in xs round bidder ≡ None → is_named round bidder r ≡ true → demand_in (xs ++ r ∷ ys) round bidder ≡ Some r.demand
 found-behind round bidder [] ys r none is = ap (λ b. option_map (λ (x : Report). x.demand) (cond b (Some r) (find (is_named round bidder) ys))) is
 found-behind round bidder (x ∷ xs) ys r none is = by (is_named round bidder x) none (λ rest. found-behind round bidder xs ys r rest is)

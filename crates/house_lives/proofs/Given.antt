@@ -81,7 +81,7 @@ module _ {M : Type 0} where
   were-given auction turns tail place left given ends.LinkFault by = cut-off auction turns tail given by
   were-given auction turns tail place left given ends.NoMemory by = cut-off auction turns tail given by
 
-  -- the turn behind as many others, whose reply is this
+  -- the turn after as many others, whose reply is this
   pub record IsReplyOf (turns : List (Turn M)) (count : ℕ) (s : Sent) : Type 0 where
     pub earlier : List (Turn M)
     pub turn : Turn M

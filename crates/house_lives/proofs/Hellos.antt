@@ -9,7 +9,7 @@ use Rattle.session.specs.Table.{bidder_after, knows}
 use Rattle.session.specs.Turns.{bidder_behind}
 
 module _ (value : Auction) where
-  -- behind a frame that says this
+  -- after a frame that says this
   abbrev said-after : Option ℕ → Sent → Option ℕ
   said-after (Some b) s = Some b
   said-after None s = cond (nat_eq s.kind 1) (cond (knows value (get_or s.payload 0 0) (drop 1 s.payload)) (Some (get_or s.payload 0 0)) None) None

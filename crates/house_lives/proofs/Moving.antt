@@ -1,4 +1,4 @@
--- From the lives before a migration over it to those behind it.
+-- From the lives before a migration over it to those after it.
 use Rattle.std.proofs.Common.{◌≡◌, ◌≤◌, ◌+◌, ◌⊎◌, inl, inr, ℕ, Bool, List, [], ◌∷◌, length, get_or, Option, Some, Ok, arith, refl, sym, ◌∙◌, ap, subst}
 use Rattle.std.specs.List.{AllByRecursion}
 use Rattle.demand_set.specs.declared.reports.Report.{Report}

@@ -56,7 +56,7 @@ module _ (auction : Auction) (k b n : ℕ) (d : List (List ℕ)) (answer : Offer
   asks-turn who before t e (inl keeps) = asks-line who t.frame t.reply before t.now (subst (λ o. KeepsTo PassAllows (line_of auction who t.frame) o t.reply before t.now) e keeps)
   asks-turn who before t e (inr short) = absurd (let f : None ≡ Some (asked.Offer k b n d answer) = sym short.1 ∙ e in (let no : ⊥ = cc in no))
 
-  -- the session's bidder behind the turns before
+  -- the session's bidder after the turns before
   pub bidder-of : (earlier later : List (Turn HousePassOf)) (t : Turn HousePassOf) (who last : Option ℕ) (before after : HousePassOf) → t.asked ≡ Some (asked.Offer k b n d answer)
       → AreTurns PassAllows auction who before (earlier ++ t ∷ later) last after → bidder_behind auction who (frames_of earlier) ≡ Some b
   bidder-of [] later t who last before after e are = asks-turn who before t e are.0

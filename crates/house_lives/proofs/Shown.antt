@@ -41,7 +41,7 @@ use Rattle.house_lives.proofs.RunLives.{CameTo, Served as WasServed, Unserved, c
 use Rattle.house_lives.proofs.Senders.{visited}
 use Rattle.house_lives.proofs.Streams.{IsFront, IsSame, front, same-behind}
 
--- a turn behind others, in the standing of its session then
+-- a turn after others, in the standing of its session then
 record IsTurnHere (value : Auction) (who : Option ℕ) (t : Turn HousePassOf) : Type 0 where
   before : HousePassOf
   is : IsTurn PassAllows value who before t
@@ -105,7 +105,7 @@ abbrev IsTurnBy : Auction → Option ℕ → ToHouse → Option Asked → ToBidd
 IsTurnBy value who frame asked reply before now =
     KeepsTo PassAllows (line_of value who frame) asked reply before now ⊎ (MayBeShort frame × (asked ≡ None) × (reply ≡ refusal 11 0) × (now ≡ before))
 
--- behind these turns a report was offered for the session's bidder
+-- after these turns a report was offered for the session's bidder
 record WasAsked (value : Auction) (earlier : List (Turn HousePassOf)) (turn : Turn HousePassOf) (clock round : ℕ) (raw : RawDemand) : Type 0 where
   bidder : ℕ
   behind : bidder_behind value None (frames_of earlier) ≡ Some bidder

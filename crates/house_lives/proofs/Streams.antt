@@ -27,7 +27,7 @@ module _ (d : Direction) (formed : (kind : ℕ) (payload : List ℕ) → d.is_pa
       behind (inl few) = inl (omega (arith, few))
       behind (inr none) = inr none
 
--- what stands behind as many elements of one list is the same
+-- what stands after as many elements of one list is the same
 pub record IsSame {A : Type 0} (xs ys : List A) (x y : A) : Type 0 where
   pub before : xs ≡ ys
   pub here : x ≡ y

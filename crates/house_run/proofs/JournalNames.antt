@@ -35,7 +35,7 @@ cancelled (b ∷ front) x y e = cancelled front x y (let t : front ++ x ≡ fron
 pub names-differ : (journals : List ℕ) (clock other : ℕ) → clock ≤ 12 → other ≤ 12 → journal_name journals clock ≡ journal_name journals other → clock ≡ other
 names-differ journals clock other few less e = sym (read-back clock few) ∙ ap clock_in (cancelled journals (behind clock) (behind other) e) ∙ read-back other less
 
--- behind the prefix, each name is as long
+-- after the prefix, each name is as long
 as-long : (clock : ℕ) → clock ≤ 12 → length (behind clock) ≡ 13
 unfolding digits
 as-long zero few = refl

@@ -61,7 +61,7 @@ no-values (x ∷ xs) = refl
 values-head : (bidder size : List ℕ) → codes "rational bidder " ++ (bidder ++ (codes " bundles " ++ (size ++ codes "\n"))) ≡ line (codes "rational" ∷ codes "bidder" ∷ bidder ∷ codes "bundles" ∷ size ∷ [])
 values-head bidder size = simp append_assoc
 
--- all values behind the first line
+-- all values after the first line
 pub values-all : (bidder found size : ℕ) (xs : List (List ℕ)) (us : List ℤ) (i : ℕ) (start text : List ℕ) → found ≡ size → length us ≤ i → start ≡ codes "rational bidder " ++ (decimal bidder ++ (codes " bundles " ++ (decimal found ++ codes "\n")))
     → text ++ text_of (value_lines (drop i xs) (drop i us)) ≡ start ++ text_of (value_lines xs us) → text ≡ text_of ((codes "rational" ∷ codes "bidder" ∷ decimal bidder ∷ codes "bundles" ∷ decimal size ∷ []) ∷ value_lines xs us)
 values-all bidder found size xs us i start text same end is are =
@@ -102,7 +102,7 @@ all-taken [] (suc i) e = refl
 all-taken (x ∷ xs) zero e = absurd (omega arith)
 all-taken (x ∷ xs) (suc i) e = ap (λ ys. x ∷ ys) (all-taken xs i (omega arith))
 
--- all links behind the first line
+-- all links after the first line
 pub links-all : (bidder count : ℕ) (places : List Place) (links : List Link) (i : ℕ) (start text : List ℕ) → length links ≤ i → start ≡ codes "irrational bidder " ++ (decimal bidder ++ (codes " links " ++ (decimal count ++ codes "\n")))
     → text ≡ start ++ text_of (link_lines places (take i links)) → text ≡ text_of ((codes "irrational" ∷ codes "bidder" ∷ decimal bidder ∷ codes "links" ∷ decimal count ∷ []) ∷ link_lines places links)
 links-all bidder count places links i start text end is are =

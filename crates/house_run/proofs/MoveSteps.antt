@@ -355,7 +355,7 @@ clocks-as shelf old journals new cs terms digest move = record {
   );
 }
 
--- the targets, behind what was read
+-- the targets, after what was read
 
 -- what is said of the moments of targets, which were not touched at first
 target-then : (journals target : List ℕ) (n : ℕ) (Q : ℕ → ClockHistory → Moments → Moments → Type 0) (a b c : Option (List NamedFile)) → journals ≢ target → n ≤ MOST_BIDDERS → KeepsAll (IsJournal journals) a b

@@ -8,7 +8,7 @@ use Rattle.outcome_text.proofs.Lining.{line-spaced, spaced-append}
 parts : (first front xs ys rest l : List ℕ) → ((((first ++ (front ++ codes " x")) ++ xs) ++ codes " y") ++ ys) ++ (rest ++ l) ≡ (first ++ (front ++ (codes " x" ++ (xs ++ (codes " y" ++ (ys ++ rest)))))) ++ l
 parts first front xs ys rest l = simp append_assoc
 
--- words up to the first bundle, the two bundles, each behind its name, and the words behind them
+-- words up to the first bundle, the two bundles, each after its name, and the words after them
 pub two-bundles : (first : List ℕ) (words : List (List ℕ)) (x y : List ℕ) (others : List (List ℕ)) (a b c d new : List ℕ) → a ≡ first ++ (spaced words ++ codes " x") → b ≡ a ++ spaced (numerals x) → c ≡ b ++ codes " y" → d ≡ c ++ spaced (numerals y)
     → new ≡ d ++ (spaced others ++ codes "\n") → new ≡ line (first ∷ words ++ (codes "x" ∷ numerals x ++ (codes "y" ∷ numerals y ++ others)))
 two-bundles first words x y others a b c d new is-a is-b is-c is-d is-new =

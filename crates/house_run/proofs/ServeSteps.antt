@@ -173,7 +173,7 @@ journal-moments shown journals Q old disks a (Some b) (Some c) R none stand left
 pub below-all : (journals : List ℕ) (n m : ℕ) (name : List ℕ) → n ≤ m → IsJournalBelow journals n name → IsJournalBelow journals m name
 below-all journals n m name more b = (b.0, (let l = b.1 in omega arith), b.2)
 
--- nothing was done, for want of memory
+-- nothing was done: out of memory
 pub none-served : (value : Auction) (journals : List ℕ) (s : Serving) (files : Option (List NamedFile)) (counts : List ℕ → ℕ) (names : List (List ℕ)) (told : Option NetView) (counted : ℕ)
     → JournalsNotServed value journals s (between files files counts counts names names) (record { told_before = told; told = told; faults_before = counted; faults = counted }) how.NoMemory
 none-served value journals s files counts names told counted = record {

@@ -55,7 +55,7 @@ moments-stay : (a : Option (List NamedFile)) → KeepsMoments a a
 moments-stay None = tt
 moments-stay (Some a) = λ name. refl
 
--- nothing was done, for want of memory
+-- nothing was done: out of memory
 pub none-moved : (value : Auction) (cs : List ClockHistory) (target : List ℕ) (files : Option (List NamedFile)) (counts : List ℕ → ℕ) (names : List (List ℕ))
     → JournalsNotMoved value cs target (between files files counts counts names names) how.NoMemory
 none-moved value cs target files counts names = record {

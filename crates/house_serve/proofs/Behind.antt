@@ -1,4 +1,4 @@
--- Frames behind frames of one session.
+-- Frames after frames of one session.
 use Rattle.std.proofs.Common.{◌≡◌, ℕ, Bool, true, false, List, [], ◌∷◌, ◌++◌, Option, Some, None, refl, sym, ◌∙◌, ap, append_assoc}
 use Rattle.auction_file.specs.declared.listing.Auction.{Auction}
 use Rattle.report_wire.specs.declared.messages.ToHouse.{ToHouse}

@@ -132,7 +132,7 @@ plain_behind closed place (entry.Offered r ∷ added) plain = (tt, plain_behind 
 plain_behind closed place (entry.Counted r ∷ added) plain = absurd plain.0
 plain_behind closed place (entry.Mark r ∷ added) plain = (tt, plain_behind closed (place + 1) added plain.1)
 
--- an offer counts a report only where it is in doubt, and what it appends behind that is not counted
+-- an offer counts a report only where it is in doubt, and what it appends after that is not counted
 counted_behind : (closed history counted added : List Entry) → IsCounted history counted → AllByRecursion IsPlain added → StartsWith closed history → AreBehind closed (placed (length history) (counted ++ added))
 counted_behind closed history [] added is plain goes = plain_behind closed (length history) added plain
 counted_behind closed history (entry.Counted q ∷ []) added is plain goes =
@@ -142,7 +142,7 @@ counted_behind closed history (entry.Counted q ∷ e ∷ es) added is plain goes
 counted_behind closed history (entry.Offered q ∷ es) added is plain goes = absurd is
 counted_behind closed history (entry.Mark q ∷ es) added is plain goes = absurd is
 
--- the entries that an offer appends, behind the one that it may count
+-- the entries that an offer appends, after the one that it may count
 appended : (place : ℕ) (counted added : List Entry) → (counted ≡ []) ⊎ ((q : Report) × (counted ≡ entry.Counted q ∷ []))
     → (marks_own (placed place (counted ++ added)) ≡ marks_own (placed (place + length counted) added))
     × (offers_own (placed place (counted ++ added)) ≡ offers_own (placed (place + length counted) added))
@@ -179,7 +179,7 @@ HeldBy closed r (said.Full needed) = Unit {0}
 HeldBy closed r said.DiskFault = Unit {0}
 HeldBy closed r said.NoMemory = Unit {0}
 
--- what a pass has seen and made in an offer that appended these entries behind the one that may have been counted
+-- what a pass has seen and made in an offer that appended these entries after the one that may have been counted
 record Grown (added : List Entry) (old new : Known Entry Origin) : Type 0 where
   pub place : ℕ
   pub entries : List (ℕ × Entry)
@@ -226,7 +226,7 @@ record Offers (closed : List Entry) (r : Report) (answer : Offered) (old new : K
   pub behind : StartsWith closed new.seen → AreBehind closed entries
 
 module _ (closed : List Entry) (r : Report) where
-  -- an offer that appended nothing behind what may have been counted
+  -- an offer that appended nothing after what may have been counted
   nothing : (answer : Offered) (old new : Known Entry Origin) → Grown [] old new → mark_by (length new.seen - 1) r answer ≡ [] → taken_by (length new.seen - 1) r answer ≡ [] → (StartsWith closed new.seen → HeldBy closed r answer) → Offers closed r answer old new
   nothing answer old new g no_mark no_offer held = record { entries = g.entries; starts = g.starts; own = g.own; marks = g.marks ∙ sym no_mark; offers = g.offers ∙ sym no_offer; held = held; behind = g.behind closed }
 

@@ -45,7 +45,7 @@ ends_by auction w fs tail place left bytes given ends.Spent h k = absurd h
 ends_by auction w fs tail place left bytes given ends.LinkFault h k = (h, (k.0, inl k.1))
 ends_by auction w fs tail place left bytes given ends.NoMemory h k = (h, (k.0, inl k.1))
 
--- the reply to a fault behind the replies
+-- the reply to a fault after the replies
 fault_ends : (auction : Auction) (w : Option ℕ) (fs : List ToHouse) (tail : List ℕ) (place : ℕ) (bytes : List ℕ) (f : WireFault) (e : SessionEnd) (x y z : LinkBytes) → goes_on_after auction w fs ≡ true → IsFault to_house f.kind tail → f.place ≡ place
     → Adds bytes x y → IsFaultSent f e y z → (given : List ℕ) × Adds given x z × ((more : List ℕ) × (given ≡ bytes ++ more)) × EndsBy auction w fs tail place z.left bytes given e
 fault_ends auction w fs tail place bytes f (ends.Wire other) x y z go is at a h = (

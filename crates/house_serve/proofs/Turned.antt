@@ -1,4 +1,4 @@
--- Turns behind turns.
+-- Turns after turns.
 use Rattle.std.proofs.Common.{◌≡◌, ℕ, ◌<◌, ◌+◌, ◌-◌, zero, suc, List, [], ◌∷◌, ◌++◌, length, take, drop, get_or, map, Option, Some, None, refl, sym, ◌∙◌, ap, subst, arith, append_assoc, append-nil, take-append-drop}
 use Rattle.std.proofs.lemmas.List.{map-append}
 use Rattle.std.specs.Prelude.{Err}
@@ -23,7 +23,7 @@ pub bytes_on : {M : Type 0} (ts us : List (Turn M)) → bytes_of (ts ++ us) ≡ 
 bytes_on [] us = refl
 bytes_on (t ∷ ts) us = ap (λ (l : List ℕ). spelled (bidder_sent t.reply) ++ l) (bytes_on ts us) ∙ sym (append_assoc (spelled (bidder_sent t.reply)) (bytes_of ts) (bytes_of us))
 
--- turns behind turns whose replies were written
+-- turns after turns whose replies were written
 pub whole_behind : {M : Type 0} (ts us : List (Turn M)) (given : List ℕ) → AreWhole us given → AreWhole (ts ++ us) (bytes_of ts ++ given)
 whole_behind [] us given h = h
 whole_behind (t ∷ []) [] given h = (bytes_of (t ∷ []) ++ given, refl)
@@ -35,14 +35,14 @@ whole_behind (t ∷ u ∷ ts) us given h =
     let more = whole_behind (u ∷ ts) us given h in
     (more.0, append_assoc text (bytes_of (u ∷ ts)) given ∙ ap (λ (l : List ℕ). text ++ l) more.1 ∙ sym (append_assoc text (earlier_bytes (u ∷ ts ++ us)) more.0))
 
--- turns whose replies were written, and more behind them
+-- turns whose replies were written, and more after them
 pub whole_with : {M : Type 0} (ts : List (Turn M)) (given more : List ℕ) → given ≡ bytes_of ts ++ more → AreWhole ts given
 whole_with ts given more e = subst (λ (l : List (Turn _)). AreWhole l given) (append-nil ts) (subst (AreWhole (ts ++ [])) (sym e) (whole_behind ts [] more (more, refl)))
 
 pub frames_on : {M : Type 0} (ts us : List (Turn M)) → frames_of (ts ++ us) ≡ frames_of ts ++ frames_of us
 frames_on {M = M} ts us = map-append (λ (t : Turn M). t.frame) ts us
 
--- the replies of turns behind turns can each be spelled
+-- the replies of turns after turns can each be spelled
 pub replies_on : {M : Type 0} (ts us : List (Turn M)) → AllByRecursion (IsSent to_bidder) (map bidder_sent (replies_of ts)) → AllByRecursion (IsSent to_bidder) (map bidder_sent (replies_of us))
     → AllByRecursion (IsSent to_bidder) (map bidder_sent (replies_of (ts ++ us)))
 replies_on [] us p q = q

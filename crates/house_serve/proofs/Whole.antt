@@ -1,4 +1,4 @@
--- A whole session: pieces behind pieces, and its end.
+-- A whole session: pieces after pieces, and its end.
 use Rattle.std.proofs.Common.{◌≡◌, inl, inr, ⊎_elim, ℕ, ◌+◌, ◌%◌, ◌^◌, ◌<◌, ◌≤◌, true, List, [], ◌++◌, length, map, Option, None, refl, sym, ◌∙◌, ap, subst, arith, append_assoc, append-nil, length-append}
 use Rattle.std.proofs.lemmas.List.{map-append}
 use Rattle.std.specs.List.{flat_map, AllByRecursion}
@@ -21,7 +21,7 @@ use Rattle.house_serve.specs.Serving.{Served, IsSession, Going, Underway, Went, 
 use Rattle.house_serve.proofs.Behind.{behind_on, ends_on, one_on}
 use Rattle.house_serve.proofs.Turned.{bytes_on, frames_on, replies_on, turns_on, later_is, whole_behind, whole_with}
 
--- the bytes of frames behind frames
+-- the bytes of frames after frames
 sent_on : {M : Type 0} (ts us : List (Turn M)) → map house_sent (frames_of (ts ++ us)) ≡ map house_sent (frames_of ts) ++ map house_sent (frames_of us)
 sent_on ts us = ap (λ (l : List ToHouse). map house_sent l) (frames_on ts us) ∙ map-append house_sent (frames_of ts) (frames_of us)
 

@@ -29,7 +29,7 @@ module _ {M L : Type 0} (allows : M → Asked → M → Type 0) (told : L → Op
   AreVisits before [] after = after ≡ before
   AreVisits before (v ∷ vs) after = IsVisit before v × AreVisits v.now vs after
 
-  -- the links that came are the first of those to come, and links without bytes behind these
+  -- the links that came are the first of those to come, and links without bytes after these
   abbrev pub Come : List L → List L → List L → Type 0
   Come [] before after = after ≡ before
   Come (c ∷ cs) [] after = IsEmptyLink (told c) × Come cs [] after

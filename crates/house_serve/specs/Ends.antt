@@ -11,20 +11,20 @@ use Rattle.session.specs.Turns.{goes_on_after}
 use Rattle.house_serve.specs.declared.ends.SessionEnd.{SessionEnd}
 use Rattle.house_serve.specs.declared.ends.SessionEnd.TheVariants as ends
 
--- the end by a frame behind which the session does not go on: a quit, or a first hello that is not welcome
+-- the end by a frame after which the session does not go on: a quit, or a first hello that is not welcome
 abbrev pub end_by : ToHouse → SessionEnd
 end_by (house.Hello claimed token) = ends.BadToken
 end_by (house.Look clock) = ends.Quit
 end_by (house.Report clock round demand) = ends.Quit
 end_by house.Quit = ends.Quit
 
--- The session goes on behind all of the frames but the last, and ends with that one.
+-- The session goes on after all of the frames but the last, and ends with that one.
 abbrev pub EndsWith : Auction → Option ℕ → List ToHouse → SessionEnd → Type 0
 EndsWith auction who [] end = ⊥
 EndsWith auction who (f ∷ []) end = (goes_on auction who f ≡ false) × (end ≡ end_by f)
 EndsWith auction who (f ∷ g ∷ fs) end = (goes_on auction who f ≡ true) × EndsWith auction (bidder_after auction who f) (g ∷ fs) end
 
--- The session goes on behind all of the frames but perhaps the last.
+-- The session goes on after all of the frames but perhaps the last.
 abbrev pub IsOneSession : Auction → Option ℕ → List ToHouse → Type 0
 IsOneSession auction who [] = Unit {0}
 IsOneSession auction who (f ∷ []) = Unit {0}
@@ -41,7 +41,7 @@ IsCut auction who frames tail bytes given =
     × ((more : List ℕ) × ((bytes ≡ given ++ more)
     ⊎ ((kind : WireKind) × (goes_on_after auction who frames ≡ true) × IsFault to_house kind tail × (bytes ++ fault_bytes kind ≡ given ++ more))))
 
--- The frames came, and this tail behind them, at whose place so many bytes had come; these bytes are the replies', these were given,
+-- The frames came, and this tail after them, at whose place so many bytes had come; these bytes are the replies', these were given,
 -- and these are left: how each end comes.
 abbrev pub EndsBy : Auction → Option ℕ → List ToHouse → List ℕ → ℕ → List ℕ → List ℕ → List ℕ → SessionEnd → Type 0
 EndsBy auction who frames tail place left bytes given ends.Quit = EndsWith auction who frames ends.Quit × (given ≡ bytes)

@@ -33,7 +33,7 @@ WritesBy (Some ends.Spent) bytes given = ⊥
 WritesBy (Some ends.LinkFault) bytes given = (more : List ℕ) × (bytes ≡ given ++ more)
 WritesBy (Some ends.NoMemory) bytes given = (more : List ℕ) × (bytes ≡ given ++ more)
 
--- the session went on behind the frames, or ended with the last of them, or was cut off
+-- the session went on after the frames, or ended with the last of them, or was cut off
 abbrev pub GoesBy : Auction → Option ℕ → List ToHouse → Option SessionEnd → Type 0
 GoesBy auction who frames None = goes_on_after auction who frames ≡ true
 GoesBy auction who frames (Some ends.Quit) = EndsWith auction who frames ends.Quit
@@ -50,7 +50,7 @@ earlier_bytes [] = []
 earlier_bytes (t ∷ []) = []
 earlier_bytes (t ∷ u ∷ ts) = spelled (bidder_sent t.reply) ++ earlier_bytes (u ∷ ts)
 
--- Each reply but the last was written whole: behind one that was not, no frame has a turn.
+-- Each reply but the last was written whole: after one that was not, no frame has a turn.
 abbrev pub AreWhole : {M : Type 0} → List (Turn M) → List ℕ → Type 0
 AreWhole turns given = (part : List ℕ) × (given ≡ earlier_bytes turns ++ part)
 
@@ -65,7 +65,7 @@ pub record Answers {M : Type 0} (allows : M → Asked → M → Type 0) (auction
   pub goes : GoesBy auction who (frames_of turns) end
   pub sent : IfTold told told_after (λ b a. (given : List ℕ) × Adds given b a × AreWhole turns given × WritesBy end (bytes_of turns) given)
 
--- what a reader has behind a piece that ended no session
+-- what a reader has after a piece that ended no session
 pub record GoesOn (auction : Auction) (who : Option ℕ) (frames : List ToHouse) (tail : List ℕ) (reader reader_after : ReaderState) : Type 0 where
   pub goes : goes_on_after auction who frames ≡ true
   pub tail_is : tail ≡ reader_after.rest

@@ -17,7 +17,7 @@ use Rattle.house_serve.specs.declared.serving.TheConstants.{CHUNK}
 use Rattle.house_serve.specs.Ends.{EndsBy, TakesBy}
 use Rattle.house_serve.specs.Pieces.{AreWhole, HasEndCause, GoesOn}
 
--- What was taken before the last pull is frames behind which the session went on, and less than a frame. That pull brought one piece at
+-- What was taken before the last pull is frames after which the session went on, and less than a frame. That pull brought one piece at
 -- most.
 pub record IsPulledLast {M : Type 0} (auction : Auction) (turns : List (Turn M)) (taken : List ℕ) : Type 0 where
   pub done : List (Turn M)
@@ -32,11 +32,11 @@ pub record IsPulledLast {M : Type 0} (auction : Auction) (turns : List (Turn M))
 
 -- What was taken begins with the frames that had their turns. What was written is the bytes of their replies, as the end says.
 pub record Served {M : Type 0} (auction : Auction) (turns : List (Turn M)) (end : SessionEnd) (before after : LinkBytes) : Type 0 where
-  -- what was taken, what was given, and what is less than a frame behind the frames
+  -- what was taken, what was given, and what is less than a frame after the frames
   pub taken : List ℕ
   pub given : List ℕ
   pub tail : List ℕ
-  -- a front of what came was taken, and what was given is behind what was written before
+  -- a front of what came was taken, and what was given is after what was written before
   pub left : before.left ≡ taken ++ after.left
   pub written : after.written ≡ before.written ++ given
   -- what was taken is the frames that had their turns, and the rest

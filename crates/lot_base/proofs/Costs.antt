@@ -1,4 +1,4 @@
--- What is behind the end of the prices or of the bundle costs nothing.
+-- What is after the end of the prices or of the bundle costs nothing.
 use Rattle.std.proofs.Common.{◌≡◌, ◌≤◌, ℕ, suc, zero, List, [], ◌∷◌, length, drop, refl, arith, inl, inr}
 use Rattle.std.specs.Prelude.{min, ◌⊎◌}
 use Rattle.lot_base.specs.Goods.{cost}

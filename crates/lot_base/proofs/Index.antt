@@ -52,7 +52,7 @@ index_of-bundle_at (s ∷ supply) place below =
     let rest : index_of supply (bundle_at supply (place % box_size supply)) ≡ place % box_size supply = index_of-bundle_at supply (place % box_size supply) (omega arith) in
     omega (arith, rest)
 
--- the rows of a box: each of n numbers from a on in front of each bundle of the goods behind
+-- the rows of a box: each of n numbers from a on in front of each bundle of the goods after
 abbrev rows : ℕ → ℕ → List (List ℕ) → List (List ℕ)
 rows a n bundles = flat_map (λ q. map (λ xs. q ∷ xs) bundles) (range_with_len a n)
 

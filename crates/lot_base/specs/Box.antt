@@ -13,7 +13,7 @@ abbrev pub IsIn : List ℕ → List (List ℕ) → Type 0
 IsIn x [] = ⊥
 IsIn x (y ∷ ys) = (x ≡ y) ⊎ IsIn x ys
 
--- The place of a bundle, and the bundle at a place: a number whose digit at good k counts the boxes of the goods behind it.
+-- The place of a bundle, and the bundle at a place: a number whose digit at good k counts the boxes of the goods after it.
 abbrev pub index_of : List ℕ → List ℕ → ℕ
 index_of [] bundle = 0
 index_of (s ∷ supply) [] = 0

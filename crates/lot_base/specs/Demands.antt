@@ -34,7 +34,7 @@ pub record IsDemand (supply : List ℕ) (bundles : List (List ℕ)) : Type 0 whe
   pub ascending : IsAscending bundles
   pub in_box : AllByRecursion (λ x. AtMost x supply) bundles
 
--- a table over all sets of so many goods: the number of each set, and 0 behind them
+-- a table over all sets of so many goods: the number of each set, and 0 after them
 pub record IsTable (goods : ℕ) (f : ℕ → ℕ) (table : List ℕ) : Type 0 where
   pub entries : (set : ℕ) → set < 2 ^ goods → slice_index table set ≡ f set
   pub others : (set : ℕ) → 2 ^ goods ≤ set → slice_index table set ≡ 0

@@ -1,4 +1,4 @@
--- A list of one to six numbers in six cells: its numbers, and zeros behind them.
+-- A list of one to six numbers in six cells: its numbers, and zeros after them.
 use Rattle.std.specs.Prelude.{◌≡◌, ◌≤◌, ℕ, ◌-◌, List, ◌++◌, length, take, replicate}
 
 abbrev pub padded : List ℕ → List ℕ

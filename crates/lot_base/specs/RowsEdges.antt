@@ -1,4 +1,4 @@
--- Worked examples at the edges of the definitions: digits behind the last good, a price of 0, no bidders, worthless bundles and
+-- Worked examples at the edges of the definitions: digits after the last good, a price of 0, no bidders, worthless bundles and
 -- bundles that are worth less than nothing.
 use Rattle.std.specs.Prelude.{◌≡◌, ℕ, List, [], ◌∷◌, ℤ, pos, ◌-ℤ◌, refl}
 use Rattle.lot_base.specs.Goods.{quantity_in, raised, lowered, size_of, cost, at, one_less, box_size}
@@ -7,7 +7,7 @@ use Rattle.lot_base.specs.Demands.{least, greatest}
 use Rattle.lot_base.specs.Economy.{indirect_utility, demand, lyapunov}
 use Rattle.lot_base.specs.RowsTables.{one, two, marginals}
 
--- Digits of a set behind the last good mean nothing.
+-- Digits of a set after the last good mean nothing.
 digits_behind :
     (quantity_in (two 1 2) 4 ≡ 0) × (quantity_in (two 1 2) 7 ≡ 3) × (raised (two 5 5) 5 ≡ two 6 5) × (size_of 2 4 ≡ 0) × (size_of 2 7 ≡ 2)
 digits_behind = (refl, refl, refl, refl, refl)

@@ -3,6 +3,7 @@ ghost use Rattle.std.specs.Prelude.{◌≡◌, ◌↔◌, ℕ, ◌<◌, ◌≤�
 ghost use Rattle.std.specs.List.{list_all};
 ghost use Rattle.std.specs.Cmp.Lexicographic.{slice_cmp};
 ghost use Rattle.std.specs.Ordering.{nat_cmp};
+ghost use Rattle.lot_base.specs.declared.limits.TheConstants.{MOST_BUNDLES};
 ghost use Rattle.lot_base.specs.Goods.{quantity_in, cost, is_within, box_size, AtMost, IsSupply};
 ghost use Rattle.lot_base.specs.Padded.{padded};
 ghost use Rattle.lot_base.specs.Box.{index_of, bundle_at};
@@ -102,7 +103,7 @@ impl Bundle {
     /// The place among the bundles of the supply.
     pub(crate) fn index_within(&self, supply: &[u16]) -> u32
         requires within { AtMost self.now supply.now }
-        requires small { box_size supply.now ≤ 2048 }
+        requires small { box_size supply.now ≤ MOST_BUNDLES }
         ensures { result ≡ index_of supply.now self.now }
     {
         place_of(supply, self.as_slice())
@@ -163,7 +164,7 @@ fn cost_of(prices: &[u32], quantities: &[u16]) -> u64
 /// The place of the quantities among the bundles of the supply: a number with a digit per good, good 0 first.
 fn place_of(supply: &[u16], quantities: &[u16]) -> u32
     requires within { AtMost quantities.now supply.now }
-    requires small { box_size supply.now ≤ 2048 }
+    requires small { box_size supply.now ≤ MOST_BUNDLES }
     ensures { result ≡ index_of supply.now quantities.now }
 {
     let mut place = 0u32;
@@ -187,7 +188,7 @@ fn six_digits(supply: &[u16], place: u32) -> [u16; 6]
 /// Replaces the supply of each good by its quantity in the bundle at a place.
 fn take_digits(units: &mut [u16], place: u32)
     requires few { length units.old ≤ 6 }
-    requires small { box_size units.old ≤ 2048 }
+    requires small { box_size units.old ≤ MOST_BUNDLES }
     requires below { place < box_size units.old }
     ensures { units.new ≡ bundle_at units.old place }
 {

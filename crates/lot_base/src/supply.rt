@@ -1,5 +1,6 @@
 //! The goods on sale.
 ghost use Rattle.std.specs.Prelude.{◌≡◌, ◌↔◌, ℕ, ◌+◌, ◌-◌, ◌*◌, ◌^◌, ◌<◌, ◌≤◌, List, length, slice_index, slice_get, Some, IsTrue, ◌==◌, position};
+ghost use Rattle.lot_base.specs.declared.limits.TheConstants.{MOST_BUNDLES};
 ghost use Rattle.lot_base.specs.Goods.{quantity_in, box_size, is_within, AtMost, IsSupply};
 ghost use Rattle.lot_base.specs.Box.{box, index_of, bundle_at};
 ghost use Rattle.lot_base.specs.Strides.{AreStrides};
@@ -174,7 +175,7 @@ pub(crate) fn box_product(supply: &[u16]) -> u128
 /// The number of bundles of the goods after each good.
 fn strides(supply: &[u16]) -> [usize; 6]
     requires few { length supply.now ≤ 6 }
-    requires small { box_size supply.now ≤ 2048 }
+    requires small { box_size supply.now ≤ MOST_BUNDLES }
     ensures { AreStrides supply.now result }
 {
     let mut strides = [0; 6];

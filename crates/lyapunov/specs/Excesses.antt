@@ -1,12 +1,12 @@
 -- Excess demand as a table over the sets of goods: how far the least quantities that the bidders demand of a set are above
 -- the supply of it. The least quantities of one bidder are a table too. Entry E of a table is that of the set with number E,
--- and the entries behind the last set are 0.
+-- and the entries after the last set are 0.
 use Rattle.std.specs.Prelude.{◌≡◌, ◌≤◌, ◌<◌, ℕ, ◌+◌, ◌^◌, List, [], ◌∷◌, length, slice_index, slice_index_or, ℤ, pos, negsuc, ◌+ℤ◌, ◌-ℤ◌, ◌≤ℤ◌}
 use Rattle.lot_base.specs.declared.limits.TheConstants.{MOST_UNITS}
 use Rattle.lot_base.specs.Goods.{quantity_in}
 use Rattle.lot_base.specs.declared.tables.LeastTable.{LeastTable}
 
--- an entry of a table of integers, 0 behind its end
+-- an entry of a table of integers, 0 after its end
 abbrev pub entry : List ℤ → ℕ → ℤ
 entry table set = slice_index_or table set (pos 0)
 

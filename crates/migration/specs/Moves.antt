@@ -19,7 +19,7 @@ use Rattle.migration.specs.declared.faults.MoveFault.{MoveFault}
 use Rattle.migration.specs.declared.faults.MoveFault.TheVariants.{NotOpened, NotFront, Full, DiskFault, NoMemory}
 use Rattle.migration.specs.Moving.{LeavesTarget, IsFront, IsMoved, IsNoFrontAt}
 
--- The front of the reports that fits a journal with its gate, and whose next record would end behind the limit. There is one at most.
+-- The front of the reports that fits a journal with its gate, and whose next record would end after the limit. There is one at most.
 pub record IsFullAt (needed : ℕ) (owner : Owner) (reports : List Report) : Type 0 where
   pub count : ℕ
   pub report : Report

@@ -47,7 +47,7 @@ pub passed : {A : Type 0} (f : Report → A) (bidder : ℕ) (rs : List Report) (
 passed f bidder rs n r at e =
     grown f bidder rs n r at ∙ ap (λ b. map f (filter (is_by bidder) (take n rs)) ++ map f (cond b (r ∷ []) [])) e ∙ append-nil (map f (filter (is_by bidder) (take n rs)))
 
--- one observation more behind the others
+-- one observation more after the others
 pub collected : {A : Type 0} (old all now before after : List A) (x y : A) → now ≡ all ++ x ∷ [] → all ≡ old ++ before → x ≡ y → after ≡ before ++ y ∷ [] → now ≡ old ++ after
 collected old all now before after x y is are same more =
     is ∙ (λ i. are i ++ same i ∷ []) ∙ append_assoc old before (y ∷ []) ∙ ap (λ xs. old ++ xs) (sym more)

@@ -24,7 +24,7 @@ use Rattle.observed_demand.specs.Reported.{is_by}
 abbrev pub front : ClockHistory → ℕ → ClockHistory
 front c n = record c { reports = take n c.reports }
 
--- a report that is taken behind some others
+-- a report that is taken after some others
 
 pub record IsNext (c : ClockHistory) (n : ℕ) (r : Report) : Type 0 where
   pub taken : judgement_of (front c n) r ≡ Take

@@ -20,7 +20,7 @@ TakesAward goods old new result = (bidder : ℕ) (row : AwardRow) (behind : List
 length-push : {A : Type 0} (xs : List A) (x : A) (i : ℕ) → length xs ≡ i → length (xs ++ x ∷ []) ≡ i + 1
 length-push xs x i e = length-append xs (x ∷ []) ∙ omega arith
 
--- the next row, and the numbers behind it
+-- the next row, and the numbers after it
 next-award : (i : ℕ) (rest : List ℤ) (rows : List AwardRow) (behind : List ℤ) (d : AwardRow) → i < length rows → rest ≡ awards_numbers (i + 1) (drop i rows) ++ behind
     → rest ≡ award_numbers (i + 1) (get_or rows i d) ++ (awards_numbers (i + 1 + 1) (drop (i + 1) rows) ++ behind)
 next-award i rest rows behind d inside e =

@@ -13,7 +13,7 @@ use Rattle.settlement.specs.declared.outcome.AwardRow.{AwardRow}
 use Rattle.settlement.specs.declared.outcome.ClockRow.{ClockRow}
 use Rattle.outcome_text.specs.Json.{count, counts, bidder_object, bidder_objects, choice_object, choice_objects, clock_object, clock_objects}
 
--- the items, and others behind them
+-- the items, and others after them
 abbrev pub then : Items → Items → Items
 then no_items others = others
 then (item d ds) others = item d (then ds others)
@@ -82,7 +82,7 @@ choices-none bidders clock step place choices before whole past h =
     ∙ ap (then before) (no-choice (members_from (step + 1) bidders clock) ∙ sym (no-choice (members_from step bidders clock)))
     ∙ ap (λ bs. then before (choice_objects (members_from step bidders clock) bs)) (sym none) ∙ h
 
--- behind the last there is nothing
+-- after the last there is nothing
 then-end : (before whole rest : Items) → rest ≡ no_items → then before rest ≡ whole → before ≡ whole
 then-end before whole rest none h = sym (then-none before) ∙ ap (then before) (sym none) ∙ h
 

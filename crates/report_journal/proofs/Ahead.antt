@@ -1,4 +1,4 @@
--- A record that lies behind a closed gate already: its gate alone is left to open.
+-- A record that lies after a closed gate already: its gate alone is left to open.
 use Rattle.std.proofs.Common.{◌≡◌, ◌⊎◌, inl, inr, ℕ, ◌+◌, ◌<◌, ◌≤◌, List, [], ◌∷◌, ◌++◌, length, get_or, take, drop, Option, Some, None, sym, ◌∙◌, ap, subst, arith, append_assoc, length-append, take-append-drop}
 use Rattle.std.proofs.lemmas.Bool.{cases_eq}
 use Rattle.std.proofs.lemmas.List.{length-take-le, length-drop, drop_at, drop_more, drop-drop}
@@ -12,7 +12,7 @@ use Rattle.report_journal.specs.Journals.{LiesAhead, HasAhead}
 use Rattle.report_journal.proofs.Records.{front-push}
 use Rattle.report_journal.proofs.TwoWrites.{two_parts}
 
--- a record behind its gate, and a closed gate
+-- a record after its gate, and a closed gate
 abbrev pub closed : List ℕ → List ℕ
 closed payload = body payload ++ 0 ∷ []
 
@@ -29,12 +29,12 @@ record-within payload gate file some has =
 pub behind-record : (payload bytes : List ℕ) (has : HasRecord payload bytes) → drop (length payload + 5) bytes ≡ has.0
 behind-record payload bytes has = ap (drop (length payload + 5)) (closed-first payload bytes has) ∙ drop_at (closed payload) has.0 (length payload + 5) (closed-length payload)
 
--- what the buffer says to lie behind the last gate lies there
+-- what the buffer says to lie after the last gate lies there
 pub ahead-there : (ahead : Option ℕ) (bytes payload : List ℕ) (end : ℕ) (file : List ℕ) → LiesAhead ahead bytes end file → HasAhead ahead bytes payload → HasRecord payload (drop (end + 1) file)
 ahead-there None bytes payload end file lies has = absurd has
 ahead-there (Some from) bytes payload end file lies has = (has.0 ++ lies.0, lies.1 ∙ ap (λ (l : List ℕ). l ++ lies.0) has.1 ∙ append_assoc (body payload) (0 ∷ has.0) lies.0)
 
--- behind a record that was put lies what the buffer has behind it
+-- after a record that was put lies what the buffer has after it
 pub lies-behind : (x : Contents) (payload bytes : List ℕ) (end : ℕ) (old file : List ℕ) → Takes x payload end old → HasRecord payload bytes → file ≡ overlaid old end (OPEN ∷ bytes)
     → LiesAhead (Some (length payload + 5)) bytes (end + 5 + length payload) file
 lies-behind x payload bytes end old file takes spelled done =
@@ -49,7 +49,7 @@ lies-behind x payload bytes end old file takes spelled done =
     (rest, ap (drop (end + 5 + length payload + 1)) whole ∙ drop_at first (spelled.0 ++ rest) (end + 5 + length payload + 1) size ∙ ap (λ (l : List ℕ). l ++ rest) (sym (behind-record payload bytes spelled)))
 
 module _ (payload : List ℕ) (gate : ℕ) (file : List ℕ) (there : HasRecord payload (drop (gate + 1) file)) where
-  -- The gate may be opened, and anything be written behind the record, with one sync: what a crash leaves has the record or not.
+  -- The gate may be opened, and anything be written after the record, with one sync: what a crash leaves has the record or not.
   module _ (x : Contents) (takes : Takes x payload gate file) (from k : ℕ) (is : from ≡ gate + 1 + (length payload + 5)) where
     abbrev g : ℕ
     g = takes.stands.gate

@@ -29,7 +29,7 @@ untouched shown says payload fault j kept = (
   },
 )
 
--- who put a record has changed no byte but those of the record and of what is behind it, whether it went well or not
+-- who put a record has changed no byte but those of the record and of what is after it, whether it went well or not
 pub put_leaves : (payload next : List ℕ) (gate laid : ℕ) (x : Contents) (old new : Moments) → Takes x payload gate old.now.read
     → ((y : Contents) → Takes y payload gate old.now.read → AtEach (IsBeforeOrAfter y payload) old new)
     → AtEach (Torn gate (1 + length (put_of gate laid payload next)) old.now.read) old new

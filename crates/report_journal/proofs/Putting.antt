@@ -1,4 +1,4 @@
--- Putting a record in two steps: its bytes, and then its gate with what is behind it.
+-- Putting a record in two steps: its bytes, and then its gate with what is after it.
 use Rattle.std.proofs.Common.{◌≡◌, inl, inr, ℕ, ◌+◌, ◌≤◌, List, [], ◌∷◌, ◌++◌, length, drop, refl, sym, ◌∙◌, ap, arith, append_assoc, length-append}
 use Rattle.std.specs.Prelude.{Result, Ok, Err, IsErr, OnOk}
 use Rattle.house_io.specs.Moments.{Moment, Moments, Torn, overlaid, settled, AtEach}
@@ -19,7 +19,7 @@ pub err_done : {T E : Type 0} (P : Type 0) (r : Result T E) → IsErr r → OnOk
 err_done P (Ok answer) is = absurd (cc is)
 err_done P (Err fault) is = tt
 
--- who asked may fail behind it
+-- who asked may fail after it
 pub has_asked : {T E : Type 0} (says : List ℕ → Type 0) (next : List ℕ) (r : Result T E) → says next → IsAsked says next r
 has_asked says next (Ok answer) said = said
 has_asked says next (Err fault) said = inr said
@@ -39,7 +39,7 @@ module _ (payload : List ℕ) (gate : ℕ) where
       let rest = drop (length (closed payload)) (drop (gate + 1) file) in
       (rest, lies_behind file gate some (closed payload) OPEN ∙ append_assoc (body payload) (0 ∷ []) rest)
 
-  -- a record may still be put while its bytes are written behind the gate
+  -- a record may still be put while its bytes are written after the gate
   pub takes_still : (x : Contents) (file c : List ℕ) → Takes x payload gate file → Torn (gate + 1) (length (closed payload)) file c → Takes x payload gate c
   takes_still x file c takes torn = record { stands = torn_body x payload gate (closed payload) file ([], refl) takes c torn; at = takes.at; fits = takes.fits }
 

@@ -40,7 +40,7 @@ module _ (x : Contents) (payload : List ℕ) (gate : ℕ) (bytes file : List ℕ
     fits = takes.stands.fits;
   }
 
-  -- a write behind the gate leaves it closed
+  -- a write after the gate leaves it closed
   pub torn_body : (c : List ℕ) → Torn (gate + 1) (length bytes) file c → StandsFor x c
   torn_body c torn =
       still (drop (gate + 1) c) c (torn_after closed (gate + 1) length-closed (length bytes) takes.stands.free c (subst (λ (f : List ℕ). Torn (gate + 1) (length bytes) f c) is_closed torn))

@@ -6,7 +6,7 @@ use Rattle.lot_base.specs.declared.limits.TheConstants.{GREATEST_PAYLOAD, GREATE
 use Rattle.report_journal.specs.Format.{body}
 use Rattle.report_journal.specs.Journals.{IsReserved, HasRoom, in_doubt}
 
--- a buffer that was filled has the payload behind its length
+-- a buffer that was filled has the payload after its length
 pub filled : (payload bytes behind : List ℕ) → bytes ≡ body payload ++ 0 ∷ behind → take (length payload) (drop 4 bytes) ≡ payload
 filled payload bytes behind is =
     let grouped : bytes ≡ big_bytes 4 (length payload) ++ payload ++ 0 ∷ behind = is ∙ append_assoc (big_bytes 4 (length payload)) payload (0 ∷ behind) in

@@ -82,7 +82,7 @@ module _ (file : List ℕ) (at : ℕ) (some : at + 1 ≤ length file) (bytes : L
       ap (drop (at + 1)) (first ∙ sym (append_assoc pre (y ∷ []) after))
       ∙ drop_at (pre ++ y ∷ []) after (at + 1) (omega (arith, length-append pre (y ∷ []), pre_is))
 
-  -- a piece, and then all of it again, with the byte before it and more behind it
+  -- a piece, and then all of it again, with the byte before it and more after it
   module _ (more : List ℕ) where
     abbrev all : List ℕ
     all = bytes ++ more

@@ -1,4 +1,4 @@
--- What two writes without a sync between them leave of a settled file: that of one byte, and one behind it.
+-- What two writes without a sync between them leave of a settled file: that of one byte, and one after it.
 use Rattle.std.proofs.Common.{◌≡◌, inl, ℕ, ◌+◌, ◌<◌, ◌≤◌, List, [], ◌∷◌, ◌++◌, length, get_or, take, drop, sym, ◌∙◌, ap, subst, arith, length-append, take-append-drop}
 use Rattle.std.proofs.lemmas.List.{length-take-le, get_or-take, get_or_append_left}
 use Rattle.house_io.specs.Moments.{Moment, Moments, IsImage, IsSettled, Torn, overlaid, written, settled, then, Leaves, AtEach}
@@ -15,7 +15,7 @@ image_twice file mid read image a n b k is = record {
   same = λ i below one two. is.same i below (two, (one, tt));
 }
 
--- a gate, and bytes behind the record that it opens
+-- a gate, and bytes after the record that it opens
 module _ (pre mid free : List ℕ) (gate k : ℕ) (c : List ℕ) (is : length pre ≡ gate) (g : ℕ) where
   abbrev first : List ℕ
   first = pre ++ g ∷ mid
@@ -57,7 +57,7 @@ module _ (a n b k : ℕ) (old : Moments) (is_settled : IsSettled old.now) where
   pub first_each : (mid : Moments) → AtEach (Torn a n old.now.read) old mid → AtEach P old mid
   first_each mid each = at_weaker (Torn a n old.now.read) P old mid (torn_first a n b k old.now.read) each
 
-  -- behind a first write, a second one left this
+  -- after a first write, a second one left this
   pub second_each : (m1 : List ℕ) (mid : Moments) → mid ≡ then old (written a n m1 old.now) → AtEach P old mid → (read : List ℕ) (new : Moments) → P read → new ≡ then mid (written b k read mid.now) → AtEach P old new
   second_each m1 mid mid_is so_far read new has is =
       let twice : Leaves P (written b k read (written a n m1 old.now)) = subst (λ (m : Moment). Leaves P (written b k read (written a n m1 m))) (sym is_settled) (record { read = has; images = λ c image. image_twice old.now.read m1 read c a n b k image }) in

@@ -112,7 +112,7 @@ Appends payload old new (Err (Full needed)) = (old.pending ≡ None) × (needed 
 Appends payload old new (Err DiskFault) = IsReady payload old × KeepsRecords old new × (new.pending ≡ Some payload) × (new.spare ≡ old.spare - 1)
 Appends payload old new (Err NoMemory) = IsReady payload old × (new ≡ old) × (old.spare ≡ 0)
 
--- what an append of this payload writes behind its record, where this one is likely to come next
+-- what an append of this payload writes after its record, where this one is likely to come next
 abbrev pub behind : {D : Type 0} → List ℕ → List ℕ → JournalOf D → List ℕ
 behind payload next j = behind_of j.end j.laid payload next
 
@@ -121,7 +121,7 @@ abbrev pub LaidBy : {D : Type 0} → List ℕ → List ℕ → JournalOf D → J
 LaidBy payload next old new (Ok number) = new.laid ≡ max old.laid (record_end payload old + length (behind payload next old))
 LaidBy payload next old new (Err fault) = new.laid ≡ old.laid
 
--- where the disk tells: an append that went well has written its bytes, with these behind them, and no others, and every image has the
+-- where the disk tells: an append that went well has written its bytes, with these after them, and no others, and every image has the
 -- record; one that failed has left the contents
 abbrev pub AppendEnds : List ℕ → List ℕ → Contents → Contents → ℕ → Moments → Moments → Result ℕ JournalFault → Type 0
 AppendEnds payload behind old new end before now (Ok number) =
@@ -130,7 +130,7 @@ AppendEnds payload behind old new end before now (Ok number) =
 AppendEnds payload behind old new end before now (Err fault) = new ≡ old
 
 -- at each moment of an append a read and each image stand for the payloads before, or for these and the new one, and no byte but
--- those of the record and of what is written behind it differs from before
+-- those of the record and of what is written after it differs from before
 pub record AppendLeaves (payload behind : List ℕ) (contents : Contents) (end : ℕ) (old new : Moments) : Type 0 where
   pub stand : AtEach (IsBeforeOrAfter contents payload) old new
   pub range : AtEach (Torn end (6 + length payload + length behind) old.now.read) old new

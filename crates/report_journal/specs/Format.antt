@@ -16,10 +16,11 @@ use Rattle.lot_base.specs.declared.limits.TheConstants.{GREATEST_PAYLOAD, GREATE
 use Rattle.report_journal.specs.declared.spellings.TheConstants.{OPEN, SHORTEST_FORMED}
 use Rattle.report_journal.specs.declared.headers.Header.{Header}
 
--- `AHJ1` and `AHJ2`
+-- `AHJ1`, the name of the first version
 abbrev pub first_name : List ℕ
 first_name = 0x41 ∷ 0x48 ∷ 0x4a ∷ 0x31 ∷ []
 
+-- `AHJ2`, the name of the second version
 abbrev pub second_name : List ℕ
 second_name = 0x41 ∷ 0x48 ∷ 0x4a ∷ 0x32 ∷ []
 
@@ -34,10 +35,12 @@ pub record IsHeader (h : Header) : Type 0 where
   pub clock : h.clock < 2 ^ 32
   pub digest : length h.digest ≡ 32
 
+-- the name that a header begins with
 abbrev pub name_of : Option (List ℕ) → List ℕ
 name_of None = first_name
 name_of (Some opening) = second_name
 
+-- nothing, or 02, the number of goods and each opening price
 abbrev pub opening_bytes : Option (List ℕ) → List ℕ
 opening_bytes None = []
 opening_bytes (Some opening) = 2 ∷ length opening ∷ flat_map (big_bytes 4) opening
@@ -50,6 +53,7 @@ header_bytes h = name_of h.opening ++ big_bytes 4 h.clock ++ h.digest ++ opening
 abbrev pub first_gate : Header → ℕ
 first_gate h = 1 + length (header_bytes h)
 
+-- what a journal says: its header and the payload of each record, in their order
 pub record Contents : Type 0 where
   pub header : Header
   pub payloads : List (List ℕ)
@@ -67,6 +71,7 @@ records (payload ∷ payloads) = OPEN ∷ body payload ++ records payloads
 abbrev pub front : Contents → List ℕ
 front x = OPEN ∷ header_bytes x.header ++ records x.payloads
 
+-- a payload that a record may have
 abbrev pub IsPayload : List ℕ → Type 0
 IsPayload payload = length payload ≤ GREATEST_PAYLOAD
 
@@ -88,9 +93,11 @@ pub record StandsFor (x : Contents) (file : List ℕ) : Type 0 where
 abbrev pub clock_in : List ℕ → ℕ
 clock_in file = big_number 4 (take 4 (drop 5 file))
 
+-- the digest, likewise
 abbrev pub digest_in : List ℕ → List ℕ
 digest_in file = take 32 (drop 9 file)
 
+-- no journal is formed yet: the file is too short for one, or its own gate is not open
 abbrev pub IsUnformed : List ℕ → Type 0
 IsUnformed file = (length file < SHORTEST_FORMED) ⊎ (slice_index file 0 ≢ OPEN)
 

@@ -65,11 +65,11 @@ pub record IsKept (x : Contents) (places : List Place) (end : ℕ) (pending : Op
   pub placed : ArePlaced (first_gate x.header) places x.payloads
   pub size : length (front x) ≡ end
 
--- the payload in doubt, of this length in the buffer that holds the record that was put last: behind the four bytes of its length
+-- the payload in doubt, of this length in the buffer that holds the record that was put last: after the four bytes of its length
 abbrev pub in_doubt : List ℕ → Option ℕ → Option (List ℕ)
 in_doubt bytes pending = option_map (λ size. take size (drop 4 bytes)) pending
 
--- Behind the gate that ends the list lies what the buffer has from this offset on, where that is known.
+-- After the gate that ends the list lies what the buffer has from this offset on, where that is known.
 abbrev pub LiesAhead : Option ℕ → List ℕ → ℕ → List ℕ → Type 0
 LiesAhead None bytes end file = Unit {0}
 LiesAhead (Some from) bytes end file = (rest : List ℕ) × (drop (end + 1) file ≡ drop from bytes ++ rest)

@@ -24,7 +24,7 @@ pub record Takes (x : Contents) (payload : List ℕ) (gate : ℕ) (file : List �
   pub at : length (front x) ≡ gate
   pub fits : Fits (with_one_more x payload)
 
--- the bytes begin with the record of this payload, behind its gate, and a closed gate
+-- the bytes begin with the record of this payload, after its gate, and a closed gate
 abbrev pub HasRecord : List ℕ → List ℕ → Type 0
 HasRecord payload bytes = (behind : List ℕ) × (bytes ≡ body payload ++ 0 ∷ behind)
 

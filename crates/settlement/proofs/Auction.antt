@@ -1,4 +1,4 @@
--- The clocks of an auction: the clock of all bidders stands first, and one clock for each bidder behind it.
+-- The clocks of an auction: the clock of all bidders stands first, and one clock for each bidder after it.
 use Rattle.std.proofs.Common.{◌≡◌, ◌<◌, ℕ, zero, suc, ◌+◌, List, [], ◌∷◌, ◌++◌, length, map, drop, get_or, add-one, sym, ◌∙◌, ap, subst, arith}
 use Rattle.std.specs.List.{AllByRecursion, AllZip, range_with_len}
 use Rattle.lot_base.specs.Goods.{cost}
@@ -16,7 +16,7 @@ use Rattle.settlement.proofs.Bounds.{choice-count, choice-small}
 pub count-clocks : (terms : Terms) (clocks : List ClockHistory) → AreClocksOf terms clocks → length clocks ≡ terms.bidders + 1
 count-clocks terms clocks h = sym (length-map clocks (λ (c : ClockHistory). c.number)) ∙ ap length h.numbers ∙ length-range_with_len 0 (terms.bidders + 1)
 
--- the first clock has all bidders as members, and as many clocks stand behind it
+-- the first clock has all bidders as members, and as many clocks stand after it
 pub count-others : (terms : Terms) (clocks : List ClockHistory) (all : ClockHistory) → AreClocksOf terms clocks → all ≡ get_or clocks 0 all → length (members_of all) ≡ length (drop 1 clocks)
 count-others terms [] all h e = let n = count-clocks terms [] h in absurd (omega arith)
 count-others terms (c ∷ clocks) all h e =

@@ -63,7 +63,7 @@ rows-choose (c ∷ clocks) [] all = absurd all
 rows-choose (c ∷ clocks) (row ∷ rows) all =
     ap (λ o. cond (is_none o) (Some c) (find has_no_choice clocks)) all.0.choice_is ∙ rows-choose clocks rows all.1
 
--- behind clocks with a row each, a clock of which no choice clears is the first such one
+-- after clocks with a row each, a clock of which no choice clears is the first such one
 pub first-without : (front behind : List ClockHistory) (c : ClockHistory) (rows : List ClockRow) → AllZip IsClockRow front rows → choice_of c ≡ None → find has_no_choice (front ++ (c ∷ behind)) ≡ Some c
 first-without [] behind c [] all none = ap (λ o. cond (is_none o) (Some c) (find has_no_choice behind)) none
 first-without [] behind c (row ∷ rows) all none = absurd all

@@ -28,7 +28,7 @@ contains-from [] r h = absurd h
 contains-from (x ∷ xs) r (inl e) = (0, omega arith, e)
 contains-from (x ∷ xs) r (inr h) = let t = contains-from xs r h in let b = t.1 in (suc t.0, omega arith, t.2)
 
--- behind reports of other names the report of a name is found
+-- after reports of other names the report of a name is found
 find-behind : (test : Report → Bool) (xs ys : List Report) → find test xs ≡ None → find test (xs ++ ys) ≡ find test ys
 find-behind test [] ys e = refl
 find-behind test (x ∷ xs) ys e = by (test x) refl e (find-behind test xs ys)

@@ -10,7 +10,7 @@ zip-push R [] (v ∷ vs) x y all r = absurd all
 zip-push R (u ∷ us) [] x y all r = absurd all
 zip-push R (u ∷ us) (v ∷ vs) x y all r = (all.0, zip-push R us vs x y all.1 r)
 
--- the element at a place, and the lists in front of it and behind it
+-- the element at a place, and the lists in front of it and after it
 pub take-next : {A : Type 0} (xs : List A) (i : ℕ) (x : A) → i < length xs → x ≡ get_or xs i x → take (i + 1) xs ≡ take i xs ++ x ∷ []
 take-next xs i x below e = let n : i + 1 ≡ suc i = omega arith in ap (λ k. take k xs) n ∙ by xs i below e
   where
@@ -45,7 +45,7 @@ zip-length R [] (v ∷ vs) all = absurd all
 zip-length R (u ∷ us) [] all = absurd all
 zip-length R (u ∷ us) (v ∷ vs) all = ap suc (zip-length R us vs all.1)
 
--- of two lists side by side, what is left behind the first so many of the first
+-- of two lists side by side, what is left after the first so many of the first
 pub zip-first : {A B : Type 0} (R : A → B → Type 0) (xs : List A) (ys rest : List B) (i : ℕ) (x : A) (y : B) → i < length xs → x ≡ get_or xs i x → AllZip R (drop i xs) ys → ys ≡ y ∷ rest → R x y
 zip-first R [] ys rest i x y below e all is = absurd (omega arith)
 zip-first R (z ∷ xs) ys rest zero x y below e all is = subst (λ w. R w y) (sym e) (subst (AllZip R (z ∷ xs)) is all).0

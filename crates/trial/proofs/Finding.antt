@@ -65,7 +65,7 @@ members-up_to last a (suc n) number e = by (not (nat_eq a number)) (members-up_t
     by true rest = (omega arith, rest)
     by false rest = rest
 
--- no report of a round is by a bidder behind those who report
+-- no report of a round is by a bidder after those who report
 pub none-behind : (terms : Terms) (u : ℕ → List ℕ → ℤ) (t : ℕ) (p js : List ℕ) (last round b : ℕ) → AllByRecursion (λ j. j ≤ last) js → last < b → find (is_named round b) (round_reports terms u t p js) ≡ None
 none-behind terms u t p [] last round b all behind = refl
 none-behind terms u t p (j ∷ js) last round b all behind =

@@ -24,7 +24,7 @@ use Rattle.trial.proofs.Telling.{fresh-past}
 use Rattle.trial.proofs.Prices.{leads-early}
 use Rattle.trial.proofs.Leading.{led-on, set_told}
 
--- the reports are of no round behind this one
+-- the reports are of no round after this one
 abbrev IsPast : ℕ → List Report → Type 0
 IsPast n reports = AllByRecursion (λ (r : Report). r.round ≤ n) reports
 

@@ -15,7 +15,7 @@ use Rattle.clock.proofs.Path.{has_steps, compare-or}
 use Rattle.trial.specs.Trials.{round_reports, trial_reports, IsTrialHistory}
 use Rattle.trial.proofs.Finding.{all-both, all-more, find-before}
 
--- the reports are of rounds behind this one
+-- the reports are of rounds after this one
 abbrev IsLater : ℕ → List Report → Type 0
 IsLater n reports = AllByRecursion (λ (r : Report). n < r.round) reports
 

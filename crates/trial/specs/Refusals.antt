@@ -13,7 +13,7 @@ pub record IsFirstWithout (terms : Terms) (u : ℕ → List ℕ → ℤ) (bidder
   pub before : (j : ℕ) → 1 ≤ j → j < bidder → IsStrongSubstitutes terms.goods (u j)
   pub broken : IsFirstBroken terms.goods (u bidder) x y k
 
--- want of memory says nothing of the valuations
+-- out of memory says nothing of the valuations
 abbrev pub IsRefusal : Terms → (ℕ → List ℕ → ℤ) → TrialFault → Type 0
 IsRefusal terms u (NotSubstitutes bidder x y k) = IsFirstWithout terms u bidder x y k
 IsRefusal terms u NoMemory = Unit {0}

@@ -374,7 +374,7 @@ kept-next h r begin s t start number w now =
       present = subst Q (sym (drop-whole reports)) tt;
     }
 
--- what the type keeps with a report more: the place stays where the steps do, and else is behind all reports
+-- what the type keeps with a report more: the place stays where the steps do, and else is after all reports
 pub kept-told : (h : TwoWayHistory) (r : Report) (begin : ℕ) (s t : Standing) → IsKept h begin s → judgement_of h r ≡ Take → IsDemand h.terms.goods r.demand
     → (is_full_after (told h r) s.steps ≡ false → t ≡ s) → (is_full_after (told h r) s.steps ≡ true → IsTurned h.terms (demands_after (told h r) s.steps) (members_in h) s t)
     → (next : ℕ) → (t.steps ≡ s.steps → next ≡ begin) → (t.steps ≢ s.steps → next ≡ length (told h r).reports) → IsKept (told h r) next t
@@ -428,7 +428,7 @@ kept-ups h now begin s k same = k.stands.come.ups_are ∙ ap (ups_after h) k.ste
 pub kept-downs : (h now : TwoWayHistory) (begin : ℕ) (s : Standing) → IsKept h begin s → h ≡ now → s.down.steps ≡ downs_after now (steps_of now)
 kept-downs h now begin s k same = k.stands.come.downs_are ∙ ap (downs_after h) k.steps_are ∙ ap (λ g. downs_after g (steps_of g)) same
 
--- the demand of a bidder in the present round stands behind the place at which the round begins
+-- the demand of a bidder in the present round stands after the place at which the round begins
 pub present-demand : (h now : TwoWayHistory) (begin : ℕ) (s : Standing) (reports : List Report) (round j : ℕ) → IsKept h begin s → h ≡ now → reports ≡ drop begin h.reports → round ≡ s.steps + 1
     → demand_in reports round j ≡ demand_in now.reports round j
 present-demand h now begin s reports round j k same e is =

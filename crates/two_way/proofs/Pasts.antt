@@ -72,7 +72,7 @@ named-there demands from round bidder places p all e = found-there demands (λ (
 pub latest-there : (demands : List Kept) (bidder : ℕ) (places : List Place) (p : Place) → AllThere demands places → find (λ (q : Place). nat_eq q.bidder bidder) (reverse places) ≡ Some p → p.number < length demands
 latest-there demands bidder places p all e = found-there demands (λ (q : Place). nat_eq q.bidder bidder) (reverse places) p (there-onto demands places [] all tt) e
 
--- demands behind those that are kept change no report
+-- demands after those that are kept change no report
 kept-front : (old new : List Kept) (n : ℕ) → take (length old) new ≡ old → n < length old → slice_index_or new n nothing_kept ≡ slice_index_or old n nothing_kept
 kept-front old new n front below = sym (get_or-take (length old) new n nothing_kept below) ∙ ap (λ ds. get_or ds n nothing_kept) front
 

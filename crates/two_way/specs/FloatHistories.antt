@@ -62,7 +62,7 @@ pub record IsFloat (terms : Terms) (u : ℕ → List ℕ → ℤ) (start : List 
   -- of bidders for whom the goods are strong substitutes
   pub substitutes : AllStrongSubstitutes terms.goods u (all_bidders terms.bidders)
 
--- why there is no float; want of memory says nothing of the valuations
+-- why there is no float; out of memory says nothing of the valuations
 abbrev pub IsRefusal : Terms → (ℕ → List ℕ → ℤ) → FloatFault → Type 0
 IsRefusal terms u (NotSubstitutes bidder x y good) = IsFirstWithout terms u bidder x y good
 IsRefusal terms u NoMemory = Unit {0}

@@ -1,4 +1,4 @@
--- A digit above the supply leaves no place; each other one is added behind those so far.
+-- A digit above the supply leaves no place; each other one is added after those so far.
 use Rattle.std.proofs.Common.{◌≤◌, ◌+◌, ◌*◌, ◌∙◌, sym, arith, drop, get_or}
 use Rattle.std.proofs.Math.Nat.{mul-le-mul}
 use Rattle.std.proofs.lemmas.List.{drop_all}
