@@ -16,7 +16,7 @@ pub length-pairs : (numbers : List ℕ) → length (flat_map (big_bytes 2) numbe
 length-pairs [] = refl
 length-pairs (n ∷ numbers) = let rest = length-pairs numbers in omega (arith, rest)
 
--- the bytes of numbers, and bytes behind them
+-- the bytes of numbers, and bytes after them
 pub numbers_before : (numbers more : List ℕ) → AllByRecursion (λ n. n < 2 ^ 16) numbers → short_numbers (flat_map (big_bytes 2) numbers ++ more) ≡ numbers ++ short_numbers more
 numbers_before [] more small = refl
 numbers_before (n ∷ numbers) more small = λ i. read_back 2 n small.0 i ∷ numbers_before numbers more small.1 i

@@ -5,7 +5,7 @@ pub mod laws;
 mod reading;
 mod writing;
 
-pub use reading::{number_of, short_number_of, short_numbers_of};
+pub use reading::{are_short_numbers, number_of, short_number_of, short_numbers_of};
 pub use writing::{
     fill_number, fill_short_number, fill_short_numbers, number_bytes, push_number,
     push_short_number, push_short_numbers,

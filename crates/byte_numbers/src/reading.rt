@@ -1,5 +1,5 @@
 //! Bytes, read as numbers.
-ghost use Rattle.std.specs.Prelude.{◌≡◌, length, IfOk};
+ghost use Rattle.std.specs.Prelude.{◌≡◌, ◌↔◌, length, IfOk, IsTrue};
 ghost use Rattle.byteorder.specs.Endian.{big_bytes, big_number};
 ghost use Rattle.byte_numbers.specs.Spelling.{short_numbers};
 
@@ -35,4 +35,21 @@ pub fn short_numbers_of(alloc: Global, bytes: &[u8]) -> Result<Vec<u16>, AllocEr
         rest = others;
     }
     Ok(numbers)
+}
+
+/// Whether pairs of bytes spell these numbers and no more. A last byte alone spells none.
+pub fn are_short_numbers(numbers: &[u16], bytes: &[u8]) -> bool
+    ensures { IsTrue result ↔ (short_numbers bytes.now ≡ numbers.now) }
+{
+    let mut rest = bytes;
+    for number in numbers {
+        let [high, low, others @ ..] = rest else {
+            return false;
+        };
+        if BigEndian::read_u16(&[*high, *low]) != *number {
+            return false;
+        }
+        rest = others;
+    }
+    rest.len() < 2
 }

@@ -1,6 +1,6 @@
 use crate::{
-    fill_number, fill_short_number, fill_short_numbers, number_bytes, number_of, push_number,
-    push_short_number, push_short_numbers, short_number_of, short_numbers_of,
+    are_short_numbers, fill_number, fill_short_number, fill_short_numbers, number_bytes, number_of,
+    push_number, push_short_number, push_short_numbers, short_number_of, short_numbers_of,
 };
 use std::test::Fail;
 
@@ -15,6 +15,9 @@ fn spells_as_the_documents_of_rust_and_byteorder(rt: HostRuntime) -> Result<(), 
         short_numbers_of(rt.alloc(), &pairs)?.as_slice(),
         &[517u16, 768][..]
     );
+    assert_eq!(rt; are_short_numbers(&[517, 768], &pairs), true);
+    assert_eq!(rt; are_short_numbers(&[517, 769], &pairs), false);
+    assert_eq!(rt; are_short_numbers(&[517], &pairs[..3]), true);
     let mut filled = [0u8; 10];
     fill_number(0x1234_5678, &mut filled[..4]);
     fill_short_number(517, &mut filled[4..6]);
