@@ -75,7 +75,7 @@ module _ {B E O : Type 0} (history : B → List E) (origin : B → O) (gauge : O
     pub each : (j : ℕ) (v : View E O) → get_elem? s.views j ≡ some v → Fits serving log shown (origin first) (length (history first)) v
     -- each place beyond the opening is the own place of just one view
     pub places : (k : ℕ) → total (λ (v : View E O). times_at k v.own) s.views ≡ between (length (history first)) (length log) k
-    -- the views that wait stand in line behind the ticket that is served, and the views are of one crew
+    -- the views that wait stand in line after the ticket that is served, and the views are of one crew
     pub queue : IsQueue serving ticket s.views
     pub crew : IsCrew s.views
 
