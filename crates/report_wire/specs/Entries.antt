@@ -6,9 +6,11 @@ use Rattle.lot_base.specs.declared.limits.TheConstants.{MOST_GOODS, GREATEST_PAY
 use Rattle.report_wire.specs.declared.entries.EntryView.{EntryView}
 use Rattle.report_wire.specs.Payloads.{report_payload, is_report_payload}
 
+-- the bytes of an entry
 abbrev pub entry_payload : RawReport → List ℕ
 entry_payload r = report_payload r.bidder r.round r.demand.goods r.demand.quantities
 
+-- whether bytes are an entry
 abbrev pub is_entry : List ℕ → Bool
 is_entry payload = nat_le (length payload) GREATEST_PAYLOAD && is_report_payload payload
 

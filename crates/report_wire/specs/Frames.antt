@@ -20,9 +20,11 @@ pub record Sent : Type 0 where
   pub kind : ℕ
   pub payload : List ℕ
 
+-- the bytes of a frame of this kind and payload
 abbrev pub spelling : ℕ → List ℕ → List ℕ
 spelling kind payload = big_bytes 4 (length payload) ++ kind ∷ payload
 
+-- the bytes of a frame that says this
 abbrev pub spelled : Sent → List ℕ
 spelled s = spelling s.kind s.payload
 
@@ -31,16 +33,19 @@ pub record IsMessage (d : Direction) (kind : ℕ) (payload : List ℕ) : Type 0 
   pub formed : d.is_payload kind payload ≡ true
   pub short : length payload ≤ GREATEST_PAYLOAD
 
+-- a frame may say this
 abbrev pub IsSent : Direction → Sent → Type 0
 IsSent d s = IsMessage d s.kind s.payload
 
--- the length and the kind that bytes begin with, and the payload that follows
+-- the length that bytes begin with
 abbrev pub length_at : List ℕ → ℕ
 length_at bytes = big_number 4 (take 4 bytes)
 
+-- the kind after the length
 abbrev pub kind_at : List ℕ → ℕ
 kind_at bytes = slice_index bytes 4
 
+-- the payload after the kind
 abbrev pub payload_at : List ℕ → List ℕ
 payload_at bytes = take (length_at bytes) (drop 5 bytes)
 
@@ -65,7 +70,7 @@ IsFault d (BadPayload kind n) bytes =
     IsBegun d bytes × (length_at bytes ≡ n) × (kind_at bytes ≡ kind)
     × ((d.allows kind n ≡ false) ⊎ ((5 + n ≤ length bytes) × (d.is_payload kind (payload_at bytes) ≡ false)))
 
--- the bytes of frames, and these bytes behind them
+-- the bytes of frames, and these bytes after them
 abbrev pub stream_of : List Sent → List ℕ → List ℕ
 stream_of frames rest = flat_map spelled frames ++ rest
 

@@ -16,6 +16,7 @@ pub record ReaderState : Type 0 where
 abbrev pub fresh : ReaderState
 fresh = record { place = 0; rest = []; fault = None }
 
+-- what a message says in its frame
 abbrev pub sent_of : {M : Type 0} → (M → ℕ) → (M → List ℕ) → M → Sent
 sent_of kind_of payload_of m = record { kind = kind_of m; payload = payload_of m }
 

@@ -5,9 +5,11 @@
 pub mod entries;
 pub mod frames;
 mod heads;
+pub mod kinds;
 pub mod laws;
 pub mod messages;
 pub mod readers;
+pub mod refusals;
 mod to_bidder;
 mod to_house;
 

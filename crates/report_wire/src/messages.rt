@@ -48,7 +48,7 @@ pub enum ToBidder {
         clock: u8,
         round: u32,
     },
-    /// What was asked is not done; FORMATS has the codes.
+    /// What was asked is not done; `refusals` has the codes.
     Refused {
         code: u8,
         detail: u8,

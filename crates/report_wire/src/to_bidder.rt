@@ -5,10 +5,13 @@ ghost use Rattle.std.specs.List.{flat_map};
 ghost use Rattle.report_wire.specs.Frames.{IsMessage, IsRead, spelling};
 ghost use Rattle.report_wire.specs.Messages.{to_bidder, bidder_kind, bidder_payload};
 ghost use Rattle.report_wire.specs.Payloads.{phase_number, halted_good, is_phase, is_price_payload, is_refused_payload, price_payload};
+ghost use Rattle.report_wire.specs.declared.kinds.TheConstants.{PRICE, REFUSED};
 
 use crate::frames::Frame;
 use crate::heads::push_head;
+use crate::kinds::{AGAIN, BYE, PRICE, REFUSED, TAKEN, WELCOME};
 use crate::messages::ToBidder;
+use crate::refusals::{BAD_DEMAND, BAD_PAYLOAD, EMPTY, NO_HELLO, WRONG_GOODS};
 use byte_numbers::{number_of, push_number};
 use lot_base::{NoMemory, Phase, Prices};
 use std::alloc::{AllocError, Global};
@@ -24,14 +27,14 @@ impl Frame for ToBidder {
     ghost payload_of = { bidder_payload };
 
     fn is_kind(kind: u8) -> bool {
-        kind >= 17 && kind <= 22
+        kind >= WELCOME && kind <= BYE
     }
 
     fn allows(kind: u8, length: u32) -> bool {
-        kind == 17 && length == 2
-            || kind == 18
-            || ((kind == 19 || kind == 20) && length == 5
-                || (kind == 21 && length == 6 || kind == 22 && length == 0))
+        kind == WELCOME && length == 2
+            || kind == PRICE
+            || ((kind == TAKEN || kind == AGAIN) && length == 5
+                || (kind == REFUSED && length == 6 || kind == BYE && length == 0))
     }
 
     fn read(_alloc: Global, kind: u8, payload: &[u8]) -> Result<Option<ToBidder>, NoMemory> {
@@ -56,26 +59,26 @@ fn message_of(kind: u8, payload: &[u8]) -> Option<ToBidder>
     ensures { IsRead to_bidder bidder_kind bidder_payload kind payload.now result }
 {
     match kind {
-        17 => {
+        WELCOME => {
             Some(ToBidder::Welcome {
                 goods: payload[0],
                 clocks: payload[1],
             })
         }
-        18 => price_of(payload),
-        19 => {
+        PRICE => price_of(payload),
+        TAKEN => {
             Some(ToBidder::Taken {
                 clock: payload[0],
                 round: number_of(&payload[1..5]),
             })
         }
-        20 => {
+        AGAIN => {
             Some(ToBidder::Again {
                 clock: payload[0],
                 round: number_of(&payload[1..5]),
             })
         }
-        21 => refused_of(payload),
+        REFUSED => refused_of(payload),
         _ => Some(ToBidder::Bye),
     }
 }
@@ -83,14 +86,14 @@ fn message_of(kind: u8, payload: &[u8]) -> Option<ToBidder>
 /// The refusal of a payload, if its code and detail are in range.
 fn refused_of(payload: &[u8]) -> Option<ToBidder>
     requires { length payload.now ≡ 6 }
-    ensures { IsRead to_bidder bidder_kind bidder_payload 21 payload.now result }
+    ensures { IsRead to_bidder bidder_kind bidder_payload REFUSED payload.now result }
 {
     let code = payload[0];
     let detail = payload[1];
-    if code < 1
-        || code > 16
-        || if code == 5 {
-            detail < 1 || detail > 4
+    if code < NO_HELLO
+        || code > BAD_PAYLOAD
+        || if code == BAD_DEMAND {
+            detail < EMPTY || detail > WRONG_GOODS
         } else {
             detail != 0
         }
@@ -137,7 +140,7 @@ fn phase_of(phase: u8, good: u8, goods: u8) -> Phase
 
 /// The prices of a payload, if it is a price's.
 fn price_of(payload: &[u8]) -> Option<ToBidder>
-    ensures { IsRead to_bidder bidder_kind bidder_payload 18 payload.now result }
+    ensures { IsRead to_bidder bidder_kind bidder_payload PRICE payload.now result }
 {
     if !is_price(payload) {
         return None;
@@ -181,7 +184,7 @@ fn push_to_bidder(bytes: &mut Vec<u8>, message: &ToBidder) -> Result<(), AllocEr
 {
     match message {
         ToBidder::Welcome { goods, clocks } => {
-            push_head(bytes, 2, 17)?;
+            push_head(bytes, 2, WELCOME)?;
             bytes.push(*goods)?;
             bytes.push(*clocks)?;
             Ok(())
@@ -192,16 +195,16 @@ fn push_to_bidder(bytes: &mut Vec<u8>, message: &ToBidder) -> Result<(), AllocEr
             phase,
             prices,
         } => {
-            push_head(bytes, 8 + 4 * prices.count() as u32, 18)?;
+            push_head(bytes, 8 + 4 * prices.count() as u32, PRICE)?;
             push_price(bytes, *clock, *round, phase, prices)
         }
         ToBidder::Taken { clock, round } => {
-            push_head(bytes, 5, 19)?;
+            push_head(bytes, 5, TAKEN)?;
             bytes.push(*clock)?;
             push_number(bytes, *round)
         }
         ToBidder::Again { clock, round } => {
-            push_head(bytes, 5, 20)?;
+            push_head(bytes, 5, AGAIN)?;
             bytes.push(*clock)?;
             push_number(bytes, *round)
         }
@@ -210,12 +213,12 @@ fn push_to_bidder(bytes: &mut Vec<u8>, message: &ToBidder) -> Result<(), AllocEr
             detail,
             value,
         } => {
-            push_head(bytes, 6, 21)?;
+            push_head(bytes, 6, REFUSED)?;
             bytes.push(*code)?;
             bytes.push(*detail)?;
             push_number(bytes, *value)
         }
-        ToBidder::Bye => push_head(bytes, 0, 22),
+        ToBidder::Bye => push_head(bytes, 0, BYE),
     }
 }
 

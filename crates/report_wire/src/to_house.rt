@@ -3,10 +3,12 @@ ghost use Rattle.std.specs.Prelude.{◌≡◌, ◌++◌, length, true, IfOk, OnO
 ghost use Rattle.report_wire.specs.Frames.{IsMessage, IsRead, spelling};
 ghost use Rattle.report_wire.specs.Messages.{to_house, house_kind, house_payload};
 ghost use Rattle.report_wire.specs.Payloads.{report_payload};
+ghost use Rattle.report_wire.specs.declared.kinds.TheConstants.{REPORT};
 
 use crate::entries::{push_report, read_report};
 use crate::frames::Frame;
 use crate::heads::push_head;
+use crate::kinds::{HELLO, LOOK, QUIT, REPORT};
 use crate::messages::ToHouse;
 use lot_base::{NoMemory, RawDemand, RawReport, Sequence};
 use std::alloc::{AllocError, Global};
@@ -22,18 +24,18 @@ impl Frame for ToHouse {
     ghost payload_of = { house_payload };
 
     fn is_kind(kind: u8) -> bool {
-        kind >= 1 && kind <= 4
+        kind >= HELLO && kind <= QUIT
     }
 
     fn allows(kind: u8, length: u32) -> bool {
-        kind == 1 && (length >= 2 && length <= 65)
-            || kind == 2 && length == 1
-            || (kind == 3 || kind == 4 && length == 0)
+        kind == HELLO && (length >= 2 && length <= 65)
+            || kind == LOOK && length == 1
+            || (kind == REPORT || kind == QUIT && length == 0)
     }
 
     fn read(alloc: Global, kind: u8, payload: &[u8]) -> Result<Option<ToHouse>, NoMemory> {
         match kind {
-            1 => {
+            HELLO => {
                 let Ok(token) = payload[1..].to_vec(alloc) else {
                     return Err(NoMemory);
                 };
@@ -42,8 +44,8 @@ impl Frame for ToHouse {
                     token: Sequence::from_vec(token),
                 }))
             }
-            2 => Ok(Some(ToHouse::Look { clock: payload[0] })),
-            3 => report_of(alloc, payload),
+            LOOK => Ok(Some(ToHouse::Look { clock: payload[0] })),
+            REPORT => report_of(alloc, payload),
             _ => Ok(Some(ToHouse::Quit)),
         }
     }
@@ -61,7 +63,7 @@ impl Frame for ToHouse {
 
 /// The report of a payload, if it is one.
 fn report_of(alloc: Global, payload: &[u8]) -> Result<Option<ToHouse>, NoMemory>
-    ensures { IfOk result (λ found. IsRead to_house house_kind house_payload 3 payload.now found) }
+    ensures { IfOk result (λ found. IsRead to_house house_kind house_payload REPORT payload.now found) }
 {
     let Some(report) = read_report(alloc, payload)? else {
         return Ok(None);
@@ -86,12 +88,12 @@ fn push_to_house(bytes: &mut Vec<u8>, message: &ToHouse) -> Result<(), AllocErro
     match message {
         ToHouse::Hello { bidder, token } => {
             let token = token.as_slice();
-            push_head(bytes, 1 + token.len() as u32, 1)?;
+            push_head(bytes, 1 + token.len() as u32, HELLO)?;
             bytes.push(*bidder)?;
             bytes.extend_from_slice(token)
         }
         ToHouse::Look { clock } => {
-            push_head(bytes, 1, 2)?;
+            push_head(bytes, 1, LOOK)?;
             bytes.push(*clock)?;
             Ok(())
         }
@@ -103,7 +105,7 @@ fn push_to_house(bytes: &mut Vec<u8>, message: &ToHouse) -> Result<(), AllocErro
             push_report_frame(bytes, *clock, *round, demand)?;
             Ok(())
         }
-        ToHouse::Quit => push_head(bytes, 0, 4),
+        ToHouse::Quit => push_head(bytes, 0, QUIT),
     }
 }
 
@@ -114,12 +116,12 @@ fn push_report_frame(
     round: u32,
     demand: &RawDemand,
 ) -> Result<(), AllocError>
-    requires { IsMessage to_house 3 (report_payload clock round demand.now.goods demand.now.quantities) }
-    ensures { OnOk result (bytes.new.items ≡ bytes.old.items ++ spelling 3
+    requires { IsMessage to_house REPORT (report_payload clock round demand.now.goods demand.now.quantities) }
+    ensures { OnOk result (bytes.new.items ≡ bytes.old.items ++ spelling REPORT
         (report_payload clock round demand.now.goods demand.now.quantities)) }
 {
     let length = 8 + 2 * demand.quantities.as_slice().len();
-    push_head(bytes, length as u32, 3)?;
+    push_head(bytes, length as u32, REPORT)?;
     push_report(bytes, clock, round, demand)?;
     Ok(())
 }

@@ -1,6 +1,7 @@
 use Rattle.std.proofs.Common.{arith, ◌≡◌, ◌∙◌, ap, ℕ, ◌+◌, ◌*◌, List, [], ◌∷◌, ◌++◌, length, append_assoc}
 use Rattle.byte_numbers.specs.Spelling.{big_bytes}
 use Rattle.report_wire.specs.Payloads.{report_payload}
+use Rattle.report_wire.specs.declared.kinds.TheConstants.{REPORT}
 use Rattle.byte_numbers.proofs.Pairs.{length-pairs}
 use Rattle.report_wire.proofs.to_house.push_report_frame.Goals as goal
 
@@ -17,5 +18,5 @@ returns c =
     let e = ap length c.as_slice.ensures in
     let size : 8 + 2 * length c.as_slice.result.now ≡ length payload = omega (arith, n, e) in
     c.in_ok-push_report.ensures ∙ ap (λ (l : List ℕ). l ++ payload) c.in_ok-push_head.ensures
-    ∙ append_assoc c.args.bytes.now.items (big_bytes 4 (8 + 2 * length c.as_slice.result.now) ++ 3 ∷ []) payload
-    ∙ ap (λ (k : ℕ). c.args.bytes.now.items ++ (big_bytes 4 k ++ 3 ∷ payload)) size
+    ∙ append_assoc c.args.bytes.now.items (big_bytes 4 (8 + 2 * length c.as_slice.result.now) ++ REPORT ∷ []) payload
+    ∙ ap (λ (k : ℕ). c.args.bytes.now.items ++ (big_bytes 4 k ++ REPORT ∷ payload)) size
