@@ -4,6 +4,7 @@ use Rattle.std.specs.Prelude.{Result, Ok, Err, nat_lt, ◌==◌}
 use Rattle.demand_set.specs.Reading.{demand_of, bundles_of}
 use Rattle.demand_set.specs.declared.reading.DemandFault.{DemandFault}
 use Rattle.auction_file.specs.declared.listing.Auction.{Auction}
+use Rattle.report_wire.specs.declared.refusals.TheConstants.{UNKNOWN_CLOCK, NOT_MEMBER}
 use Rattle.report_wire.specs.declared.messages.ToHouse.{ToHouse}
 use Rattle.report_wire.specs.declared.messages.ToHouse.TheVariants as house
 use Rattle.report_wire.specs.declared.messages.ToBidder.{ToBidder}
@@ -29,7 +30,7 @@ cond_on false x y p q = q
 
 at_clock_on : (bidders who clock : ℕ) (line : Line) → on_of line ≡ true → on_of (at_clock bidders who clock line) ≡ true
 at_clock_on bidders who clock line p =
-    cond_on (nat_lt bidders clock) (Says (refusal 3 clock) true) (cond (clock == who) (Says (refusal 4 clock) true) line) refl (cond_on (clock == who) (Says (refusal 4 clock) true) line refl p)
+    cond_on (nat_lt bidders clock) (Says (refusal UNKNOWN_CLOCK clock) true) (cond (clock == who) (Says (refusal NOT_MEMBER clock) true) line) refl (cond_on (clock == who) (Says (refusal NOT_MEMBER clock) true) line refl p)
 
 report_on : (who clock round : ℕ) (read : Result (List (List ℕ)) DemandFault) → on_of (report_line who clock round read) ≡ true
 report_on who clock round (Ok demand) = refl

@@ -13,13 +13,14 @@ use Rattle.report_wire.specs.Messages.{to_house, house_kind, house_payload, to_b
 use Rattle.session.specs.Asking.{IsGoodOf}
 use Rattle.lot_base.specs.declared.phases.Phase.{Phase}
 use Rattle.lot_base.specs.declared.phases.Phase.TheVariants.{Running, Ended, Halted}
+use Rattle.report_wire.specs.declared.kinds.TheConstants.{REPORT, PRICE}
 use Rattle.report_wire.specs.declared.messages.ToHouse.{ToHouse}
 use Rattle.report_wire.specs.declared.messages.ToHouse.TheVariants as house
 use Rattle.report_wire.proofs.Spelling.{length-pairs}
 
 pub whole_of : (m : ToHouse) (clock round : ℕ) (d : RawDemand) → m ≡ house.Report clock round d → IsMessage to_house (house_kind m) (house_payload m) → AreWhole d.goods d.quantities
 whole_of m clock round d is message =
-    let here : IsMessage to_house 3 (report_payload clock round d.goods d.quantities) = subst (λ (n : ToHouse). IsMessage to_house (house_kind n) (house_payload n)) is message in
+    let here : IsMessage to_house REPORT (report_payload clock round d.goods d.quantities) = subst (λ (n : ToHouse). IsMessage to_house (house_kind n) (house_payload n)) is message in
     let payload = report_payload clock round d.goods d.quantities in
     let formed : is_report_payload payload ≡ true = here.formed in
     let t = and_parts (nat_le 8 (length payload) && is_between 1 6 (goods_in payload)) _ formed in
@@ -42,7 +43,7 @@ phase_formed Running goods is = refl
 phase_formed Ended goods is = refl
 phase_formed (Halted good) goods is = let h : nat_lt good goods ≡ true = grind (arith, nat_tests) in h
 
-pub price_formed : (clock round : ℕ) (phase : Phase) (prices : List ℕ) (goods : ℕ) → length prices ≡ goods → 1 ≤ goods → goods ≤ 6 → IsGoodOf goods phase → IsMessage to_bidder 18 (price_payload clock round phase prices)
+pub price_formed : (clock round : ℕ) (phase : Phase) (prices : List ℕ) (goods : ℕ) → length prices ≡ goods → 1 ≤ goods → goods ≤ 6 → IsGoodOf goods phase → IsMessage to_bidder PRICE (price_payload clock round phase prices)
 price_formed clock round phase prices goods is low high good =
     let payload = price_payload clock round phase prices in
     let n = length_prices prices in

@@ -1,7 +1,5 @@
 -- The table of a session: what a frame is answered, or what it asks of the hall. A session has no bidder at first.
--- Refusals are numbered: 1 no bidder yet, 2 no such token, 3 no such clock, 4 no member, 5 a demand that is refused (with the
--- fault's number), 6 early, 7 conflict, 8 over, 9 the journal is full, 10 the disk failed, 11 want of memory, 12 round 0, 13 a second
--- hello, and of a fault of the stream 14 to 16.
+-- The codes of refusals, and the details of a refused demand, are report_wire's `refusals`.
 use Rattle.std.specs.Prelude.{ℕ, ◌+◌, ◌-◌, ◌==◌, nat_lt, nat_le, Bool, true, false, ◌&&◌, List, [], length, Option, Some, None, Result, Ok, Err, if◌then◌else◌, slice_index_or}
 use Rattle.std.specs.Str.{bytes_eq}
 use Rattle.sha2.specs.Sha256.{sha256}
@@ -17,6 +15,7 @@ use Rattle.report_wire.specs.declared.messages.ToHouse.{ToHouse}
 use Rattle.report_wire.specs.declared.messages.ToHouse.TheVariants as house
 use Rattle.report_wire.specs.declared.messages.ToBidder.{ToBidder}
 use Rattle.report_wire.specs.declared.messages.ToBidder.TheVariants as bidder
+use Rattle.report_wire.specs.declared.refusals.TheConstants.{NO_HELLO, BAD_TOKEN, UNKNOWN_CLOCK, NOT_MEMBER, BAD_DEMAND, EARLY, CONFLICT, OVER, FULL, DISK_FAULT, NO_MEMORY, NO_ROUND, SECOND_HELLO, TOO_LONG, UNKNOWN_KIND, BAD_PAYLOAD, EMPTY, NOT_ASCENDING, OUTSIDE_SUPPLY, WRONG_GOODS}
 use Rattle.report_wire.specs.declared.frames.WireKind.{WireKind}
 use Rattle.report_wire.specs.declared.frames.WireKind.TheVariants.{TooLong, UnknownKind, BadPayload}
 use Rattle.session.specs.declared.halls.Asked.{Asked}
@@ -34,17 +33,17 @@ knows auction who token = (nat_le 1 who && nat_le who auction.terms.bidders) && 
 
 -- the refusal of a demand
 abbrev pub demand_refusal : DemandFault → ToBidder
-demand_refusal fault.Empty = bidder.Refused 5 1 0
-demand_refusal (fault.NotAscending place) = bidder.Refused 5 2 place
-demand_refusal (fault.OutsideSupply place) = bidder.Refused 5 3 place
-demand_refusal (fault.WrongGoods goods) = bidder.Refused 5 4 goods
-demand_refusal fault.NoMemory = refusal 11 0
+demand_refusal fault.Empty = bidder.Refused BAD_DEMAND EMPTY 0
+demand_refusal (fault.NotAscending place) = bidder.Refused BAD_DEMAND NOT_ASCENDING place
+demand_refusal (fault.OutsideSupply place) = bidder.Refused BAD_DEMAND OUTSIDE_SUPPLY place
+demand_refusal (fault.WrongGoods goods) = bidder.Refused BAD_DEMAND WRONG_GOODS goods
+demand_refusal fault.NoMemory = refusal NO_MEMORY 0
 
 -- a bidder asks at a clock of which it is a member
 abbrev pub at_clock : ℕ → ℕ → ℕ → Line → Line
 at_clock bidders who clock line =
-    if nat_lt bidders clock then Says (refusal 3 clock) true
-    else if clock == who then Says (refusal 4 clock) true
+    if nat_lt bidders clock then Says (refusal UNKNOWN_CLOCK clock) true
+    else if clock == who then Says (refusal NOT_MEMBER clock) true
     else line
 
 abbrev pub report_line : ℕ → ℕ → ℕ → Result (List (List ℕ)) DemandFault → Line
@@ -54,16 +53,16 @@ report_line who clock round (Err fault) = Says (demand_refusal fault) true
 -- the line of the table for a frame, where the session has this bidder
 abbrev pub line_of : Auction → Option ℕ → ToHouse → Line
 line_of auction who house.Quit = Says bidder.Bye false
-line_of auction (Some b) (house.Hello claimed token) = Says (refusal 13 0) true
+line_of auction (Some b) (house.Hello claimed token) = Says (refusal SECOND_HELLO 0) true
 line_of auction None (house.Hello claimed token) =
-    if knows auction claimed token then Says (bidder.Welcome (length auction.terms.goods) (auction.terms.bidders + 1)) true else Says (refusal 2 claimed) false
-line_of auction None (house.Look clock) = Says (refusal 1 0) true
+    if knows auction claimed token then Says (bidder.Welcome (length auction.terms.goods) (auction.terms.bidders + 1)) true else Says (refusal BAD_TOKEN claimed) false
+line_of auction None (house.Look clock) = Says (refusal NO_HELLO 0) true
 line_of auction (Some b) (house.Look clock) = at_clock auction.terms.bidders b clock (Asks (question.Look clock))
-line_of auction None (house.Report clock round demand) = Says (refusal 1 0) true
+line_of auction None (house.Report clock round demand) = Says (refusal NO_HELLO 0) true
 line_of auction (Some b) (house.Report clock round demand) =
     at_clock auction.terms.bidders b clock (report_line b clock round (demand_of auction.terms.goods demand.goods (bundles_of demand.goods demand.quantities)))
 
--- whether the session goes on behind a frame: this depends on the frame, the bidder and the digests alone
+-- whether the session goes on after a frame: this depends on the frame, the bidder and the digests alone
 abbrev pub goes_on : Auction → Option ℕ → ToHouse → Bool
 goes_on auction who house.Quit = false
 goes_on auction (Some b) (house.Hello claimed token) = true
@@ -71,7 +70,7 @@ goes_on auction None (house.Hello claimed token) = knows auction claimed token
 goes_on auction who (house.Look clock) = true
 goes_on auction who (house.Report clock round demand) = true
 
--- the session's bidder behind a frame
+-- the session's bidder after a frame
 abbrev pub bidder_after : Auction → Option ℕ → ToHouse → Option ℕ
 bidder_after auction None (house.Hello claimed token) = if knows auction claimed token then Some claimed else None
 bidder_after auction (Some b) (house.Hello claimed token) = Some b
@@ -79,7 +78,7 @@ bidder_after auction who house.Quit = who
 bidder_after auction who (house.Look clock) = who
 bidder_after auction who (house.Report clock round demand) = who
 
--- the session's bidder behind a frame, where it is known whether a first hello is welcome
+-- the session's bidder after a frame, where it is known whether a first hello is welcome
 abbrev pub greeted : Option ℕ → ToHouse → Bool → Option ℕ
 greeted None (house.Hello claimed token) welcome = if welcome then Some claimed else None
 greeted (Some b) (house.Hello claimed token) welcome = Some b
@@ -89,11 +88,11 @@ greeted who (house.Report clock round demand) welcome = who
 
 -- the reply where the hall refused
 abbrev pub judged_reply : ℕ → Judgement → ToBidder
-judged_reply clock (Early round) = refusal 6 round
-judged_reply clock (Conflict round) = refusal 7 round
-judged_reply clock (Over round) = refusal 8 round
-judged_reply clock NoRound = refusal 12 0
-judged_reply clock NotMember = refusal 4 clock
+judged_reply clock (Early round) = refusal EARLY round
+judged_reply clock (Conflict round) = refusal CONFLICT round
+judged_reply clock (Over round) = refusal OVER round
+judged_reply clock NoRound = refusal NO_ROUND 0
+judged_reply clock NotMember = refusal NOT_MEMBER clock
 judged_reply clock Take = bidder.Taken clock 0
 judged_reply clock Again = bidder.Again clock 0
 
@@ -101,16 +100,16 @@ abbrev pub offered_reply : ℕ → ℕ → Offered → ToBidder
 offered_reply clock round offered.Taken = bidder.Taken clock round
 offered_reply clock round offered.Again = bidder.Again clock round
 offered_reply clock round (offered.Refused judgement) = judged_reply clock judgement
-offered_reply clock round (offered.Full needed) = refusal 9 needed
-offered_reply clock round offered.DiskFault = refusal 10 0
-offered_reply clock round offered.NoMemory = refusal 11 0
+offered_reply clock round (offered.Full needed) = refusal FULL needed
+offered_reply clock round offered.DiskFault = refusal DISK_FAULT 0
+offered_reply clock round offered.NoMemory = refusal NO_MEMORY 0
 
 -- the reply where the hall was asked
 abbrev pub reply_of : Asked → ToBidder
 reply_of (asked.Look clock look) = bidder.Price clock look.round look.phase look.prices
 reply_of (asked.Offer clock who round demand offered) = offered_reply clock round offered
 
--- want of memory may be the reply to a report alone
+-- out of memory may be the reply to a report alone
 abbrev pub MayBeShort : ToHouse → Type 0
 MayBeShort (house.Hello claimed token) = ⊥
 MayBeShort (house.Look clock) = ⊥
@@ -119,6 +118,6 @@ MayBeShort house.Quit = ⊥
 
 -- the reply to a fault of the stream
 abbrev pub wire_reply : WireKind → ToBidder
-wire_reply (TooLong length) = refusal 14 length
-wire_reply (UnknownKind kind) = refusal 15 kind
-wire_reply (BadPayload kind length) = refusal 16 kind
+wire_reply (TooLong length) = refusal TOO_LONG length
+wire_reply (UnknownKind kind) = refusal UNKNOWN_KIND kind
+wire_reply (BadPayload kind length) = refusal BAD_PAYLOAD kind

@@ -5,6 +5,7 @@ use Rattle.std.specs.List.{flat_map}
 use Rattle.auction_file.specs.declared.listing.Auction.{Auction}
 use Rattle.report_wire.specs.Frames.{spelled}
 use Rattle.report_wire.specs.Messages.{bidder_sent}
+use Rattle.report_wire.specs.declared.refusals.TheConstants.{NO_MEMORY}
 use Rattle.report_wire.specs.declared.messages.ToHouse.{ToHouse}
 use Rattle.report_wire.specs.declared.messages.ToBidder.{ToBidder}
 use Rattle.session.specs.declared.halls.Asked.{Asked}
@@ -31,7 +32,7 @@ module _ {M : Type 0} (allows : M → Asked → M → Type 0) where
   abbrev pub IsTurn : Auction → Option ℕ → M → Turn M → Type 0
   IsTurn auction who before t =
       KeepsTo (line_of auction who t.frame) t.asked t.reply before t.now
-      ⊎ (MayBeShort t.frame × (t.asked ≡ None) × (t.reply ≡ refusal 11 0) × (t.now ≡ before))
+      ⊎ (MayBeShort t.frame × (t.asked ≡ None) × (t.reply ≡ refusal NO_MEMORY 0) × (t.now ≡ before))
 
   -- the turns one after another, each with the bidder that the frames before gave the session
   abbrev pub AreTurns : Auction → Option ℕ → M → List (Turn M) → Option ℕ → M → Type 0
@@ -49,7 +50,7 @@ replies_of turns = map (λ t. t.reply) turns
 abbrev pub bytes_of : {M : Type 0} → List (Turn M) → List ℕ
 bytes_of turns = flat_map (λ t. spelled (bidder_sent t.reply)) turns
 
--- whether a session goes on behind all of the frames, and its bidder then
+-- whether a session goes on after all of the frames, and its bidder then
 abbrev pub goes_on_after : Auction → Option ℕ → List ToHouse → Bool
 goes_on_after auction who [] = true
 goes_on_after auction who (f ∷ fs) = elim (goes_on auction who f) [ true ↦ goes_on_after auction (bidder_after auction who f) fs | false ↦ false ]

@@ -7,12 +7,11 @@ ghost use Rattle.report_wire.specs.Messages.{to_bidder, bidder_kind, bidder_payl
 ghost use Rattle.session.specs.Asking.{IsOffered, IsRefusal};
 ghost use Rattle.session.specs.Table.{reply_of, offered_reply, judged_reply};
 
-use crate::codes;
 use crate::halls::{Asked, Hall};
 use crate::table::refused;
 use clock::{Judgement, Look, Offered};
 use demand_set::Demand;
-use report_wire::ToBidder;
+use report_wire::{ToBidder, refusals};
 use std::alloc::Global;
 use std::sync::Wait;
 
@@ -72,9 +71,9 @@ fn offered_reply(clock: u8, round: u32, offered: Offered) -> ToBidder
         Offered::Taken => ToBidder::Taken { clock, round },
         Offered::Again => ToBidder::Again { clock, round },
         Offered::Refused(judgement) => judged_reply(judgement),
-        Offered::Full(needed) => refused(codes::FULL, needed),
-        Offered::DiskFault => refused(codes::DISK_FAULT, 0),
-        Offered::NoMemory => refused(codes::NO_MEMORY, 0),
+        Offered::Full(needed) => refused(refusals::FULL, needed),
+        Offered::DiskFault => refused(refusals::DISK_FAULT, 0),
+        Offered::NoMemory => refused(refusals::NO_MEMORY, 0),
     }
 }
 
@@ -85,10 +84,10 @@ fn judged_reply(judgement: Judgement) -> ToBidder
     ensures formed { IsMessage to_bidder (bidder_kind result) (bidder_payload result) }
 {
     match judgement {
-        Judgement::Early(round) => refused(codes::EARLY, round),
-        Judgement::Conflict(round) => refused(codes::CONFLICT, round),
-        Judgement::Over(round) => refused(codes::OVER, round),
-        Judgement::NoRound => refused(codes::NO_ROUND, 0),
+        Judgement::Early(round) => refused(refusals::EARLY, round),
+        Judgement::Conflict(round) => refused(refusals::CONFLICT, round),
+        Judgement::Over(round) => refused(refusals::OVER, round),
+        Judgement::NoRound => refused(refusals::NO_ROUND, 0),
         Judgement::Take | Judgement::Again | Judgement::NotMember => unreachable!(),
     }
 }

@@ -1,7 +1,6 @@
 //! Sessions: what the house answers to each frame of a bidder, over a hall that keeps the clocks.
 #![tactic(auto)]
 
-pub mod codes;
 mod consulting;
 mod digests;
 pub mod halls;

@@ -7,13 +7,12 @@ ghost use Rattle.session.specs.Table.{bidder_after, goes_on, greeted, wire_reply
 ghost use Rattle.session.specs.Turns.{IsTurn};
 ghost use Rattle.session.specs.declared.halls.Asked.{Asked as AskedValue};
 
-use crate::codes;
 use crate::consulting::{look_at, offer_at};
 use crate::halls::{Hall, Question};
 use crate::table::{Line, line_for, refused};
 use auction_file::Auction;
 use lot_base::NoMemory;
-use report_wire::{ToBidder, ToHouse, WireFault, WireKind};
+use report_wire::{ToBidder, ToHouse, WireFault, WireKind, refusals};
 use std::alloc::Global;
 use std::marker::Model;
 use std::sync::Wait;
@@ -73,7 +72,7 @@ impl Session {
             Ok(line) => line,
             Err(NoMemory) => {
                 return Answer {
-                    reply: refused(codes::NO_MEMORY, 0),
+                    reply: refused(refusals::NO_MEMORY, 0),
                     goes_on: true,
                 };
             }
@@ -119,8 +118,8 @@ pub fn wire_answer(fault: &WireFault) -> ToBidder
     ensures formed { IsMessage to_bidder (bidder_kind result) (bidder_payload result) }
 {
     match fault.kind {
-        WireKind::TooLong(length) => refused(codes::TOO_LONG, length),
-        WireKind::UnknownKind(kind) => refused(codes::UNKNOWN_KIND, kind as u32),
-        WireKind::BadPayload { kind, .. } => refused(codes::BAD_PAYLOAD, kind as u32),
+        WireKind::TooLong(length) => refused(refusals::TOO_LONG, length),
+        WireKind::UnknownKind(kind) => refused(refusals::UNKNOWN_KIND, kind as u32),
+        WireKind::BadPayload { kind, .. } => refused(refusals::BAD_PAYLOAD, kind as u32),
     }
 }

@@ -6,13 +6,12 @@ ghost use Rattle.report_wire.specs.Messages.{to_house, house_kind, house_payload
 ghost use Rattle.session.specs.Table.{line_of, knows, refusal, demand_refusal, MayBeShort};
 ghost use Rattle.session.specs.Asking.{IsAskable, IsSayable};
 
-use crate::codes;
 use crate::digests::are_same;
 use crate::halls::Question;
 use auction_file::Auction;
 use demand_set::{Demand, DemandFault};
 use lot_base::{NoMemory, RawDemand, Sequence};
-use report_wire::{ToBidder, ToHouse};
+use report_wire::{ToBidder, ToHouse, refusals};
 use sha2::{Digest, Sha256};
 use std::alloc::Global;
 
@@ -80,10 +79,10 @@ fn hello_line(auction: &Auction, who: Option<u8>, bidder: u8, token: &Sequence<u
     ensures sayable { IsSayable result }
 {
     if who.is_some() {
-        return Line::Says(refused(codes::SECOND_HELLO, 0), true);
+        return Line::Says(refused(refusals::SECOND_HELLO, 0), true);
     }
     if !knows(auction, bidder, token) {
-        return Line::Says(refused(codes::BAD_TOKEN, bidder as u32), false);
+        return Line::Says(refused(refusals::BAD_TOKEN, bidder as u32), false);
     }
     Line::Says(
         ToBidder::Welcome {
@@ -100,13 +99,13 @@ fn look_line(auction: &Auction, who: Option<u8>, clock: u8) -> Line
     ensures sayable { IsSayable result }
 {
     let Some(bidder) = who else {
-        return Line::Says(refused(codes::NO_HELLO, 0), true);
+        return Line::Says(refused(refusals::NO_HELLO, 0), true);
     };
     if clock > auction.terms.bidders {
-        return Line::Says(refused(codes::UNKNOWN_CLOCK, clock as u32), true);
+        return Line::Says(refused(refusals::UNKNOWN_CLOCK, clock as u32), true);
     }
     if clock == bidder {
-        return Line::Says(refused(codes::NOT_MEMBER, clock as u32), true);
+        return Line::Says(refused(refusals::NOT_MEMBER, clock as u32), true);
     }
     Line::Asks(Question::Look { clock })
 }
@@ -125,13 +124,13 @@ fn report_line(
     ensures sayable { IfOk result (λ line. IsSayable line) }
 {
     let Some(bidder) = who else {
-        return Ok(Line::Says(refused(codes::NO_HELLO, 0), true));
+        return Ok(Line::Says(refused(refusals::NO_HELLO, 0), true));
     };
     if clock > auction.terms.bidders {
-        return Ok(Line::Says(refused(codes::UNKNOWN_CLOCK, clock as u32), true));
+        return Ok(Line::Says(refused(refusals::UNKNOWN_CLOCK, clock as u32), true));
     }
     if clock == bidder {
-        return Ok(Line::Says(refused(codes::NOT_MEMBER, clock as u32), true));
+        return Ok(Line::Says(refused(refusals::NOT_MEMBER, clock as u32), true));
     }
     match Demand::read(alloc, &auction.terms.goods, demand) {
         Ok(demand) => Ok(Line::Asks(Question::Offer {
@@ -151,14 +150,14 @@ fn refused_demand(fault: DemandFault) -> ToBidder
     ensures sayable { IsSayable (Line.Says result true) }
 {
     let (detail, value) = match fault {
-        DemandFault::Empty => (codes::EMPTY, 0),
-        DemandFault::NotAscending(place) => (codes::NOT_ASCENDING, place),
-        DemandFault::OutsideSupply(place) => (codes::OUTSIDE_SUPPLY, place),
-        DemandFault::WrongGoods(goods) => (codes::WRONG_GOODS, goods as u32),
-        DemandFault::NoMemory => return refused(codes::NO_MEMORY, 0),
+        DemandFault::Empty => (refusals::EMPTY, 0),
+        DemandFault::NotAscending(place) => (refusals::NOT_ASCENDING, place),
+        DemandFault::OutsideSupply(place) => (refusals::OUTSIDE_SUPPLY, place),
+        DemandFault::WrongGoods(goods) => (refusals::WRONG_GOODS, goods as u32),
+        DemandFault::NoMemory => return refused(refusals::NO_MEMORY, 0),
     };
     ToBidder::Refused {
-        code: codes::BAD_DEMAND,
+        code: refusals::BAD_DEMAND,
         detail,
         value,
     }
