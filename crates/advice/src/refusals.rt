@@ -2,6 +2,11 @@
 ghost use Rattle.std.specs.Prelude.{◌≡◌, ◌≢◌, [], IfOk, string_bytes};
 
 use crate::names::Names;
+use report_wire::refusals::{
+    BAD_DEMAND, BAD_PAYLOAD, BAD_TOKEN, CONFLICT, DISK_FAULT, EARLY, EMPTY, FULL, NO_HELLO,
+    NO_MEMORY, NO_ROUND, NOT_ASCENDING, NOT_MEMBER, OUTSIDE_SUPPLY, OVER, SECOND_HELLO, TOO_LONG,
+    UNKNOWN_CLOCK, UNKNOWN_KIND, WRONG_GOODS,
+};
 use std::alloc::{AllocError, Global};
 
 const OTHER_AUCTION: &str =
@@ -44,22 +49,22 @@ pub(crate) fn refused(
 /// What a code says.
 fn meaning(code: u8, detail: u8) -> &'static str {
     match code {
-        1 => "nobody had said hello",
-        2 => "there is no such bidder, or the token is another one",
-        3 => "there is no such clock",
-        4 => "a bidder has no part in the clock of its own number",
-        5 => demand_meaning(detail),
-        6 => "the report is of a round that has not begun",
-        7 => "the bidder has reported another demand in this round",
-        8 => "the clock has ended, or is halted",
-        9 => "the journal of the clock is full",
-        10 => "the report could not be written, and is in doubt",
-        11 => "memory ran out in the house",
-        12 => "the report is of round 0",
-        13 => "somebody had said hello already",
-        14 => "a frame is too long",
-        15 => "a frame is of no kind that is known",
-        16 => "a frame has another form than its kind",
+        NO_HELLO => "nobody had said hello",
+        BAD_TOKEN => "there is no such bidder, or the token is another one",
+        UNKNOWN_CLOCK => "there is no such clock",
+        NOT_MEMBER => "a bidder has no part in the clock of its own number",
+        BAD_DEMAND => demand_meaning(detail),
+        EARLY => "the report is of a round that has not begun",
+        CONFLICT => "the bidder has reported another demand in this round",
+        OVER => "the clock has ended, or is halted",
+        FULL => "the journal of the clock is full",
+        DISK_FAULT => "the report could not be written, and is in doubt",
+        NO_MEMORY => "memory ran out in the house",
+        NO_ROUND => "the report is of round 0",
+        SECOND_HELLO => "somebody had said hello already",
+        TOO_LONG => "a frame is too long",
+        UNKNOWN_KIND => "a frame is of no kind that is known",
+        BAD_PAYLOAD => "a frame has another form than its kind",
         _ => "the code is none that is known",
     }
 }
@@ -67,10 +72,10 @@ fn meaning(code: u8, detail: u8) -> &'static str {
 /// What a detail says of a demand that is refused.
 fn demand_meaning(detail: u8) -> &'static str {
     match detail {
-        1 => "the report has no bundle",
-        2 => "the bundles of the report are not in ascending order",
-        3 => "a bundle of the report is outside the supply",
-        4 => "the report is of another number of goods",
+        EMPTY => "the report has no bundle",
+        NOT_ASCENDING => "the bundles of the report are not in ascending order",
+        OUTSIDE_SUPPLY => "a bundle of the report is outside the supply",
+        WRONG_GOODS => "the report is of another number of goods",
         _ => "the demand is none that can be reported",
     }
 }
@@ -78,14 +83,14 @@ fn demand_meaning(detail: u8) -> &'static str {
 /// What the value counts, if it counts anything.
 fn measure(code: u8, detail: u8) -> Option<&'static str> {
     match code {
-        2 => Some("bidder"),
-        3 | 4 => Some("clock"),
-        5 => demand_measure(detail),
-        6 | 7 => Some("round"),
-        8 => Some("last round"),
-        9 => Some("bytes needed"),
-        14 => Some("bytes"),
-        15 | 16 => Some("kind"),
+        BAD_TOKEN => Some("bidder"),
+        UNKNOWN_CLOCK | NOT_MEMBER => Some("clock"),
+        BAD_DEMAND => demand_measure(detail),
+        EARLY | CONFLICT => Some("round"),
+        OVER => Some("last round"),
+        FULL => Some("bytes needed"),
+        TOO_LONG => Some("bytes"),
+        UNKNOWN_KIND | BAD_PAYLOAD => Some("kind"),
         _ => None,
     }
 }
@@ -93,8 +98,8 @@ fn measure(code: u8, detail: u8) -> Option<&'static str> {
 /// The same, of a demand that is refused.
 fn demand_measure(detail: u8) -> Option<&'static str> {
     match detail {
-        2 | 3 => Some("bundle"),
-        4 => Some("goods"),
+        NOT_ASCENDING | OUTSIDE_SUPPLY => Some("bundle"),
+        WRONG_GOODS => Some("goods"),
         _ => None,
     }
 }
@@ -102,17 +107,19 @@ fn demand_measure(detail: u8) -> Option<&'static str> {
 /// What to do.
 fn advised(code: u8) -> &'static str {
     match code {
-        2 => "check BIDDER and TOKEN, sign by sign: the auction file has the SHA-256 of the token",
-        3..=5 => OTHER_AUCTION,
-        6 | 8 => LOOK_AGAIN,
-        7 => {
+        BAD_TOKEN => {
+            "check BIDDER and TOKEN, sign by sign: the auction file has the SHA-256 of the token"
+        }
+        UNKNOWN_CLOCK | NOT_MEMBER | BAD_DEMAND => OTHER_AUCTION,
+        EARLY | OVER => LOOK_AGAIN,
+        CONFLICT => {
             "a report stays: does another program bid with this token, or has VALUES changed? Wait for the next round"
         }
-        9 => "tell the seller: this clock takes no report more",
-        10 => {
+        FULL => "tell the seller: this clock takes no report more",
+        DISK_FAULT => {
             "tell the seller, and run the same words again: the report is sent again, and answered once it is safe"
         }
-        11 => "tell the seller, and run the same words again",
+        NO_MEMORY => "tell the seller, and run the same words again",
         _ => OTHER_PROGRAM,
     }
 }

@@ -45,7 +45,7 @@ cut_fault t t1 frame p =
 pub cut_memory : (t t1 : Option LinkBytes) (frame : ToHouse) → IfTold t t1 (Adds []) → IfTold t t1 (Converses frame heard.NoMemory)
 cut_memory t t1 frame p = told-map t t1 (Adds []) (Converses frame heard.NoMemory) p (λ x y h. inl (cut_moves [] x y h))
 
--- nothing was sent for want of memory
+-- nothing was sent: out of memory
 pub nothing_sent : (t : Option LinkBytes) (frame : ToHouse) → IfTold t t (Converses frame heard.NoMemory)
 nothing_sent t frame = told-same t (Converses frame heard.NoMemory) (λ x. inl (record { left = refl; written = sym (append-nil x.written) }))
 

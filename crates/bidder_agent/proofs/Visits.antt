@@ -1,4 +1,4 @@
--- A visit of a clock, behind a talk.
+-- A visit of a clock, after a talk.
 use Rattle.std.proofs.Common.{◌≡◌, ◌≢◌, inl, inr, ℕ, ◌+◌, ◌<◌, ◌==◌, nat_lt, Bool, true, false, not, ◌&&◌, ◌||◌, List, [], ◌∷◌, ◌++◌, length, Option, Some, None, refl, sym, ◌∙◌, ap, subst, arith, append_assoc, append-nil, if◌then◌else◌}
 use Rattle.std.specs.Prelude.{Ok, Err}
 use Rattle.std.proofs.lemmas.Bool.Decides.{nat_tests}
@@ -90,7 +90,7 @@ ended p talk frame t t0 t1 ends.LinkFault next c e = (frame, next, lifted talk (
 ended p talk frame t t0 t1 (ends.LooksSpent clock) next c e = absurd e
 ended p talk frame t t0 t1 ends.NoMemory next c e = (frame, next, lifted talk (Converses frame heard.NoMemory) t t0 t1 c e)
 
--- want of memory before the next frame
+-- out of memory before the next frame
 pub starved : (p : Part) (talk : List Exchange) (frame : ToHouse) (t t0 : Option LinkBytes) → IsNext p talk frame → IfTold t t0 (Carries talk) → EndsTalk p talk t t0 ends.NoMemory
 starved p talk frame t t0 next c = ended p talk frame t t0 t0 ends.NoMemory next c (nothing_sent t0 frame)
 

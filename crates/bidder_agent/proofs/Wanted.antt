@@ -7,6 +7,7 @@ use Rattle.lot_base.specs.Demands.{IsDemand}
 use Rattle.demand_set.specs.Held.{IsSomeDemand}
 use Rattle.demand_set.proofs.Joined.{length-concat}
 use Rattle.report_wire.specs.Frames.{IsMessage}
+use Rattle.report_wire.specs.declared.kinds.TheConstants.{REPORT}
 use Rattle.report_wire.specs.Messages.{to_house}
 use Rattle.report_wire.specs.Entries.{IsWhole}
 use Rattle.report_wire.specs.Payloads.{report_payload}
@@ -24,7 +25,7 @@ all-long supply (x ∷ bundles) within = (long x supply within.0, all-long suppl
 
 -- a demand of so many goods can be reported
 pub reported : (supply : List ℕ) (goods : ℕ) (bundles : List (List ℕ)) (quantities : List ℕ) → goods ≡ length supply → IsRange 1 6 goods → quantities ≡ concat bundles → IsDemand supply bundles → IsSomeDemand bundles
-    → (first round : ℕ) → IsMessage to_house 3 (report_payload first round goods quantities)
+    → (first round : ℕ) → IsMessage to_house REPORT (report_payload first round goods quantities)
 reported supply goods bundles quantities goods-are range same is some first round =
     let size : length quantities ≡ length bundles * goods = ap length same ∙ length-concat (length supply) bundles (all-long supply bundles is.in_box) ∙ ap (λ n. length bundles * n) (sym goods-are) in
     let few : length bundles * goods ≤ 2048 * 6 = mul-le-mul some.few range.at_most in
