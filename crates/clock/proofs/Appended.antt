@@ -1,4 +1,4 @@
--- What is kept packed stays where more is kept behind it.
+-- What is kept packed stays where more is kept after it.
 use Rattle.std.proofs.Common.{◌≡◌, ◌≤◌, ◌<◌, ℕ, zero, suc, ◌+◌, ◌*◌, ◌/◌, List, [], ◌∷◌, ◌++◌, length, take, drop, length-append, length-drop, arith, refl, sym, ap, ◌∙◌, subst, get_or}
 use Rattle.std.specs.List.{AllByRecursion, concat}
 use Rattle.std.specs.Prelude.{slice_get, Some}
@@ -53,7 +53,7 @@ pub fit-more : (goods : ℕ) (xs : List ℕ) (places : List Place) (p : Place) �
 fit-more goods xs [] p h f = (f, tt)
 fit-more goods xs (q ∷ places) p h f = (h.0, fit-more goods xs places p h.1 f)
 
--- the quantities of a demand, behind others, are read as the demand
+-- the quantities of a demand, after others, are read as the demand
 pub demand-back : (goods : ℕ) (xs : List ℕ) (d : List (List ℕ)) → 1 ≤ goods → AllByRecursion (λ x. length x ≡ goods) d → groups (length d) goods (drop (length xs) (xs ++ concat d)) ≡ d
 demand-back goods xs d some all =
     let n : length (concat d) / goods ≡ length d = ap (λ k. k / goods) (length-concat goods d all) ∙ mul-div_cancel (length d) some in
@@ -71,7 +71,7 @@ history-get goods xs [] i p r e f = absurd (cc)
 history-get goods xs (q ∷ places) zero p r e f = let a : q ≡ p = cc in let b : report_at goods xs q ≡ r = cc in sym b ∙ ap (report_at goods xs) a
 history-get goods xs (q ∷ places) (suc i) p r e f = history-get goods xs places i p r e f
 
--- one report more: its quantities behind the others, or some that are there
+-- one report more: its quantities after the others, or some that are there
 pub pushed : (goods : ℕ) (xs ys now : List ℕ) (places after : List Place) (p : Place) (r : Report) → now ≡ xs ++ ys → after ≡ places ++ p ∷ [] → AllFit goods xs places →
     report_at goods now p ≡ r → history_of goods now after ≡ history_of goods xs places ++ r ∷ []
 pushed goods xs ys now places after p r e f fit is =
@@ -89,7 +89,7 @@ fitted goods xs ys now places after p e f fit inside =
     let Q : List Place → Type 0 = λ ps. AllFit goods now ps in
     subst Q (sym f) (fit-more goods now places p (subst P (sym e) (fit-front goods xs ys places fit)) inside)
 
--- the demand at a place behind the others
+-- the demand at a place after the others
 pub report-back : (goods start count : ℕ) (xs now : List ℕ) (r : Report) → 1 ≤ goods → AllByRecursion (λ x. length x ≡ goods) r.demand → start ≡ length xs → count ≡ length r.demand → now ≡ xs ++ concat r.demand →
     report_at goods now (record { bidder = r.bidder; round = r.round; start = start; count = count }) ≡ r
 report-back goods start count xs now r some all s n e =

@@ -16,6 +16,7 @@ pub mod Stored
 pub mod Moves
 pub mod Totals
 pub mod Pushed
+pub mod Unpacked
 pub mod InOrder
 pub mod Taking
 pub mod Going

@@ -38,7 +38,7 @@ some-found round bidder (x ∷ xs) (suc k) r at is none =
     by true e rest = let f : Some x.demand ≡ None = e in (let no : ⊥ = cc in no)
     by false e rest = rest e
 
--- what stands at a place stands behind as many as its number
+-- what stands at a place stands after as many as its number
 record IsPlace (xs : List Report) (k : ℕ) (x : Report) : Type 0 where
   earlier : List Report
   later : List Report

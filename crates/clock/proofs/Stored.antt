@@ -195,7 +195,7 @@ again-fits goods from count b round q places after p place found is e fit =
     let Q : Place → Type 0 = λ z. Fits goods q z in
     subst P (sym e) (fit-more goods q places place fit (subst Q (sym is) f))
 
--- some of the reports, where more come behind them
+-- some of the reports, where more come after them
 pub slice-front : (from count : ℕ) (reports more : List Report) → from + count ≤ length reports → take count (drop from (reports ++ more)) ≡ take count (drop from reports)
 slice-front zero zero reports more inside = refl
 slice-front zero (suc count) [] more inside = absurd (omega arith)

@@ -23,7 +23,7 @@ pub record IsInRound (c : ClockHistory) (r : Report) : Type 0 where
   pub from_one : 1 ≤ r.round
   pub to_last : r.round ≤ last_round c
 
--- the report is of a member, in a round behind the last or current one
+-- the report is of a member, in a round after the last or current one
 pub record IsBeyond (c : ClockHistory) (r : Report) (last : ℕ) : Type 0 where
   pub member : IsMember c r.bidder
   pub last_is : last ≡ last_round c

@@ -52,7 +52,7 @@ pub record KeepsTables (c : ClockHistory) (round : ℕ) (tables : List (Option L
   pub earlier : (j set : ℕ) → 2 ≤ round → set < 2 ^ length c.terms.goods → is_member c j ≡ true → demand_in c.reports round j ≡ None → least_in (slice_index_or tables j None) set ≡ least (demands_in c.reports (round - 1) j) set
   -- who is no member has none
   pub nobody : (j : ℕ) → is_member c j ≡ false → slice_index_or tables j None ≡ None
-  -- there is nothing behind the last set
+  -- there is nothing after the last set
   pub blank : (j set : ℕ) → 2 ^ length c.terms.goods ≤ set → least_in (slice_index_or tables j None) set ≡ 0
 
 -- The running excess: entry E is the sum of the least quantities on E over the demands that are there, less the supply of E. Who has
@@ -91,5 +91,17 @@ pub record IsKept (c : ClockHistory) (past : PastOf) (present : List Report) (le
   pub goods : past.goods ≡ length c.terms.goods
   -- the step set of each step is kept
   pub sets : set_numbers past.sets ≡ sets_of c steps
+  -- there is room for a report of each member
+  pub room : length (members_of c) ≤ capacity
+
+-- the bidder's demand in the report's round is that of the report
+abbrev pub IsReported : ClockHistory → Report → Type 0
+IsReported c r = demand_in c.reports r.round r.bidder ≡ Some r.demand
+
+-- What is kept unpacked: the reports of the last or current round, and of those of the round before some.
+pub record KeepsUnpacked (c : ClockHistory) (present before : List Report) (capacity : ℕ) : Type 0 where
+  -- they were reported
+  pub now : AllByRecursion (IsReported c) present
+  pub earlier : AllByRecursion (IsReported c) before
   -- there is room for a report of each member
   pub room : length (members_of c) ≤ capacity

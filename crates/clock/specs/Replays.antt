@@ -19,7 +19,7 @@ pub record IsFirstNotTaken (c : ClockHistory) (reports : List Report) (number : 
   pub judged : judgement ≡ judgement_of (record c { reports = c.reports ++ before }) report
   pub refused : judgement ≢ Take
 
--- want of memory says nothing of the reports
+-- out of memory says nothing of the reports
 abbrev pub IfNotTaken : ClockHistory → List Report → ReplayFault → Type 0
 IfNotTaken c reports (NotTaken number judgement) = IsFirstNotTaken c reports number judgement
 IfNotTaken c reports NoMemory = Unit {0}

@@ -15,6 +15,7 @@ use lot_base::limits::MOST_BIDDERS;
 use lot_base::{Excess, Goods, LeastTable, NoMemory, Phase, Prices, Terms};
 use std::alloc::Global;
 use std::marker::Model;
+use std::mem::swap;
 
 /// One clock, seen as its history: its terms, its number and the reports that were applied, in order; and for how many more reports
 /// and quantities it has room.
@@ -28,6 +29,8 @@ pub struct Clock {
     pub(crate) past: Past,
     /// The reports of the last or current round.
     pub(crate) present: Vec<Report>,
+    /// Those of the round before that their bidders have not repeated.
+    pub(crate) before: Vec<Report>,
     /// How many members have no report in that round.
     left: u8,
     /// How many steps it has made: the number of the last or current round, less one.
@@ -47,7 +50,7 @@ pub struct Clock {
 impl Model for Clock {
     ghost use Rattle.std.specs.Vec.{vec_capacity};
     ghost use Rattle.clock.specs.Reports.{ClockOf};
-    ghost use Rattle.clock.specs.Kept.{IsKept};
+    ghost use Rattle.clock.specs.Kept.{IsKept, KeepsUnpacked};
 
     ghost Value = { ClockOf };
 
@@ -58,7 +61,8 @@ impl Model for Clock {
     } };
 
     ghost invariant = { λ c. IsKept (record { terms = c.terms; number = c.number; reports = c.past.reports }) c.past c.present.items c.left
-        c.steps c.phase c.prices c.tables c.excess.0 c.account (vec_capacity c.present) };
+        c.steps c.phase c.prices c.tables c.excess.0 c.account (vec_capacity c.present)
+        × KeepsUnpacked (record { terms = c.terms; number = c.number; reports = c.past.reports }) c.present.items c.before.items (vec_capacity c.before) };
 }
 
 /// What a clock shows: its last or current round, how it stands and at which prices.
@@ -129,6 +133,9 @@ impl Clock {
         let Ok(present) = Vec::with_capacity(alloc, MOST_BIDDERS as usize) else {
             return Err(NoMemory);
         };
+        let Ok(before) = Vec::with_capacity(alloc, MOST_BIDDERS as usize) else {
+            return Err(NoMemory);
+        };
         let left = member_count(terms.bidders, number);
         let tables = [None; 13];
         let excess = lyapunov::opening(&terms.goods);
@@ -147,6 +154,7 @@ impl Clock {
             number,
             past,
             present,
+            before,
             left,
             steps: standing.steps,
             phase: standing.phase,
@@ -229,7 +237,8 @@ impl Clock {
         };
         self.past.raise(set);
         self.left = self.present.len() as u8;
-        self.present.clear();
+        self.before.clear();
+        swap(&mut self.before, &mut self.present);
         reopen(&goods, &mut self.excess);
     }
 

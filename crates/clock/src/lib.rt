@@ -10,6 +10,7 @@ mod packing;
 pub mod repeating;
 pub mod replaying;
 pub mod rounds;
+pub mod same_again;
 
 pub use clocks::{Clock, Look, NotApplied};
 pub use judging::{Judgement, Offered};

@@ -65,6 +65,10 @@ impl Auction {
         repeated(self.alloc, &mut self.clock, rounds)
     }
 
+    fn move_on(&mut self, bidder: u8, round: u32, quantities: &[u8]) -> Option<bool> {
+        moved(self.alloc, &mut self.clock, bidder, round, quantities)
+    }
+
     fn reserve(&mut self, quantities: u32) -> bool {
         self.clock.reserve(self.alloc, quantities).is_ok()
     }
@@ -76,6 +80,23 @@ fn repeated(alloc: Global, clock: &mut Clock, rounds: u32) -> Option<u32>
 {
     match clock.repeat(alloc, rounds) {
         Ok(made) => Some(made),
+        Err(_) => None,
+    }
+}
+
+/// Whether a clock moves a bidder's report of the quantities that these bytes spell on to a round.
+fn moved(
+    alloc: Global,
+    clock: &mut Clock,
+    bidder: u8,
+    round: u32,
+    quantities: &[u8],
+) -> Option<bool>
+    ensures { clock.new.history.terms ≡ clock.old.history.terms }
+{
+    match clock.apply_again(alloc, bidder, round, quantities) {
+        Ok(true) => Some(true),
+        Ok(false) => Some(false),
         Err(_) => None,
     }
 }
@@ -105,6 +126,8 @@ fn demand_of(alloc: Global, goods: &Goods, quantities: &[u16]) -> Option<Demand>
 enum Step<'a> {
     /// The report of this bidder in this round, of these quantities, is judged so.
     Reported(u8, u32, &'a [u16], Judgement),
+    /// The report of this bidder in this round, of the quantities that these bytes spell, moves on from the round before, or does not.
+    Moved(u8, u32, &'a [u8], bool),
     /// The clock is in this round, in this phase, this member is missing, and these are the prices.
     Stands(u32, Phase, u8, &'a [u32]),
     /// It is that of this number.
@@ -223,6 +246,9 @@ fn goes(auction: &mut Auction, step: &Step) -> bool {
     match *step {
         Step::Reported(bidder, round, quantities, judgement) => {
             auction.report(bidder, round, quantities) == Some(judgement)
+        }
+        Step::Moved(bidder, round, quantities, moves) => {
+            auction.move_on(bidder, round, quantities) == Some(moves)
         }
         Step::Repeats(most, rounds) => auction.repeat(most) == Some(rounds),
         Step::Reserves(quantities) => auction.reserve(quantities),
@@ -650,6 +676,39 @@ const REPEATED: &[Step] = &[
 fn repeats_what_each_member_reported(rt: HostRuntime) -> Result<(), Fail> {
     let auction = auction_of(rt.alloc(), &[2], 3, 10, 2);
     equal(first_other(auction, REPEATED), None)?;
+    Ok(())
+}
+
+// Only what a bidder reported in the round before moves on: not other quantities, nor a part of them, nor twice, nor to another round
+// than the current one, nor after the end.
+const MOVED: &[Step] = &[
+    Step::Moved(1, 1, &[0, 2], false),
+    Step::Reported(1, 1, &[2], Judgement::Take),
+    Step::Moved(1, 1, &[0, 2], false),
+    Step::Reported(2, 1, &[1, 2], Judgement::Take),
+    Step::Moved(1, 3, &[0, 2], false),
+    Step::Moved(1, 2, &[0, 1], false),
+    Step::Moved(2, 2, &[0, 1], false),
+    Step::Moved(1, 2, &[0, 2], true),
+    Step::Moved(1, 2, &[0, 2], false),
+    Step::Reported(1, 2, &[2], Judgement::Again),
+    Step::Moved(2, 2, &[0, 1, 0, 2], true),
+    Step::Counts(4),
+    Step::Told(3, 1, 2, &[2]),
+    Step::Told(4, 2, 2, &[1, 2]),
+    Step::Again(4, true),
+    Step::Stands(3, Phase::Running, 1, &[2]),
+    Step::Repeats(1, 1),
+    Step::Moved(2, 4, &[0, 1, 0, 2], true),
+    Step::Reported(1, 4, &[0], Judgement::Take),
+    Step::Stands(4, Phase::Ended, 0, &[3]),
+    Step::Moved(1, 5, &[0, 0], false),
+];
+
+#[test]
+fn a_report_that_repeats_is_moved_on(rt: HostRuntime) -> Result<(), Fail> {
+    let auction = auction_of(rt.alloc(), &[2], 2, 10, 0);
+    equal(first_other(auction, MOVED), None)?;
     Ok(())
 }
 

@@ -11,15 +11,15 @@ pub overflow_cast-result : goal.overflow_cast-result
 overflow_cast-result c =
     let i = c.self.inside in
     let h : ClockHistory = record { terms = i.terms; number = i.number; reports = i.past.reports } in
-    let n = count-reports h i.present.items i.left i.steps 0 i.phase i.prices i.account i.tables i.excess.0 c.self.invariant.standing c.self.invariant.round in
+    let n = count-reports h i.present.items i.left i.steps 0 i.phase i.prices i.account i.tables i.excess.0 c.self.invariant.0.standing c.self.invariant.0.round in
     let f = members-few i.terms.bidders i.number in
     let b = i.terms.bidders_in_range.at_most in
     let few : length (members_of h) ≤ 12 = omega (arith, f, b) in
-    let m : i.steps * length (members_of h) ≤ 60000 * 12 = mul-le-mul c.self.invariant.standing.few few in
-    omega (arith, n, m, few, c.self.invariant.round.counted, c.count.ensures)
+    let m : i.steps * length (members_of h) ≤ 60000 * 12 = mul-le-mul c.self.invariant.0.standing.few few in
+    omega (arith, n, m, few, c.self.invariant.0.round.counted, c.count.ensures)
 
 pub returns-clause-more : goal.returns-clause-more
 returns-clause-more c = rw (← c.self.view_is) (λ r take.
     let i = c.self.inside in
     let h : ClockHistory = record { terms = i.terms; number = i.number; reports = i.past.reports } in
-    more-reports h r i.present.items i.left i.steps i.phase i.prices i.account i.tables i.excess.0 c.self.invariant.standing c.self.invariant.round take)
+    more-reports h r i.present.items i.left i.steps i.phase i.prices i.account i.tables i.excess.0 c.self.invariant.0.standing c.self.invariant.0.round take)

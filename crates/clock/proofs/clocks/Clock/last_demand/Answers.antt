@@ -18,8 +18,8 @@ returns-clause-value c =
     let i = c.self.inside in
     let h : ClockHistory = record { terms = i.terms; number = i.number; reports = i.past.reports } in
     c.find_demand.ensures ∙ ap (λ rs. demand_in rs (i.steps + 1) c.args.bidder) c.deref.ensures.value
-    ∙ present-demand h i.present.items i.left i.steps i.phase i.prices i.account i.tables i.excess.0 (i.steps + 1) c.args.bidder c.self.invariant.standing c.self.invariant.round refl
-    ∙ ap (λ n. demand_in h.reports (n + 1) c.args.bidder) c.self.invariant.standing.steps_are
+    ∙ present-demand h i.present.items i.left i.steps i.phase i.prices i.account i.tables i.excess.0 (i.steps + 1) c.args.bidder c.self.invariant.0.standing c.self.invariant.0.round refl
+    ∙ ap (λ n. demand_in h.reports (n + 1) c.args.bidder) c.self.invariant.0.standing.steps_are
     ∙ ap (λ (k : ClockOf). demand_in k.history.reports (last_round k.history) c.args.bidder) c.self.view_is
 
 pub returns-clause-fits : goal.returns-clause-fits
@@ -27,6 +27,6 @@ returns-clause-fits c =
     let i = c.self.inside in
     let h : ClockHistory = record { terms = i.terms; number = i.number; reports = i.past.reports } in
     let found = c.find_demand.ensures ∙ ap (λ rs. demand_in rs (i.steps + 1) c.args.bidder) c.deref.ensures.value
-    ∙ present-demand h i.present.items i.left i.steps i.phase i.prices i.account i.tables i.excess.0 (i.steps + 1) c.args.bidder c.self.invariant.standing c.self.invariant.round refl in
+    ∙ present-demand h i.present.items i.left i.steps i.phase i.prices i.account i.tables i.excess.0 (i.steps + 1) c.args.bidder c.self.invariant.0.standing c.self.invariant.0.round refl in
     let F : ClockOf → Type 0 = λ k. IfSome (option_copied c.find_demand.result) (IsDemand k.history.terms.goods) in
-    subst F c.self.view_is (fits-found h (i.steps + 1) c.args.bidder (option_copied c.find_demand.result) c.self.invariant.standing.legal found)
+    subst F c.self.view_is (fits-found h (i.steps + 1) c.args.bidder (option_copied c.find_demand.result) c.self.invariant.0.standing.legal found)

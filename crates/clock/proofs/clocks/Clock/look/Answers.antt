@@ -24,11 +24,11 @@ pub returns-clause-least : goal.returns-clause-least
 returns-clause-least c = λ u explains.
     let now = c.args.self.now.history in
     let same = ap (λ (k : ClockOf). k.history) c.self.view_is in
-    let phase = phase-kept _ now _ _ _ _ _ c.self.invariant.standing same in
-    let prices = prices-kept _ now _ _ _ _ _ c.self.invariant.standing same in
+    let phase = phase-kept _ now _ _ _ _ _ c.self.invariant.0.standing same in
+    let prices = prices-kept _ now _ _ _ _ _ c.self.invariant.0.standing same in
     let L : List ℕ → Type 0 = λ p. IsLeastMinimiser now.terms.opening (lyapunov now.terms.goods u (members_of now)) p in
     let N : ℕ → List ℕ → Type 0 = λ n p. IsLeastNear now.terms.opening n (lyapunov now.terms.goods u (members_of now)) p in
-    let steps : steps_of now ≡ c.self.inside.steps + 1 - 1 = sym (c.self.invariant.standing.steps_are ∙ ap steps_of same) ∙ (omega arith) in
+    let steps : steps_of now ≡ c.self.inside.steps + 1 - 1 = sym (c.self.invariant.0.standing.steps_are ∙ ap steps_of same) ∙ (omega arith) in
     record {
       near = subst (λ n. N n c.self.inside.prices) steps (subst (λ p. N (steps_of now) p) (sym prices) (least-near u now explains));
       ended = λ ended. subst L (sym prices) (least-minimiser u now explains (sym phase ∙ ended));
@@ -42,7 +42,7 @@ all-up : (ceiling : ℕ) (ps : List ℕ) → AllUpTo ceiling ps → AllByRecursi
 all-up ceiling [] up = tt
 all-up ceiling (p ∷ ps) up = (up.0, all-up ceiling ps up.1)
 
--- behind the last entry there is 0
+-- after the last entry there is 0
 some-there : (ps : List ℕ) (k : ℕ) → at ps k ≢ 0 → k < length ps
 some-there [] k some = absurd (some refl)
 some-there (p ∷ ps) zero some = omega arith
@@ -60,16 +60,16 @@ halted-at c good e =
 
 pub returns-clause-goods : goal.returns-clause-goods
 returns-clause-goods c =
-    ap length (prices-kept _ c.args.self.now.history _ _ _ _ _ c.self.invariant.standing (ap (λ (k : ClockOf). k.history) c.self.view_is)) ∙ (path-of c.args.self.now.history).goods
+    ap length (prices-kept _ c.args.self.now.history _ _ _ _ _ c.self.invariant.0.standing (ap (λ (k : ClockOf). k.history) c.self.view_is)) ∙ (path-of c.args.self.now.history).goods
 
 pub returns-clause-within : goal.returns-clause-within
 returns-clause-within c =
     let now = c.args.self.now.history in
     let W : List ℕ → Type 0 = λ ps. AllByRecursion (λ price. price ≤ now.terms.ceiling) ps in
-    subst W (sym (prices-kept _ now _ _ _ _ _ c.self.invariant.standing (ap (λ (k : ClockOf). k.history) c.self.view_is))) (all-up now.terms.ceiling (prices_of now) (path-of now).up)
+    subst W (sym (prices-kept _ now _ _ _ _ _ c.self.invariant.0.standing (ap (λ (k : ClockOf). k.history) c.self.view_is))) (all-up now.terms.ceiling (prices_of now) (path-of now).up)
 
 pub returns-clause-halted : goal.returns-clause-halted
 returns-clause-halted c = λ good halted.
     let now = c.args.self.now.history in
     let H : List ℕ → Type 0 = λ ps. (good < length now.terms.goods) × (at ps good ≡ now.terms.ceiling) in
-    subst H (sym (prices-kept _ now _ _ _ _ _ c.self.invariant.standing (ap (λ (k : ClockOf). k.history) c.self.view_is))) (halted-at now good (sym (phase-kept _ now _ _ _ _ _ c.self.invariant.standing (ap (λ (k : ClockOf). k.history) c.self.view_is)) ∙ halted))
+    subst H (sym (prices-kept _ now _ _ _ _ _ c.self.invariant.0.standing (ap (λ (k : ClockOf). k.history) c.self.view_is))) (halted-at now good (sym (phase-kept _ now _ _ _ _ _ c.self.invariant.0.standing (ap (λ (k : ClockOf). k.history) c.self.view_is)) ∙ halted))

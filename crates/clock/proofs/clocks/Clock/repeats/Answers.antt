@@ -12,7 +12,7 @@ returns-in-None c =
     let h : ClockHistory = record { terms = i.terms; number = i.number; reports = i.past.reports } in
     let test = λ (o : Option (List (List ℕ))). option_map (λ before. same_demand before c.args.demand.now) o in
     let found = sym (ap option_copied c.in-None.is) ∙ c.find_demand.ensures ∙ ap (λ rs. demand_in rs c.args.round c.args.bidder) c.deref.ensures.value
-    ∙ present-demand h i.present.items i.left i.steps i.phase i.prices i.account i.tables i.excess.0 c.args.round c.args.bidder c.self.invariant.standing c.self.invariant.round c.if-round-self.true in
+    ∙ present-demand h i.present.items i.left i.steps i.phase i.prices i.account i.tables i.excess.0 c.args.round c.args.bidder c.self.invariant.0.standing c.self.invariant.0.round c.if-round-self.true in
     ap test found ∙ ap (λ (k : ClockOf). test (demand_in k.history.reports c.args.round c.args.bidder)) c.self.view_is
 
 pub returns-in-Some : goal.returns-in-Some
@@ -21,7 +21,7 @@ returns-in-Some c =
     let h : ClockHistory = record { terms = i.terms; number = i.number; reports = i.past.reports } in
     let test = λ (o : Option (List (List ℕ))). option_map (λ before. same_demand before c.args.demand.now) o in
     let found = sym (ap option_copied c.in-Some.is) ∙ c.find_demand.ensures ∙ ap (λ rs. demand_in rs c.args.round c.args.bidder) c.deref.ensures.value
-    ∙ present-demand h i.present.items i.left i.steps i.phase i.prices i.account i.tables i.excess.0 c.args.round c.args.bidder c.self.invariant.standing c.self.invariant.round c.if-round-self.true in
+    ∙ present-demand h i.present.items i.left i.steps i.phase i.prices i.account i.tables i.excess.0 c.args.round c.args.bidder c.self.invariant.0.standing c.self.invariant.0.round c.if-round-self.true in
     ap Some c.same.ensures.test ∙ ap test found ∙ ap (λ (k : ClockOf). test (demand_in k.history.reports c.args.round c.args.bidder)) c.self.view_is
 
 pub returns : goal.returns
@@ -31,5 +31,5 @@ returns c =
     let test = λ (o : Option (List (List ℕ))). option_map (λ before. same_demand before c.args.demand.now) o in
     c.repeats.ensures
     ∙ ap (λ m. option_map (λ (r : Report). same_demand r.demand c.args.demand.now) (find (λ (r : Report). nat_eq r.bidder c.args.bidder) (take m (drop ((c.args.round - 1) * m) h.reports)))) c.member_count-members.ensures
-    ∙ past-demand h i.present.items i.left i.steps i.phase i.prices i.account i.tables i.excess.0 c.args.round c.args.bidder c.args.demand.now c.self.invariant.standing c.self.invariant.round c.requires.from_one
+    ∙ past-demand h i.present.items i.left i.steps i.phase i.prices i.account i.tables i.excess.0 c.args.round c.args.bidder c.args.demand.now c.self.invariant.0.standing c.self.invariant.0.round c.requires.from_one
     ∙ ap (λ (k : ClockOf). test (demand_in k.history.reports c.args.round c.args.bidder)) c.self.view_is

@@ -12,7 +12,7 @@ overflow_sub-result c =
     let h : ClockHistory = record { terms = i.terms; number = i.number; reports = i.past.reports } in
     let m = steps-most h in
     let k = ap (λ n. n * i.terms.ceiling) c.count.ensures.length in
-    omega (arith, m, k, c.self.invariant.standing.steps_are)
+    omega (arith, m, k, c.self.invariant.0.standing.steps_are)
 
 pub returns-clause-left : goal.returns-clause-left
 returns-clause-left c =
@@ -22,7 +22,7 @@ returns-clause-left c =
     let k = ap (λ n. n * i.terms.ceiling) c.count.ensures.length in
     let s = ap (λ (z : ClockOf). steps_of z.history) c.self.view_is in
     let g = ap (λ (z : ClockOf). length z.history.terms.goods * z.history.terms.ceiling) c.self.view_is in
-    omega (arith, m, k, s, g, c.self.invariant.standing.steps_are)
+    omega (arith, m, k, s, g, c.self.invariant.0.standing.steps_are)
 
 pub returns-clause-last : goal.returns-clause-last
 returns-clause-last c = λ idle none.
@@ -30,5 +30,5 @@ returns-clause-last c = λ idle none.
     let h : ClockHistory = record { terms = i.terms; number = i.number; reports = i.past.reports } in
     let I : ClockOf → Type 0 = λ z. IsIdle z.history in
     let k = ap (λ n. n * i.terms.ceiling) c.count.ensures.length in
-    let l = left-none h i.past i.present.items i.left i.steps i.phase i.prices i.tables i.excess.0 i.account _ c.self.invariant (subst I (sym c.self.view_is) idle) (omega (arith, k, none)) in
+    let l = left-none h i.past i.present.items i.left i.steps i.phase i.prices i.tables i.excess.0 i.account _ c.self.invariant.0 (subst I (sym c.self.view_is) idle) (omega (arith, k, none)) in
     sym (ap (λ (z : ClockOf). leads_on (with_round z.history) (steps_of z.history)) c.self.view_is) ∙ l
