@@ -77,7 +77,7 @@ edges_later supply parents least (x ∷ xs) known are =
         let here : AllByRecursion (IsLater supply least) (edge_list (edge_to (Some p) x)) = (record { x_small = small.0; y_small = are.0.0; later = later }, tt) in
         subst (λ (q : Option Parent). AllByRecursion (IsLater supply least) (edge_list (edge_to q x))) (sym e) here
 
--- the places behind the turn and before it, the last of which is that of the least link
+-- the places after the turn and before it, the last of which is that of the least link
 pub turned_later : (n : ℕ) (ps : ℕ → Option Edge) (path : List ℕ) (first least : ℕ) → first ≤ least → least < length path → ((k : ℕ) → k < length path → slice_index path k < n) →
     IsLeastOf ps path first (length path) least → AreLater n ps (ps (slice_index path least)) (drop (least + 1) path ++ take (least - first) (drop first path))
 turned_later n ps path first least low inside small is =

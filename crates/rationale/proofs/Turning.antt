@@ -155,7 +155,7 @@ drop-drop [] (suc i) zero = (let e : suc i + 0 ≡ suc i = omega arith in ap (λ
 drop-drop [] (suc i) (suc j) = (let e : suc i + suc j ≡ suc (i + suc j) = omega arith in ap (λ (k : ℕ). drop {A = ℕ} k []) (sym e))
 drop-drop (x ∷ xs) (suc i) j = drop-drop xs i j ∙ (let e : suc i + j ≡ suc (i + j) = omega arith in ap (λ (k : ℕ). drop k (x ∷ xs)) (sym e))
 
--- a path from a place on is its part before the turn, and the part behind it
+-- a path from a place on is its part before the turn, and the part after it
 pub parted : (path : List ℕ) (first turn : ℕ) → first ≤ turn → take (turn - first) (drop first path) ++ drop turn path ≡ drop first path
 parted path first turn low =
     let e : first + (turn - first) ≡ turn = omega arith in

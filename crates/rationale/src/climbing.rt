@@ -40,19 +40,13 @@ pub(crate) fn climb(
     ensures some { IfOk result (λ r. IfSome r (λ a. IsAround (parent_of parents.now) (length parents.now) a.path.items a.first)) }
     ensures none { IfOk result (λ r. IfNone r (Rooted (parent_of parents.now) start (length parents.now))) }
 {
-    let mut path = match Vec::with_capacity(alloc, parents.len()) {
-        Ok(path) => path,
-        Err(_) => return Err(NoMemory),
-    };
+    let mut path = Vec::with_capacity(alloc, parents.len())?;
     let mut at = start;
     for step in 0..parents.len() + 1 {
         if let Some(first) = place_in(&path, at) {
             return Ok(Some(Around { path, first }));
         }
-        match path.push(at) {
-            Ok(()) => {}
-            Err(_) => return Err(NoMemory),
-        }
+        path.push(at)?;
         match parents[at as usize] {
             None => return Ok(None),
             Some(parent) => at = parent.x,

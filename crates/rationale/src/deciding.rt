@@ -41,15 +41,9 @@ fn values_of(alloc: Global, labels: &[u64]) -> Result<Vec<i64>, NoMemory>
     ensures each { IfOk result (λ v. (i : ℕ) → i < length labels.now →
         slice_index_or v.items i (pos 0) ≡ pos (slice_index labels.now i) -ℤ pos (slice_index labels.now 0)) }
 {
-    let mut values = match Vec::with_capacity(alloc, labels.len()) {
-        Ok(values) => values,
-        Err(_) => return Err(NoMemory),
-    };
+    let mut values = Vec::with_capacity(alloc, labels.len())?;
     for place in 0..labels.len() {
-        match values.push(difference(labels[place], labels[0])) {
-            Ok(()) => {}
-            Err(_) => return Err(NoMemory),
-        }
+        values.push(difference(labels[place], labels[0]))?;
     }
     Ok(values)
 }
@@ -76,18 +70,18 @@ fn decide_on(
     requires none { (i : ℕ) → slice_index_or parents.old i None ≡ None }
     ensures { IfOk result (IsDecision goods.now (observations_of stretches.now)) }
 {
-    match settle(
+    let ending = settle(
         alloc, goods, stretches, costs, gaps, places, labels, parents,
-    ) {
-        Ok(Ending::Least) => match values_of(alloc, labels) {
-            Ok(values) => Ok(Decision::Rational(Sequence::from_vec(values))),
-            Err(NoMemory) => Err(NoMemory),
-        },
-        Ok(Ending::Cycle(around)) => match cycle_links(alloc, goods, &around, parents) {
-            Ok(links) => Ok(Decision::Cycle(Sequence::from_vec(links))),
-            Err(NoMemory) => Err(NoMemory),
-        },
-        Err(NoMemory) => Err(NoMemory),
+    )?;
+    match ending {
+        Ending::Least => {
+            let values = values_of(alloc, labels)?;
+            Ok(Decision::Rational(Sequence::from_vec(values)))
+        }
+        Ending::Cycle(around) => {
+            let links = cycle_links(alloc, goods, &around, parents)?;
+            Ok(Decision::Cycle(Sequence::from_vec(links)))
+        }
     }
 }
 
@@ -95,20 +89,14 @@ fn decide_on(
 fn room_for_numbers(alloc: Global, count: usize) -> Result<Vec<u64>, NoMemory>
     ensures { IfOk result (λ v. length v.items ≡ count) }
 {
-    match vec![in alloc; 0u64; count] {
-        Ok(numbers) => Ok(numbers),
-        Err(_) => Err(NoMemory),
-    }
+    Ok(vec![in alloc; 0u64; count]?)
 }
 
 /// Room for so many places.
 fn room_for_places(alloc: Global, count: usize) -> Result<Vec<u16>, NoMemory>
     ensures { IfOk result (λ v. length v.items ≡ count) }
 {
-    match vec![in alloc; 0u16; count] {
-        Ok(places) => Ok(places),
-        Err(_) => Err(NoMemory),
-    }
+    Ok(vec![in alloc; 0u16; count]?)
 }
 
 /// The least weights of the bundles, each less that of the empty bundle, or a negative cycle.
@@ -118,26 +106,11 @@ fn decide_kept(alloc: Global, goods: &Goods, stretches: &[Stretch]) -> Result<De
     ensures { IfOk result (IsDecision goods.now (observations_of stretches.now)) }
 {
     let size = goods.box_size() as usize;
-    let mut costs = match room_for_numbers(alloc, size) {
-        Ok(costs) => costs,
-        Err(NoMemory) => return Err(NoMemory),
-    };
-    let mut gaps = match room_for_numbers(alloc, size) {
-        Ok(gaps) => gaps,
-        Err(NoMemory) => return Err(NoMemory),
-    };
-    let mut places = match room_for_places(alloc, size) {
-        Ok(places) => places,
-        Err(NoMemory) => return Err(NoMemory),
-    };
-    let mut labels = match zero_labels(alloc, size) {
-        Ok(labels) => labels,
-        Err(NoMemory) => return Err(NoMemory),
-    };
-    let mut parents = match no_parents(alloc, size) {
-        Ok(parents) => parents,
-        Err(NoMemory) => return Err(NoMemory),
-    };
+    let mut costs = room_for_numbers(alloc, size)?;
+    let mut gaps = room_for_numbers(alloc, size)?;
+    let mut places = room_for_places(alloc, size)?;
+    let mut labels = zero_labels(alloc, size)?;
+    let mut parents = no_parents(alloc, size)?;
     decide_on(
         alloc,
         goods,

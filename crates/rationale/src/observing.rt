@@ -2,6 +2,7 @@
 ghost use Rattle.std.specs.List.{AllByRecursion};
 ghost use Rattle.std.specs.Prelude.{◌≡◌, ◌<◌, ◌≤◌, ◌+◌, ◌*◌, ◌^◌, ℕ, List, [], ◌∷◌, length, slice_index_or};
 ghost use Rattle.std.specs.Prelude.{Some, None, MatchOption, IfSome, IfOk};
+ghost use Rattle.lot_base.specs.declared.limits.TheConstants.{MOST_BUNDLES};
 ghost use Rattle.lot_base.specs.Goods.{box_size};
 ghost use Rattle.rationale.specs.declared.limits.TheConstants.{MOST_OBSERVATIONS};
 ghost use Rattle.rationale.specs.Lines.{along};
@@ -219,7 +220,7 @@ fn look_for_cycle(
     fell: Option<usize>,
     lowered: usize,
 ) -> Result<Option<Around>, NoMemory>
-    requires few { length parents.now ≤ 2048 }
+    requires few { length parents.now ≤ MOST_BUNDLES }
     requires fell { IfSome fell (λ place. place < length parents.now) }
     requires inside { (y : ℕ) → IfSome (slice_index_or parents.now y None) (λ p. p.x < length parents.now) }
     ensures { IfOk result (λ r. IfSome r (λ a. IsAround (parent_of parents.now) (length parents.now) a.path.items a.first)) }
@@ -286,10 +287,8 @@ pub(crate) fn pass(
             fell: later(now.fell, course.fell),
         };
         lowered += usize::from(now.fell.is_some());
-        match look_for_cycle(alloc, parents, now.fell, lowered) {
-            Ok(Some(around)) => return Ok(Passed::Contradicted(around)),
-            Ok(None) => {}
-            Err(NoMemory) => return Err(NoMemory),
+        if let Some(around) = look_for_cycle(alloc, parents, now.fell, lowered)? {
+            return Ok(Passed::Contradicted(around));
         }
     }
     match course.fell {

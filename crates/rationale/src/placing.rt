@@ -1,5 +1,6 @@
 //! Observations as numbers at the places of the box.
 ghost use Rattle.std.specs.Prelude.{◌≡◌, ◌<◌, ◌≤◌, ◌+◌, ◌*◌, ◌/◌, ◌%◌, ◌^◌, ℕ, List, length, take, slice_index};
+ghost use Rattle.lot_base.specs.declared.limits.TheConstants.{MOST_BUNDLES};
 ghost use Rattle.lot_base.specs.Goods.{cost, box_size};
 ghost use Rattle.lot_base.specs.Box.{bundle_at};
 ghost use Rattle.lot_base.specs.Demands.{IsDemand};
@@ -36,7 +37,7 @@ pub(crate) fn show_costs(goods: &Goods, prices: &Prices, costs: &mut [u64])
 fn spread(costs: &mut [u64], size: usize, units: u16, price: u32)
     requires some { 1 ≤ size }
     requires fits { (units + 1) * size ≤ length costs.old }
-    requires few { length costs.old ≤ 2048 }
+    requires few { length costs.old ≤ MOST_BUNDLES }
     requires small { (i : ℕ) → i < size → slice_index costs.old i ≤ 2 ^ 25 }
     ensures long { length costs.new ≡ length costs.old }
     ensures spread { (i : ℕ) → i < (units + 1) * size →

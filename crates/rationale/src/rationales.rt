@@ -59,12 +59,8 @@ impl Rationale {
         ensures number { IfOk result (λ number. number ≡ length self.old.observations + 1) }
         ensures err { IfErr result (λ e. (e.demand ≡ demand) × (self.new ≡ self.old)) }
     {
-        match keep(alloc, &self.goods, &mut self.stretches, prices, demand) {
-            Ok(()) => {
-                self.count += 1;
-                Ok(self.count)
-            }
-            Err(not_added) => Err(not_added),
-        }
+        keep(alloc, &self.goods, &mut self.stretches, prices, demand)?;
+        self.count += 1;
+        Ok(self.count)
     }
 }

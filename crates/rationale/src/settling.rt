@@ -27,15 +27,9 @@ pub(crate) fn zero_labels(alloc: Global, count: usize) -> Result<Vec<u64>, NoMem
     ensures long { IfOk result (λ v. length v.items ≡ count) }
     ensures each { IfOk result (λ v. (i : ℕ) → i < count → slice_index v.items i ≡ 2 ^ 60) }
 {
-    let mut labels = match Vec::with_capacity(alloc, count) {
-        Ok(labels) => labels,
-        Err(_) => return Err(NoMemory),
-    };
+    let mut labels = Vec::with_capacity(alloc, count)?;
     for place in 0..count {
-        match labels.push(1u64 << 60) {
-            Ok(()) => {}
-            Err(_) => return Err(NoMemory),
-        }
+        labels.push(1u64 << 60)?;
     }
     Ok(labels)
 }
@@ -45,15 +39,9 @@ pub(crate) fn no_parents(alloc: Global, count: usize) -> Result<Vec<Option<Paren
     ensures long { IfOk result (λ v. length v.items ≡ count) }
     ensures each { IfOk result (λ v. (i : ℕ) → slice_index_or v.items i None ≡ None) }
 {
-    let mut parents = match Vec::with_capacity(alloc, count) {
-        Ok(parents) => parents,
-        Err(_) => return Err(NoMemory),
-    };
+    let mut parents = Vec::with_capacity(alloc, count)?;
     for place in 0..count {
-        match parents.push(None) {
-            Ok(()) => {}
-            Err(_) => return Err(NoMemory),
-        }
+        parents.push(None)?;
     }
     Ok(parents)
 }
@@ -85,18 +73,16 @@ pub(crate) fn settle(
 {
     let _count = goods.count();
     for done in 0..goods.box_size() {
-        let place = match pass(
+        let passed = pass(
             alloc, goods, stretches, costs, gaps, places, labels, parents,
-        ) {
-            Ok(Passed::Settled) => return Ok(Ending::Least),
-            Ok(Passed::Fell(place)) => place as u16,
-            Ok(Passed::Contradicted(around)) => return Ok(Ending::Cycle(around)),
-            Err(NoMemory) => return Err(NoMemory),
+        )?;
+        let place = match passed {
+            Passed::Settled => return Ok(Ending::Least),
+            Passed::Fell(place) => place as u16,
+            Passed::Contradicted(around) => return Ok(Ending::Cycle(around)),
         };
-        match climb(alloc, parents, place) {
-            Ok(Some(around)) => return Ok(Ending::Cycle(around)),
-            Ok(None) => {}
-            Err(NoMemory) => return Err(NoMemory),
+        if let Some(around) = climb(alloc, parents, place)? {
+            return Ok(Ending::Cycle(around));
         }
     }
     Ok(Ending::Least)

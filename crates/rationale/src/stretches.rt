@@ -67,10 +67,8 @@ impl Stretch {
         if self.lines[last].extend(prices) {
             return Ok(());
         }
-        match self.lines.push(Line::new(goods, prices)) {
-            Ok(()) => Ok(()),
-            Err(_) => Err(NoMemory),
-        }
+        self.lines.push(Line::new(goods, prices))?;
+        Ok(())
     }
 }
 
@@ -97,10 +95,7 @@ pub(crate) fn keep(
             Err(NoMemory) => Err(NotAdded { demand }),
         };
     }
-    let stretch = match Stretch::new(alloc, goods, prices, demand) {
-        Ok(stretch) => stretch,
-        Err(not_added) => return Err(not_added),
-    };
+    let stretch = Stretch::new(alloc, goods, prices, demand)?;
     match stretches.push(stretch) {
         Ok(()) => Ok(()),
         Err(failed) => Err(NotAdded {

@@ -29,20 +29,14 @@ fn links_from(
     requires inside { AreParents (box_size goods.now) parents.now }
     ensures { IfOk result (λ v. v.items ≡ links_of goods.now (edges_of (parent_of parents.now) places.now) []) }
 {
-    let mut links = match Vec::with_capacity(alloc, places.len()) {
-        Ok(links) => links,
-        Err(_) => return Err(NoMemory),
-    };
+    let mut links = Vec::with_capacity(alloc, places.len())?;
     for written in 0..places.len() {
-        match add_link(
+        add_link(
             &mut links,
             goods,
             places[places.len() - 1 - written],
             parents,
-        ) {
-            Ok(()) => {}
-            Err(NoMemory) => return Err(NoMemory),
-        }
+        )?;
     }
     Ok(links)
 }
@@ -59,17 +53,14 @@ fn add_link(
     requires inside { AreParents (box_size goods.now) parents.now }
     ensures { OnOk result (links.new.items ≡ links.old.items ++ link_list goods.now (parent_of parents.now y)) }
 {
-    match parents[y as usize] {
-        None => Ok(()),
-        Some(parent) => match links.push(Link {
+    if let Some(parent) = parents[y as usize] {
+        links.push(Link {
             observation: parent.observation + 1,
             x: goods.bundle(parent.x as u32),
             y: goods.bundle(y as u32),
-        }) {
-            Ok(()) => Ok(()),
-            Err(_) => Err(NoMemory),
-        },
+        })?;
     }
+    Ok(())
 }
 
 /// After which place of the cycle the path is turned: the place whose link is least.
@@ -134,13 +125,7 @@ pub(crate) fn cycle_links(
     let turn = turning_place(&around.path, around.first, parents);
     let behind = around.path.split_at(turn).1;
     let before = &around.path[around.first..turn];
-    let mut places = match Vec::from_slice(alloc, behind) {
-        Ok(places) => places,
-        Err(_) => return Err(NoMemory),
-    };
-    match places.extend_from_slice(before) {
-        Ok(()) => {}
-        Err(_) => return Err(NoMemory),
-    }
+    let mut places = Vec::from_slice(alloc, behind)?;
+    places.extend_from_slice(before)?;
     links_from(alloc, goods, &places, parents)
 }

@@ -14,7 +14,7 @@ total-drop s k inside =
     let one : suc k ≡ k + 1 = omega arith in
     ap total (drop-cons s k 0 inside) ∙ ap (λ n. slice_index s k + total (drop n s)) one
 
--- the entries that are left are enough for the good and for those behind it
+-- the entries that are left are enough for the good and for those after it
 pub enough : (s x rest : List ℕ) (k : ℕ) → AtMost x s → k < length s → length rest ≡ total (drop k s) → slice_index x k ≤ length rest
 enough s x rest k within inside count =
     let a = at-below x s k within in

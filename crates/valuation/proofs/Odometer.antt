@@ -1,4 +1,4 @@
--- The next bundle of a box: one unit more of the last good of which there is more, and nothing of the goods behind it.
+-- The next bundle of a box: one unit more of the last good of which there is more, and nothing of the goods after it.
 use Rattle.std.proofs.Common.{◌≡◌, ◌<◌, ◌≤◌, ℕ, zero, suc, ◌+◌, ◌*◌, List, [], ◌∷◌, length, slice_index, arith, ap, refl, sym, ◌∙◌, subst}
 use Rattle.lot_base.specs.Goods.{box_size, AtMost}
 use Rattle.lot_base.specs.Box.{index_of, bundle_at}
@@ -79,7 +79,7 @@ next-bundle s x y good place below is f =
     let index : index_of s x ≡ place = ap (index_of s) is ∙ index_of-bundle_at s place inside in
     sym (bundle_at-index_of s y next.0) ∙ ap (bundle_at s) (next.1 ∙ ap (λ n. n + 1) index)
 
--- behind the last bundle there is none
+-- after the last bundle there is none
 pub none-next : (s x : List ℕ) (place : ℕ) → place + 1 < box_size s → x ≡ bundle_at s place → ((k : ℕ) → slice_index s k ≤ slice_index x k) → ⊥
 none-next s x place below is full =
     let inside : place < box_size s = omega (arith, below) in

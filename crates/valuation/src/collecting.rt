@@ -24,15 +24,10 @@ pub(crate) fn collect(
     let mut found = Vec::new(alloc);
     let groups = worth.len() / GROUP;
     for group in 0..groups {
-        match collect_group(&mut found, goods, worth, best, group * GROUP) {
-            Ok(()) => {}
-            Err(NoMemory) => return Err(NoMemory),
-        }
+        collect_group(&mut found, goods, worth, best, group * GROUP)?;
     }
-    match collect_within(&mut found, goods, worth, best, groups * GROUP, worth.len()) {
-        Ok(()) => Ok(found),
-        Err(NoMemory) => Err(NoMemory),
-    }
+    collect_within(&mut found, goods, worth, best, groups * GROUP, worth.len())?;
+    Ok(found)
 }
 
 /// Adds the quantities of those of a group.
@@ -111,10 +106,7 @@ fn collect_from(
     ensures { OnOk result (found.new.items ≡ best_before goods.now worth.now best last) }
 {
     for place in first..last {
-        match keep(found, quantities, worth[place] == best) {
-            Ok(()) => {}
-            Err(NoMemory) => return Err(NoMemory),
-        }
+        keep(found, quantities, worth[place] == best)?;
         advance(quantities, goods.as_slice());
     }
     Ok(())
@@ -125,13 +117,9 @@ fn keep(found: &mut Vec<u16>, quantities: &[u16], is_best: bool) -> Result<(), N
     ensures { OnOk result (found.new.items ≡ found.old.items ++ (if is_best then quantities.now else [])) }
 {
     if is_best {
-        match found.extend_from_slice(quantities) {
-            Ok(()) => Ok(()),
-            Err(_) => Err(NoMemory),
-        }
-    } else {
-        Ok(())
+        found.extend_from_slice(quantities)?;
     }
+    Ok(())
 }
 
 /// Leads from the quantities of a bundle of the box to those of the next one, as a number is counted up whose last digit is that of the

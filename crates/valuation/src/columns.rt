@@ -19,11 +19,7 @@ pub fn column_of(alloc: Global, goods: &Goods, set: GoodSet) -> Result<Column, N
     ensures { IfOk result (λ c. IsColumn goods.now set.0 c.units.items) }
 {
     let _count = goods.count();
-    match costs_at(alloc, goods, Prices::zero(goods).raise(set).as_slice()) {
-        Ok(costs) => match narrowed(alloc, &costs) {
-            Ok(units) => Ok(Column { units }),
-            Err(_) => Err(NoMemory),
-        },
-        Err(NoMemory) => Err(NoMemory),
-    }
+    let costs = costs_at(alloc, goods, Prices::zero(goods).raise(set).as_slice())?;
+    let units = narrowed(alloc, &costs)?;
+    Ok(Column { units })
 }

@@ -1,5 +1,6 @@
 //! What the bundles of a box cost.
 ghost use Rattle.std.specs.Prelude.{◌≡◌, ◌≤◌, ◌+◌, ◌*◌, ◌^◌, ℕ, length, slice_index, IfOk, OnOk};
+ghost use Rattle.lot_base.specs.declared.limits.TheConstants.{MOST_BUNDLES};
 ghost use Rattle.valuation.specs.Carried.{AreCosts, AreLowCosts, AreLowered, IsSpread};
 
 use lot_base::{Goods, NoMemory, Prices};
@@ -28,13 +29,9 @@ impl Costs {
     pub fn new(alloc: Global, goods: &Goods, prices: &Prices) -> Result<Costs, NoMemory>
         ensures { IfOk result (λ c. AreLowCosts goods.now prices.now c) }
     {
-        match costs_at(alloc, goods, prices.as_slice()) {
-            Ok(costs) => match lowered(alloc, &costs) {
-                Ok(each) => Ok(Costs { each }),
-                Err(NoMemory) => Err(NoMemory),
-            },
-            Err(NoMemory) => Err(NoMemory),
-        }
+        let costs = costs_at(alloc, goods, prices.as_slice())?;
+        let each = lowered(alloc, &costs)?;
+        Ok(Costs { each })
     }
 
     /// The costs, in order of index.
@@ -50,15 +47,9 @@ impl Costs {
 fn lowered(alloc: Global, numbers: &[u64]) -> Result<Vec<u16>, NoMemory>
     ensures { IfOk result (λ low. AreLowered numbers.now low.items) }
 {
-    let mut low = match Vec::with_capacity(alloc, numbers.len()) {
-        Ok(low) => low,
-        Err(_) => return Err(NoMemory),
-    };
+    let mut low = Vec::with_capacity(alloc, numbers.len())?;
     for place in 0..numbers.len() {
-        match low.push(numbers[place].min(65_535) as u16) {
-            Ok(()) => {}
-            Err(_) => return Err(NoMemory),
-        }
+        low.push(numbers[place].min(65_535) as u16)?;
     }
     Ok(low)
 }
@@ -67,20 +58,11 @@ fn lowered(alloc: Global, numbers: &[u64]) -> Result<Vec<u16>, NoMemory>
 pub(crate) fn costs_at(alloc: Global, goods: &Goods, prices: &[u32]) -> Result<Vec<u64>, NoMemory>
     ensures { IfOk result (λ costs. AreCosts goods.now prices.now costs.items) }
 {
-    let mut costs = match Vec::with_capacity(alloc, goods.box_size() as usize) {
-        Ok(costs) => costs,
-        Err(_) => return Err(NoMemory),
-    };
-    match costs.push(0u64) {
-        Ok(()) => {}
-        Err(_) => return Err(NoMemory),
-    }
+    let mut costs = Vec::with_capacity(alloc, goods.box_size() as usize)?;
+    costs.push(0u64)?;
     for step in 0..goods.count() {
         let good = goods.count() - 1 - step;
-        match spread(&mut costs, goods.supply(good), price_at(prices, good)) {
-            Ok(()) => {}
-            Err(NoMemory) => return Err(NoMemory),
-        }
+        spread(&mut costs, goods.supply(good), price_at(prices, good))?;
     }
     Ok(costs)
 }
@@ -100,17 +82,14 @@ fn price_at(prices: &[u32], good: u8) -> u32
 /// Adds the costs of the same bundles with 1 to so many units of one good more in front of them.
 fn spread(costs: &mut Vec<u64>, units: u16, price: u32) -> Result<(), NoMemory>
     requires some { 1 ≤ length costs.old.items }
-    requires few { (units + 1) * length costs.old.items ≤ 2048 }
+    requires few { (units + 1) * length costs.old.items ≤ MOST_BUNDLES }
     requires small { (i : ℕ) → slice_index costs.old.items i ≤ 2 ^ 50 }
     ensures { OnOk result (IsSpread units price costs.old.items costs.new.items) }
 {
     let size = costs.len();
     for place in size..size * (units as usize + 1) {
         let cost = costs[place - size] + price as u64;
-        match costs.push(cost) {
-            Ok(()) => {}
-            Err(_) => return Err(NoMemory),
-        }
+        costs.push(cost)?;
     }
     Ok(())
 }

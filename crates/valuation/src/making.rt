@@ -17,10 +17,8 @@ impl Valuation {
         requires small { AreValues (map (unit_value values.now) (box goods.now)) }
         ensures { IfOk result (λ v. v ≡ map (unit_value values.now) (box goods.now)) }
     {
-        match unit_values(alloc, goods, values) {
-            Ok(worth) => from_wide(alloc, &worth),
-            Err(_) => Err(NoMemory),
-        }
+        let worth = unit_values(alloc, goods, values)?;
+        from_wide(alloc, &worth)
     }
 
     /// The valuation where at most so many units count, by a value for each good.
@@ -45,10 +43,8 @@ impl Valuation {
         requires small { AreValues (map (marginal_value goods.now entries.now) (box goods.now)) }
         ensures { IfOk result (λ v. v ≡ map (marginal_value goods.now entries.now) (box goods.now)) }
     {
-        match marginal_values(alloc, goods, entries) {
-            Ok(worth) => from_wide(alloc, &worth),
-            Err(_) => Err(NoMemory),
-        }
+        let worth = marginal_values(alloc, goods, entries)?;
+        from_wide(alloc, &worth)
     }
 }
 
@@ -57,8 +53,6 @@ fn from_wide(alloc: Global, worth: &[u64]) -> Result<Valuation, NoMemory>
     requires { AreValues worth.now }
     ensures { IfOk result (λ v. v ≡ worth.now) }
 {
-    match narrowed(alloc, worth) {
-        Ok(values) => Ok(Valuation::from_values(values)),
-        Err(_) => Err(NoMemory),
-    }
+    let values = narrowed(alloc, worth)?;
+    Ok(Valuation::from_values(values))
 }

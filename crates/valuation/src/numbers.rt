@@ -1,5 +1,6 @@
 //! The numbers of a valuation file.
 ghost use Rattle.std.specs.Prelude.{◌≡◌, ◌<◌, ◌≤◌, ◌^◌, length, map, Ok, OnOk, IfOk};
+ghost use Rattle.lot_base.specs.declared.limits.TheConstants.{MOST_BUNDLES};
 ghost use Rattle.lot_base.specs.Goods.{box_size};
 ghost use Rattle.toml.specs.View.{view, table_view};
 ghost use Rattle.valuation.specs.Forms.{total};
@@ -144,7 +145,7 @@ pub(crate) fn values_at(
     needed: u32,
     table: &Table,
 ) -> Result<Vec<u32>, ValuesFault>
-    requires { needed ≤ 2048 }
+    requires { needed ≤ MOST_BUNDLES }
     ensures values { GivesIfRoom (λ v. v.items) result (values_at bidder limit needed (table_view table.now)) }
     ensures count { IfOk result (λ v. length v.items ≡ needed) }
 {
@@ -165,7 +166,7 @@ pub(crate) fn lists_at(
     table: &Table,
 ) -> Result<Vec<u32>, ValuesFault>
     requires few { length supply.now ≤ 6 }
-    requires small { box_size supply.now ≤ 2048 }
+    requires small { box_size supply.now ≤ MOST_BUNDLES }
     ensures entries { GivesIfRoom (λ v. v.items) result (lists_at bidder limit supply.now (table_view table.now)) }
     ensures count { IfOk result (λ v. length v.items ≡ total supply.now) }
 {

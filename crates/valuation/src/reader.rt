@@ -2,7 +2,7 @@
 ghost use Rattle.std.specs.Prelude.{◌≡◌, ◌≢◌, ◌<◌, ◌≤◌, ℕ, length, map, position, nat_le, slice_index, Ok, Err, IfOk, IfErr, IfSome};
 ghost use Rattle.std.specs.List.{AllByRecursion};
 ghost use Rattle.toml.specs.View.{view, table_view};
-ghost use Rattle.lot_base.specs.declared.limits.TheConstants.{GREATEST_CEILING};
+ghost use Rattle.lot_base.specs.declared.limits.TheConstants.{GREATEST_CEILING, MOST_BUNDLES};
 ghost use Rattle.lot_base.specs.Goods.{box_size, IsSupply};
 ghost use Rattle.valuation.specs.Tree.{each_from};
 ghost use Rattle.valuation.specs.ValuesFile.{document_of, table_form, marginal_form, unit_form, capped_form, in_form, below, valuation_at, values_of};
@@ -28,10 +28,9 @@ pub const MOST_BYTES: usize = GREATEST_VALUES as usize;
 fn document_of(alloc: Global, bytes: &[u8]) -> Result<Table, ValuesFault>
     ensures { GivesIfRoom (λ t. table_view t) result (document_of bytes.now) }
 {
-    match tree_of(alloc, bytes) {
-        Ok(Some(table)) => Ok(table),
-        Ok(None) => Err(ValuesFault::NotToml),
-        Err(_) => Err(ValuesFault::NoMemory),
+    match tree_of(alloc, bytes)? {
+        Some(table) => Ok(table),
+        None => Err(ValuesFault::NotToml),
     }
 }
 
@@ -171,7 +170,7 @@ fn limited(
     values: &[u64],
 ) -> Result<Valuation, ValuesFault>
     requires some { 1 ≤ length values.now }
-    requires few { length values.now ≤ 2048 }
+    requires few { length values.now ≤ MOST_BUNDLES }
     requires empty { slice_index values.now 0 ≡ 0 }
     requires ceiling { 1 ≤ ceiling }
     requires low { ceiling ≤ GREATEST_CEILING }

@@ -53,17 +53,13 @@ impl Surplus {
         ensures carries { IfOk result (λ s. Carries s (valuation_of goods.now valuation.now) prices.now) }
     {
         let _count = goods.count();
-        match worth_of(alloc, goods, valuation.as_slice(), prices) {
-            Ok(worth) => {
-                let best = greatest_of(&worth);
-                Ok(Surplus {
-                    goods: *goods,
-                    worth,
-                    best,
-                })
-            }
-            Err(NoMemory) => Err(NoMemory),
-        }
+        let worth = worth_of(alloc, goods, valuation.as_slice(), prices)?;
+        let best = greatest_of(&worth);
+        Ok(Surplus {
+            goods: *goods,
+            worth,
+            best,
+        })
     }
 
     /// The prices rose by one on each good of the set, so many times.
@@ -124,10 +120,8 @@ fn worth_of(
     ensures empty { IfOk result (λ worth. slice_index worth.items 0 ≡ 1) }
     ensures carries { IfOk result (λ worth. CarriesAt goods.now worth.items (valuation_of goods.now values.now) prices.now) }
 {
-    match Costs::new(alloc, goods, prices) {
-        Ok(costs) => left_of(alloc, values, costs.as_slice()),
-        Err(NoMemory) => Err(NoMemory),
-    }
+    let costs = Costs::new(alloc, goods, prices)?;
+    left_of(alloc, values, costs.as_slice())
 }
 
 /// One more than each value less its cost, or 0 where that is below 0.
@@ -135,15 +129,9 @@ fn left_of(alloc: Global, values: &[u16], costs: &[u16]) -> Result<Vec<u16>, NoM
     requires { AreValues values.now }
     ensures { IfOk result (λ worth. IsLeft values.now costs.now worth.items) }
 {
-    let mut worth = match Vec::with_capacity(alloc, costs.len()) {
-        Ok(worth) => worth,
-        Err(_) => return Err(NoMemory),
-    };
+    let mut worth = Vec::with_capacity(alloc, costs.len())?;
     for place in 0..costs.len() {
-        match worth.push(left_at(value_at(values, place), costs[place])) {
-            Ok(()) => {}
-            Err(_) => return Err(NoMemory),
-        }
+        worth.push(left_at(value_at(values, place), costs[place]))?;
     }
     Ok(worth)
 }
@@ -155,14 +143,10 @@ fn demanded(alloc: Global, goods: &Goods, worth: &[u16], best: u16) -> Result<De
     requires best { best ≡ greatest worth.now }
     ensures { (u : List ℕ → ℤ) (p : List ℕ) → CarriesAt goods.now worth.now u p → IfOk result (λ d. d ≡ demand goods.now u p) }
 {
-    match collect(alloc, goods, worth, best) {
-        Ok(quantities) => {
-            match Demand::read_quantities(alloc, goods, goods.count(), &quantities) {
-                Ok(demand) => Ok(demand),
-                Err(_) => Err(NoMemory),
-            }
-        }
-        Err(NoMemory) => Err(NoMemory),
+    let quantities = collect(alloc, goods, worth, best)?;
+    match Demand::read_quantities(alloc, goods, goods.count(), &quantities) {
+        Ok(demand) => Ok(demand),
+        Err(_) => Err(NoMemory),
     }
 }
 

@@ -57,10 +57,7 @@ impl Valuation {
     pub fn demand(&self, alloc: Global, goods: &Goods, prices: &Prices) -> Result<Demand, NoMemory>
         ensures { IfOk result (λ d. d ≡ demand goods.now (valuation_of goods.now self.now) prices.now) }
     {
-        match Surplus::new(alloc, goods, self, prices) {
-            Ok(surplus) => surplus.demand(alloc),
-            Err(NoMemory) => Err(NoMemory),
-        }
+        Surplus::new(alloc, goods, self, prices)?.demand(alloc)
     }
 }
 

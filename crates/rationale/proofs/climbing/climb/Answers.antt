@@ -10,7 +10,7 @@ use Rattle.rationale.proofs.climbing.climb.Goals as goal
 
 pub loop-step-init : goal.loop-step-init
 unfolding IsDistinct
-loop-step-init c = rw c.in-Ok.ensures.items (record { long = refl; trail = refl; distinct = tt; small = c.requires.start; all_small = λ q h. absurd (cc) })
+loop-step-init c = rw c.in_ok-path.ensures.items (record { long = refl; trail = refl; distinct = tt; small = c.requires.start; all_small = λ q h. absurd (cc) })
 
 pub returns-in-Some-clause-some : goal.returns-in-Some-clause-some
 returns-in-Some-clause-some c =
@@ -48,7 +48,7 @@ loop-step-preserved c =
     let edge : Edge = record { observation = p.observation; x = p.x; y = at } in
     let inside : IfSome (slice_index_or c.args.parents.now at None) (λ q. q.x < n) = c.requires.inside at in
     let long = i.long in
-    rw c.in-Ok-push.ensures.items (record {
+    rw c.in_ok-push.ensures.items (record {
       long = length-append path (at ∷ []) ∙ omega arith;
       trail = trail-snoc (parent_of c.args.parents.now) c.args.start path at edge i.trail (ap (λ (q : Option Parent). edge_to q at) is);
       distinct = distinct-snoc at path i.distinct new;

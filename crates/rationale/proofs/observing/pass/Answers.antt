@@ -49,8 +49,8 @@ look_for_cycle-requires-clause-inside c =
     let placed = placed_so_far supply c.args.stretches.now (c.loop-place.place + 1) c.args.labels.now c.follow_stretch-now.new.labels c.args.parents.now c.follow_stretch-now.new.parents c.later.result course c.requires.placed in
     parents_inside supply (thinned c.args.stretches.now) c.follow_stretch-now.new.labels c.follow_stretch-now.new.parents placed o.course.parents_long
 
-pub returns-in-Ok-Some-clause-pass : goal.returns-in-Ok-Some-clause-pass
-returns-in-Ok-Some-clause-pass c =
+pub returns-in-Some-clause-pass : goal.returns-in-Some-clause-pass
+returns-in-Some-clause-pass c =
     let supply = c.args.goods.now in
     let s = c.index-stretches-place.result in
     let o = c.follow_stretch-now.ensures in
@@ -59,7 +59,7 @@ returns-in-Ok-Some-clause-pass c =
     c.args.parents.now c.loop-place.parents c.follow_stretch-now.new.parents c.loop-place.course.fell c.follow_stretch-now.result.fell c.later.result c.loop-place-test.true c.index-stretches-place.is i.next i.course
     o.course c.later.ensures in
     let placed = placed_so_far supply c.args.stretches.now (c.loop-place.place + 1) c.args.labels.now c.follow_stretch-now.new.labels c.args.parents.now c.follow_stretch-now.new.parents c.later.result course c.requires.placed in (
-      subst (λ (n : ℕ). IsAround (parent_of c.follow_stretch-now.new.parents) n c.in-Ok-Some.around.path.items c.in-Ok-Some.around.first) o.course.parents_long
-          (rw c.in-Ok-Some.field-0-is at c.in-Ok-Some.ensures),
+      subst (λ (n : ℕ). IsAround (parent_of c.follow_stretch-now.new.parents) n c.in-Some.around.path.items c.in-Some.around.first) o.course.parents_long
+          (rw c.in-Some.is at c.in_ok-around.ensures),
       (label_of c.follow_stretch-now.new.labels, placed.sound),
     )

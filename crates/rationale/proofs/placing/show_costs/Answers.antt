@@ -6,7 +6,7 @@ use Rattle.lot_base.proofs.Index.{box_size-above_0}
 use Rattle.rationale.proofs.Blocks.{AreCostsFrom, stride-box, box_at, box-drop_small, costs-next, costs-start, costs-low}
 use Rattle.rationale.proofs.placing.show_costs.Goals as goal
 
--- the size of the box behind a good
+-- the size of the box after a good
 size_at : (s strides : List ℕ) (count step : ℕ) → AreStrides s strides → count ≡ length s → step < count → slice_index strides (count - 1 - step) ≡ box_size (drop (length s - (step + 1) + 1) s)
 size_at s strides count step are long inside =
     let k = length s - (step + 1) in

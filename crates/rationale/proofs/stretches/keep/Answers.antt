@@ -31,5 +31,5 @@ returns-in-Err-clause-err c =
 
 pub returns-in-Ok-push-clause-ok : goal.returns-in-Ok-push-clause-ok
 returns-in-Ok-push-clause-ok c =
-    keeps_by_push c.args.goods.now c.args.stretches.now.items c.push.new.self.items c.args.prices.now c.args.demand c.in-Ok-new.stretch
-    c.requires.each c.in-Ok-push.ensures.items c.in-Ok-new.ensures.stretch c.in-Ok-new.ensures.seen
+    keeps_by_push c.args.goods.now c.args.stretches.now.items c.push.new.self.items c.args.prices.now c.args.demand c.in_ok-stretch.stretch
+    c.requires.each c.in-Ok-push.ensures.items c.in_ok-stretch.ensures.stretch c.in_ok-stretch.ensures.seen

@@ -8,7 +8,7 @@ use Rattle.rationale.proofs.Turning.{any-at}
 use Rattle.rationale.proofs.Firsts.{cycle_from_least, written_from_least}
 use Rattle.rationale.proofs.writing.cycle_links.Goals as goal
 
--- the places are those behind the turn, and then those before it
+-- the places are those after the turn, and then those before it
 turned : (path now2 now3 back places new now4 : List ℕ) (first turn : ℕ) → now2 ≡ path → now3 ≡ path → back ≡ drop turn now2 → places ≡ back → new ≡ places ++ take (turn - first) (drop first now3) → now4 ≡ new →
     now4 ≡ drop turn path ++ take (turn - first) (drop first path)
 turned path now2 now3 back places new now4 first turn e2 e3 eb ep en e4 =
@@ -19,8 +19,8 @@ links_from-requires-clause-places c =
     let path = c.args.around.now.path.items in
     let first = c.args.around.now.first in
     let turn = c.turning_place-turn.result in
-    let is = turned path c.deref-2.result.now c.deref-3.result.now c.split_at.result.1.now c.in-Ok.places.items c.extend_from_slice.new.self.items c.deref-4.result.now first turn
-    c.deref-2.ensures.value c.deref-3.ensures.value c.split_at.ensures.back c.in-Ok.ensures.items c.in-Ok-extend_from_slice.ensures.items c.deref-4.ensures.value in
+    let is = turned path c.deref-2.result.now c.deref-3.result.now c.split_at.result.1.now c.in_ok-places.places.items c.extend_from_slice.new.self.items c.deref-4.result.now first turn
+    c.deref-2.ensures.value c.deref-3.ensures.value c.split_at.ensures.back c.in_ok-places.ensures.items c.in_ok-extend_from_slice.ensures.items c.deref-4.ensures.value in
     turned_small _ path c.deref-4.result.now first turn c.requires.around.small is
 
 pub returns-clause-cycle : goal.returns-clause-cycle
@@ -31,8 +31,8 @@ returns-clause-cycle c = λ os m sound.
     let first = c.args.around.now.first in
     let turn = c.turning_place-turn.result in
     let at = slice_index path first in
-    let is = turned path c.deref-2.result.now c.deref-3.result.now c.split_at.result.1.now c.in-Ok.places.items c.extend_from_slice.new.self.items c.deref-4.result.now first turn
-    c.deref-2.ensures.value c.deref-3.ensures.value c.split_at.ensures.back c.in-Ok.ensures.items c.in-Ok-extend_from_slice.ensures.items c.deref-4.ensures.value in
+    let is = turned path c.deref-2.result.now c.deref-3.result.now c.split_at.result.1.now c.in_ok-places.places.items c.extend_from_slice.new.self.items c.deref-4.result.now first turn
+    c.deref-2.ensures.value c.deref-3.ensures.value c.split_at.ensures.back c.in_ok-places.ensures.items c.in_ok-extend_from_slice.ensures.items c.deref-4.ensures.value in
     let low = c.turning_place-turn.ensures.behind in
     let inside = c.requires.around.inside in
     let trail : IsTrail ps at (take (turn - first) (drop first path) ++ drop turn path) at = subst (λ (xs : List ℕ). IsTrail ps at xs at) (sym (parted path first turn (omega arith))) c.requires.around.closed in
@@ -47,8 +47,8 @@ returns-clause-few c =
     let first = c.args.around.now.first in
     let turn = c.turning_place-turn.result in
     let at = slice_index path first in
-    let is = turned path c.deref-2.result.now c.deref-3.result.now c.split_at.result.1.now c.in-Ok.places.items c.extend_from_slice.new.self.items c.deref-4.result.now first turn
-    c.deref-2.ensures.value c.deref-3.ensures.value c.split_at.ensures.back c.in-Ok.ensures.items c.in-Ok-extend_from_slice.ensures.items c.deref-4.ensures.value in
+    let is = turned path c.deref-2.result.now c.deref-3.result.now c.split_at.result.1.now c.in_ok-places.places.items c.extend_from_slice.new.self.items c.deref-4.result.now first turn
+    c.deref-2.ensures.value c.deref-3.ensures.value c.split_at.ensures.back c.in_ok-places.ensures.items c.in_ok-extend_from_slice.ensures.items c.deref-4.ensures.value in
     let low = c.turning_place-turn.ensures.behind in
     let read = c.deref.ensures.value in
     let high : turn ≤ length path = rw read at c.turning_place-turn.ensures.within in
@@ -73,8 +73,8 @@ returns-clause-from_least c =
     let first = c.args.around.now.first in
     let turn = c.turning_place-turn.result in
     let at = slice_index path first in
-    let is = turned path c.deref-2.result.now c.deref-3.result.now c.split_at.result.1.now c.in-Ok.places.items c.extend_from_slice.new.self.items c.deref-4.result.now first turn
-    c.deref-2.ensures.value c.deref-3.ensures.value c.split_at.ensures.back c.in-Ok.ensures.items c.in-Ok-extend_from_slice.ensures.items c.deref-4.ensures.value in
+    let is = turned path c.deref-2.result.now c.deref-3.result.now c.split_at.result.1.now c.in_ok-places.places.items c.extend_from_slice.new.self.items c.deref-4.result.now first turn
+    c.deref-2.ensures.value c.deref-3.ensures.value c.split_at.ensures.back c.in_ok-places.ensures.items c.in_ok-extend_from_slice.ensures.items c.deref-4.ensures.value in
     let low = c.turning_place-turn.ensures.behind in
     let read = c.deref.ensures.value in
     let high : turn ≤ length path = rw read at c.turning_place-turn.ensures.within in

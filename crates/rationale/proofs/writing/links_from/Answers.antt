@@ -7,7 +7,7 @@ use Rattle.rationale.specs.declared.links.Link.{Link}
 use Rattle.rationale.proofs.writing.links_from.Goals as goal
 
 pub loop-written-init : goal.loop-written-init
-loop-written-init c = c.in-Ok.ensures.items ∙ sym (links-start c.args.goods.now (parent_of c.args.parents.now) c.args.places.now (length c.args.places.now - 0) (omega arith))
+loop-written-init c = c.in_ok-links.ensures.items ∙ sym (links-start c.args.goods.now (parent_of c.args.parents.now) c.args.places.now (length c.args.places.now - 0) (omega arith))
 
 pub loop-written-preserved : goal.loop-written-preserved
 loop-written-preserved c =
@@ -18,7 +18,7 @@ loop-written-preserved c =
     let k = length places - (c.loop-written.written + 1) in
     let same : length places - 1 - c.loop-written.written ≡ k = omega arith in
     let behind = links_of supply (edges_of ps (drop (length places - c.loop-written.written) places)) [] in
-    let added = c.in-Ok-add_link.ensures in
+    let added = c.in_ok-add_link.ensures in
     added ∙ ap (λ (ls : List Link). ls ++ link_list supply (ps (slice_index places (length places - 1 - c.loop-written.written)))) c.loop-written.invariant
     ∙ ap (λ (i : ℕ). behind ++ link_list supply (ps (slice_index places i))) same
     ∙ sym (links-next supply ps places k (length places - c.loop-written.written) (omega arith) (omega arith))

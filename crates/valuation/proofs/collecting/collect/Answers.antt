@@ -6,7 +6,7 @@ use Rattle.lot_base.specs.Box.{box, index_of}
 use Rattle.lot_base.proofs.Index.{length-box}
 use Rattle.valuation.proofs.collecting.collect.Goals as goal
 
-pub returns-in-Ok-collect_within : goal.returns-in-Ok-collect_within
-returns-in-Ok-collect_within c =
-    c.in-Ok-collect_within.ensures ∙ ap (λ xs. concat (filter (λ x. slice_index c.args.worth.now (index_of c.args.goods.now x) == c.args.best) xs))
+pub returns : goal.returns
+returns c =
+    c.in_ok-collect_within.ensures ∙ ap (λ xs. concat (filter (λ x. slice_index c.args.worth.now (index_of c.args.goods.now x) == c.args.best) xs))
     (take_all (length c.args.worth.now) (box c.args.goods.now) (let e = length-box c.args.goods.now in let w = c.requires in omega (arith, e, w)))

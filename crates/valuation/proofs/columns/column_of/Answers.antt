@@ -11,13 +11,13 @@ pub narrowed-requires : goal.narrowed-requires
 narrowed-requires c = λ place.
     let s = c.args.goods.now in
     let is : c.as_slice.result.now ≡ raised (zeros s) c.args.set.0 = c.as_slice.ensures.value ∙ c.raise.ensures ∙ (λ i. raised (c.zero.ensures i) c.args.set.0) in
-    let column = column-costs s c.as_slice.result.now c.in-Ok.costs.items c.args.set.0 c.count-count.ensures.supply.small is c.in-Ok.ensures in
+    let column = column-costs s c.as_slice.result.now c.in_ok-costs.costs.items c.args.set.0 c.count-count.ensures.supply.small is c.in_ok-costs.ensures in
     let small = column.small place in
-    let e : slice_index c.deref.result.now place ≡ slice_index c.in-Ok.costs.items place = (λ i. slice_index (c.deref.ensures.value i) place) in
+    let e : slice_index c.deref.result.now place ≡ slice_index c.in_ok-costs.costs.items place = (λ i. slice_index (c.deref.ensures.value i) place) in
     omega (arith, small, e)
 
-pub returns-in-Ok-narrowed : goal.returns-in-Ok-narrowed
-returns-in-Ok-narrowed c =
+pub returns : goal.returns
+returns c =
     let s = c.args.goods.now in
     let is : c.as_slice.result.now ≡ raised (zeros s) c.args.set.0 = c.as_slice.ensures.value ∙ c.raise.ensures ∙ (λ i. raised (c.zero.ensures i) c.args.set.0) in
-    subst (IsColumn s c.args.set.0) (sym (c.in-Ok-narrowed.ensures ∙ c.deref.ensures.value)) (column-costs s c.as_slice.result.now c.in-Ok.costs.items c.args.set.0 c.count-count.ensures.supply.small is c.in-Ok.ensures)
+    subst (IsColumn s c.args.set.0) (sym (c.in_ok-units.ensures ∙ c.deref.ensures.value)) (column-costs s c.as_slice.result.now c.in_ok-costs.costs.items c.args.set.0 c.count-count.ensures.supply.small is c.in_ok-costs.ensures)

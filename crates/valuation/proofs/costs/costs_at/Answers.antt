@@ -5,7 +5,7 @@ use Rattle.valuation.proofs.costs.costs_at.Goals as goal
 
 pub loop-step-init : goal.loop-step-init
 loop-step-init c =
-    costs-start c.args.goods.now c.args.prices.now _ (length c.args.goods.now - 0) (omega arith) (c.in-Ok-push.ensures.items ∙ ap (λ xs. xs ++ 0 ∷ []) c.in-Ok.ensures.items)
+    costs-start c.args.goods.now c.args.prices.now _ (length c.args.goods.now - 0) (omega arith) (c.in_ok-push.ensures.items ∙ ap (λ xs. xs ++ 0 ∷ []) c.in_ok-costs.ensures.items)
 
 pub spread-requires-clause-some : goal.spread-requires-clause-some
 spread-requires-clause-some c =
@@ -37,7 +37,7 @@ loop-step-preserved c =
     let P : ℕ → Type 0 = λ j. AreCostsFrom s p j c.loop-step.costs.items in
     let e : length s - c.loop-step.step ≡ k + 1 = omega arith in
     costs-next s p c.loop-step.costs.items c.spread.new.costs.items k c.supply.result c.price_at.result (omega arith) (c.supply.ensures ∙ ap (slice_index s) (omega arith)) (c.price_at.ensures ∙ ap (slice_index p) (omega arith))
-    c.count-step-end.ensures.supply.small (omega arith) c.in-Ok-spread.ensures (subst P e c.loop-step.invariant)
+    c.count-step-end.ensures.supply.small (omega arith) c.in_ok-spread.ensures (subst P e c.loop-step.invariant)
 
 pub returns : goal.returns
 returns c =

@@ -40,6 +40,6 @@ loop-place-preserved c =
     record {
       whole = search rules;
       high = omega arith;
-      each = rw c.in-Ok.ensures.items
+      each = rw c.in_ok-push.ensures.items
           (spread-next c.args.costs.now.items c.loop-place.costs.items size c.args.price place _ (omega arith) high whole c.loop-place.invariant.each (ap (λ n. n + c.args.price) (c.index.ensures ∙ get_or-any c.loop-place.costs.items (place - size) c.index.result.now 0 (omega arith))));
     }
