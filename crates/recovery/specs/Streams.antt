@@ -1,5 +1,5 @@
 -- The reports of a journal's file, given one after another.
-use Rattle.std.specs.Prelude.{◌≡◌, ℕ, ◌+◌, ◌≤◌, ◌<◌, List, [], ◌∷◌, ◌++◌, length, map, take, drop, Option, Some, None, IfSome, IsTrue, Result, Ok, Err}
+use Rattle.std.specs.Prelude.{◌≡◌, ℕ, ◌+◌, ◌≤◌, ◌<◌, List, [], ◌∷◌, ◌++◌, length, map, take, drop, slice_get, Option, Some, None, IfSome, IsTrue, Result, Ok, Err}
 use Rattle.house_io.specs.Disks.{DiskShown, is_told, told_moments}
 use Rattle.house_io.specs.Faults.{Rose}
 use Rattle.house_io.specs.Moments.{Moments, synced_at}
@@ -144,3 +144,16 @@ pub record IsReportAt (reader : ReportsOf) (place : Place) (r : Report) : Type 0
 -- the payload at this place is that of no report, where it was read whole
 abbrev pub HasNoReportAt : ReportsOf → Place → Type 0
 HasNoReportAt reader place = Covers reader.window place → (file : List ℕ) → IsWindow reader.window file → SpellsNone reader.owner.terms (payload_at file place)
+
+-- These are the payload of the next record, read ahead, and no broken record was met.
+pub record IsAhead (reader : ReportsOf) (payload : List ℕ) : Type 0 where
+  pub unbroken : reader.broken ≡ None
+  pub place : Place
+  pub next : slice_get (places_in reader.scan) reader.given ≡ Some place
+  pub long : place.length ≡ length payload
+  pub read : (file : List ℕ) → IsWindow reader.window file → payload_at file place ≡ payload
+
+-- The reader goes on as if it had answered this report, whatever its disk tells.
+pub record Passes (old new : ReportsOf) (r : Report) : Type 0 where
+  pub goes_on : GoesOn old new (Ok (next.Report r))
+  pub answers : (disk : DiskShown) (given : List Report) → HasGivenOf disk old given → AnswersOf disk new given (Ok (next.Report r))

@@ -1,11 +1,12 @@
 //! The reports of a journal's file, one after another.
-ghost use Rattle.std.specs.Prelude.{◌≡◌, ◌≤◌, [], List, ℕ, length, slice_get, IsTrue, IfOk, IfSome, IfNone, Some, None};
+ghost use Rattle.std.specs.Prelude.{◌≡◌, ◌<◌, ◌≤◌, ◌+◌, [], List, ℕ, length, slice_get, IsTrue, IfOk, IfSome, IfNone, Some, None};
 ghost use Rattle.house_io.specs.Disks.{IsLater, IfDiskTold};
 ghost use Rattle.demand_set.specs.declared.reports.Report.{Report as ReportValue};
 ghost use Rattle.report_journal.specs.Calls.{OnlyReads};
 ghost use Rattle.report_journal.specs.Scans.{IsScan, IsInOrder, places_in};
 ghost use Rattle.recovery.specs.Journaled.{owner_of};
-ghost use Rattle.recovery.specs.Streams.{HasBegun, IsReportAt, HasNoReportAt, damaged_in, AnswersAgain, GoesOn, CountsFaults, IsSyncedBy, HasGivenOf, AnswersOf};
+ghost use Rattle.recovery.specs.Entries.{Spells};
+ghost use Rattle.recovery.specs.Streams.{HasBegun, IsAhead, Passes, IsReportAt, HasNoReportAt, damaged_in, AnswersAgain, GoesOn, CountsFaults, IsSyncedBy, HasGivenOf, AnswersOf};
 
 use crate::entries::read_report;
 use crate::faults::{Broken, JournalCause, RecoverFault};
@@ -138,6 +139,31 @@ impl Reports {
                 Some(number) => Ok(self.break_off(number, JournalCause::Damaged)),
             },
         }
+    }
+
+    /// The payload of the next record, where it was read ahead whole and no record is broken. Takes no memory.
+    pub fn ahead(&self) -> Option<&[u8]>
+        ensures { IfSome result (λ payload. IsAhead self.now payload.now) }
+    {
+        if self.broken.is_some() {
+            return None;
+        }
+        let place = place_at(&self.scan, self.given)?;
+        if !self.window.has(place) {
+            return None;
+        }
+        Some(self.window.payload(place))
+    }
+
+    /// Passes over the next record, as if its report had been given.
+    pub fn pass(&mut self)
+        requires unbroken { self.old.broken ≡ None }
+        requires more { self.old.given < length (places_in self.old.scan) }
+        ensures next { self.new ≡ record self.old { given = self.old.given + 1 } }
+        ensures passes { (r : ReportValue) (payload : List ℕ) → IsAhead self.old payload → Spells self.old.owner.terms payload r
+            → Passes self.old self.new r }
+    {
+        self.given += 1;
     }
 
     /// The report at this place, which is the next one.
