@@ -1,4 +1,5 @@
 pub mod Taking
+pub mod PayloadsAgain
 pub mod Chained
 pub mod Sequences
 pub mod Shapes

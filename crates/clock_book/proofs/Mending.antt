@@ -139,7 +139,7 @@ module _ {D : Type 0} (j k : JournalOf D) (told told' : Type 0) (old new : Momen
         first = λ t. book.first (tells t);
       }
 
-  -- a report that the clock takes next is behind the others on the disk, and the clock took it
+  -- a report that the clock takes next is after the others on the disk, and the clock took it
   pub one-more : (m : NotedOf) (q : Report) (e : Entry) → IsNext n.clock q → k.pending ≡ None → k.end ≡ j.end + 5 + length (payload q) → j.spare + kept_for pending ≤ k.spare + 1
       → (told' → k.contents ≡ with_one_more j.contents (payload q)) → Call q → m.clock ≡ with_report n.clock q → m.history ≡ n.history ++ e ∷ [] → reports_in (e ∷ []) ≡ q ∷ [] → marks_in (e ∷ []) ≡ 0
       → n.spare_reports ≤ m.spare_reports + 1 → n.spare_quantities ≤ m.spare_quantities + length (concat q.demand) → IsBook k told' new faults' m None origin

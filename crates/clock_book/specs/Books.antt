@@ -42,7 +42,7 @@ pub record IsKept {D : Type 0} (shown : D → DiskShown) (b : BookOf D) : Type 0
   pub reports : reports_in b.state.history ≡ b.state.clock.reports
   -- one fault of the disk at least for each mark
   pub marks : min (marks_in b.state.history) (2 ^ 64 - 1) ≤ (shown b.disk).faults
-  -- the records and the gate behind them end within a file's limit
+  -- the records and the gate after them end within a file's limit
   pub limit : length (front (contents_of (owner_in b.origin) b.state.clock.reports)) + 1 ≤ GREATEST_FILE
   -- a report that is pending is one that the clock would take next, and in doubt by the desk's history
   pub next : IfSome b.state.pending (IsNext b.state.clock)

@@ -23,7 +23,7 @@ marks_in (Offered r ∷ entries) = marks_in entries
 marks_in (Counted r ∷ entries) = marks_in entries
 marks_in (Mark r ∷ entries) = 1 + marks_in entries
 
--- A mark of this report stands behind just so many reports: it was offered when the clock had these, and answered by a fault of the
+-- A mark of this report stands after just so many reports: it was offered when the clock had these, and answered by a fault of the
 -- disk.
 pub record IsMarkedBehind (history : List Entry) (count : ℕ) (r : Report) : Type 0 where
   pub before : List Entry

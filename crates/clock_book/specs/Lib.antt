@@ -1,4 +1,5 @@
 pub mod Opening
+pub mod Repeats
 pub mod DeskHistories
 pub mod Noted
 pub mod Past

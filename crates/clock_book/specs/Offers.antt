@@ -37,7 +37,7 @@ with_pending pending s = record { clock = s.clock; history = s.history; pending 
 abbrev pub IsMended : BookState → BookState → Type 0
 IsMended old new = (new ≡ with_pending None old) ⊎ ((q : Report) × (old.pending ≡ Some q) × (new ≡ counted old q))
 
--- the byte of a file where the gate of the next record lies, behind these reports in the owner's journal
+-- the byte of a file where the gate of the next record lies, after these reports in the owner's journal
 abbrev pub gate_behind : Owner → List Report → List ℕ → ℕ
 gate_behind owner reports file = slice_index file (length (front (contents_of owner reports)))
 

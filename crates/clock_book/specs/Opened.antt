@@ -70,7 +70,7 @@ pub record IsLaid {D : Type 0} (shown : D → DiskShown) (owner : Owner) (report
   pub steady : (shown j.disk).faults ≡ (shown old).faults
   pub leaves : IfDiskTold (shown old) (shown j.disk) (λ before after. AtEach (IsAsOpened owner before.now.read) before after)
 
--- a fault of the disk, or want of memory
+-- a fault of the disk, or out of memory
 abbrev pub IsFromOutside : OpenFault → Type 0
 IsFromOutside why.DiskFault = Unit {0}
 IsFromOutside why.NoMemory = Unit {0}

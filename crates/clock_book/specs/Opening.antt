@@ -46,7 +46,7 @@ pub record IsNotAcceptable (owner : Owner) (number : ℕ) (judgement : Judgement
   pub judged : judgement ≡ judgement_of (history_of owner before) report
   pub refused : judgement ≢ Take
 
--- what a file is read as, but for a fault of the disk and for want of memory
+-- what a file is read as, but for a fault of the disk and for memory that ran out
 abbrev pub IsOpening : Owner → List ℕ → Result ClockHistory OpenFault → Type 0
 IsOpening owner file (Ok c) = StandsForHistory owner c file
 IsOpening owner file (Err (why.Broken broken)) = BreaksOff owner broken file
@@ -78,7 +78,7 @@ CountsFaults before now (Ok answer) = now ≡ before
 CountsFaults before now (Err why.DiskFault) = (before ≤ now) × Rose before now
 CountsFaults before now (Err fault) = now ≡ before
 
--- the good sync with which a reading begins: but for a fault of the disk and for want of memory it was done
+-- the good sync with which a reading begins: but for a fault of the disk and for memory that ran out it was done
 abbrev pub IsSyncedBy : {T : Type 0} → Result T OpenFault → Moments → Moments → Type 0
 IsSyncedBy (Err why.DiskFault) old new = IsSynced old new
 IsSyncedBy (Err why.NoMemory) old new = IsSynced old new

@@ -9,6 +9,7 @@ mod noted;
 pub mod opening;
 mod origins;
 mod payloads;
+pub mod repeats;
 pub mod shared;
 pub mod starting;
 
@@ -17,5 +18,6 @@ pub use entries::{Entry, Note, Since};
 pub use faults::OpenFault;
 pub use opening::read_clock;
 pub use origins::Origin;
+pub use repeats::take_again;
 pub use shared::book_may_move;
 pub use starting::Unopened;

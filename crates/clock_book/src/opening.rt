@@ -10,6 +10,7 @@ ghost use Rattle.clock_book.specs.Opening.{history_of, IsHistoryOf, ReadsClock, 
 ghost use Rattle.clock_book.specs.Opened.{ReadsBook, KeepsRoom, IsFoundOn};
 
 use crate::faults::OpenFault;
+use crate::repeats::next_again;
 use clock::{Clock, Judgement};
 use demand_set::Report;
 use house_io::Disk;
@@ -66,6 +67,9 @@ pub(crate) fn read_into<D: Disk>(
     let mut taken = empty;
     let mut reader = Reports::begin(alloc, disk, terms, clock, digest)?;
     'reports: loop {
+        if next_again(alloc, terms, &mut taken, &mut reader)? {
+            continue;
+        }
         match reader.next(alloc, disk)? {
             Next::Report(report) => match take(alloc, &mut taken, report, reader.given()) {
                 Ok(()) => continue,
