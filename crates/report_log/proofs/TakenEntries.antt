@@ -42,7 +42,7 @@ whole-entry bytes payload rest size are cut =
     sym (take-append-drop 4 bytes) ∙ ap (λ others. take 4 bytes ++ others) (sym (take-append-drop size after)) ∙ sym (append_assoc (take 4 bytes) (take size after) (drop size after))
     ∙ (λ i. (sym front i ++ sym cut.payload_is i) ++ sym cut.rest_is i)
 
--- payloads that are written behind their lengths
+-- payloads that are written after their lengths
 same-payload : (p q more rest : List ℕ) → length p < 2 ^ 32 → length q < 2 ^ 32 → (big_bytes 4 (length p) ++ p) ++ more ≡ (big_bytes 4 (length q) ++ q) ++ rest → p ≡ q
 same-payload p q more rest small few e =
     let n : length p ≡ length q = sym (read_back 4 (length p) small) ∙ ap (λ bs. big_number 4 (take 4 bs)) e ∙ read_back 4 (length q) few in

@@ -4,7 +4,8 @@ use Rattle.lot_base.specs.Demands.{IsDemand}
 use Rattle.lot_base.specs.declared.auction_terms.Terms.{Terms}
 use Rattle.lot_base.specs.declared.limits.TheConstants.{GREATEST_PAYLOAD}
 use Rattle.demand_set.specs.declared.reports.Report.{Report}
-use Rattle.clock.specs.Reports.{ClockHistory}
+use Rattle.recovery.specs.Entries.{Spells}
+use Rattle.clock.specs.Reports.{ClockHistory, with_report}
 use Rattle.clock.specs.Judging.{judgement_of}
 use Rattle.clock.specs.declared.judging.Judgement.TheVariants.{Take}
 use Rattle.report_log.specs.Logs.{IsFaultyAt, IsLogOf, entry_of}
@@ -34,10 +35,28 @@ pub record IsUnfinished (terms : Terms) (c : ClockHistory) (bytes : List ℕ) : 
   pub short : length bytes < 4 + GREATEST_PAYLOAD
   pub no_entry : HasNoEntry terms c bytes
 
-abbrev pub IsFront : Terms → ClockHistory → List ℕ → Front → Type 0
-IsFront terms c bytes (front.Entry r rest) = IsEntry terms c bytes r rest.now
-IsFront terms c bytes front.Unfinished = IsUnfinished terms c bytes
-IsFront terms c bytes front.Faulty = IsFaulty terms c bytes
+-- a payload spells a report that is judged Take after a history; this is the history with it
+pub record Takes (terms : Terms) (c new : ClockHistory) (payload : List ℕ) : Type 0 where
+  pub report : Report
+  pub spells : Spells terms payload report
+  pub take : judgement_of c report ≡ Take
+  pub new_is : new ≡ with_report c report
+
+-- it spells no such report, and the history is as it was
+pub record TakesNone (terms : Terms) (c new : ClockHistory) (payload : List ℕ) : Type 0 where
+  pub none : (r : Report) → Spells terms payload r → judgement_of c r ≡ Take → ⊥
+  pub same : new ≡ c
+
+-- they begin with the entry of a report that is taken, and then come these bytes
+pub record TakesEntry (terms : Terms) (c new : ClockHistory) (bytes rest : List ℕ) : Type 0 where
+  pub report : Report
+  pub entry : IsEntry terms c bytes report rest
+  pub new_is : new ≡ with_report c report
+
+abbrev pub IsFront : Terms → ClockHistory → ClockHistory → List ℕ → Front → Type 0
+IsFront terms c new bytes (front.Entry rest) = TakesEntry terms c new bytes rest.now
+IsFront terms c new bytes front.Unfinished = IsUnfinished terms c bytes × (new ≡ c)
+IsFront terms c new bytes front.Faulty = IsFaulty terms c bytes × (new ≡ c)
 
 -- how many bytes are left
 abbrev pub left_of : Stop → ℕ

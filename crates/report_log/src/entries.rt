@@ -1,23 +1,19 @@
 //! Entries of reports at the front of a log's bytes.
-ghost use Rattle.std.specs.Prelude.{◌≡◌, ◌≤◌, ◌-◌, ℕ, List, length, drop, IfOk, OnOk, IfSome, IfNone};
-ghost use Rattle.demand_set.specs.declared.reports.Report.{Report as ReportValue};
-ghost use Rattle.recovery.specs.Entries.{Spells};
-ghost use Rattle.clock.specs.Judging.{judgement_of};
-ghost use Rattle.clock.specs.declared.judging.Judgement.TheVariants.{Take};
-ghost use Rattle.report_log.specs.Pieces.{IsFront, IsUpTo, StopsAt, left_of};
+ghost use Rattle.std.specs.Prelude.{◌≡◌, ◌≤◌, ◌-◌, ℕ, List, true, false, length, drop, IfOk, OnOk};
+ghost use Rattle.report_log.specs.Pieces.{IsFront, IsUpTo, StopsAt, Takes, TakesNone, left_of};
 
 use byte_numbers::number_of;
 use clock::{Clock, Judgement};
-use demand_set::Report;
+use clock_book::take_again;
 use lot_base::limits::GREATEST_PAYLOAD;
 use lot_base::{NoMemory, Terms};
 use recovery::read_report;
 use std::alloc::Global;
 
-/// What lies at the front of a log's bytes.
+/// What lay at the front of a log's bytes.
 pub(crate) enum Front<'a> {
-    /// The entry of a report that the clock takes, and the bytes after it.
-    Entry(Report, &'a [u8]),
+    /// The entry of a report, which the clock has taken; and the bytes after it.
+    Entry(&'a [u8]),
     /// The front of an entry at most.
     Unfinished,
     /// No entry of a report that the clock takes, whatever follows.
@@ -32,15 +28,15 @@ pub(crate) enum Stop {
     Faulty(usize),
 }
 
-/// What lies at the front of the bytes.
-fn next_entry<'a>(
+/// Takes the entry at the front of the bytes, if one of a report that the clock takes lies there.
+fn take_entry<'a>(
     alloc: Global,
     terms: &Terms,
-    clock: &Clock,
+    clock: &mut Clock,
     bytes: &'a [u8],
 ) -> Result<Front<'a>, NoMemory>
-    requires { clock.now.history.terms ≡ terms.now }
-    ensures { IfOk result (IsFront terms.now clock.now.history bytes.now) }
+    requires { clock.old.history.terms ≡ terms.now }
+    ensures { IfOk result (IsFront terms.now clock.old.history clock.new.history bytes.now) }
 {
     if bytes.len() < 4 {
         return Ok(Front::Unfinished);
@@ -54,32 +50,36 @@ fn next_entry<'a>(
         return Ok(Front::Unfinished);
     }
     let (payload, rest) = after.split_at(size);
-    match take_report(alloc, terms, clock, payload)? {
-        None => Ok(Front::Faulty),
-        Some(report) => Ok(Front::Entry(report, rest)),
+    if take_payload(alloc, terms, clock, payload)? {
+        Ok(Front::Entry(rest))
+    } else {
+        Ok(Front::Faulty)
     }
 }
 
-/// The report that a payload spells, if it spells one that the clock takes.
-fn take_report(
+/// Takes the report that a payload spells, if it spells one that the clock takes. One that repeats its bidder's last is taken unread.
+fn take_payload(
     alloc: Global,
     terms: &Terms,
-    clock: &Clock,
+    clock: &mut Clock,
     payload: &[u8],
-) -> Result<Option<Report>, NoMemory>
-    requires { clock.now.history.terms ≡ terms.now }
-    ensures some { IfOk result (λ o. IfSome o (Spells terms.now payload.now)) }
-    ensures take { IfOk result (λ o. IfSome o (λ r. judgement_of clock.now.history r ≡ Take)) }
-    ensures none { IfOk result (λ o. IfNone o
-        ((r : ReportValue) → Spells terms.now payload.now r → judgement_of clock.now.history r ≡ Take → ⊥)) }
+) -> Result<bool, NoMemory>
+    requires { clock.old.history.terms ≡ terms.now }
+    ensures some { IfOk result (λ taken. taken ≡ true → Takes terms.now clock.old.history clock.new.history payload.now) }
+    ensures none { IfOk result (λ taken. taken ≡ false → TakesNone terms.now clock.old.history clock.new.history payload.now) }
 {
-    let report = match read_report(alloc, terms, payload)? {
-        Some(report) => report,
-        None => return Ok(None),
+    if take_again(alloc, terms, clock, payload)? {
+        return Ok(true);
+    }
+    let Some(report) = read_report(alloc, terms, payload)? else {
+        return Ok(false);
     };
-    match clock.judge(report.bidder, report.round, &report.demand) {
-        Judgement::Take => Ok(Some(report)),
-        _ => Ok(None),
+    let Judgement::Take = clock.judge(report.bidder, report.round, &report.demand) else {
+        return Ok(false);
+    };
+    match clock.apply(alloc, report) {
+        Ok(()) => Ok(true),
+        Err(_) => Err(NoMemory),
     }
 }
 
@@ -99,14 +99,10 @@ pub(crate) fn take_entries(
 {
     let mut rest = bytes;
     'entries: loop {
-        match next_entry(alloc, terms, clock, rest) {
-            Err(NoMemory) => return Err(NoMemory),
-            Ok(Front::Unfinished) => return Ok(Stop::Unfinished(rest.len())),
-            Ok(Front::Faulty) => return Ok(Stop::Faulty(rest.len())),
-            Ok(Front::Entry(report, after)) => match clock.apply(alloc, report) {
-                Ok(()) => rest = after,
-                Err(_) => return Err(NoMemory),
-            },
+        match take_entry(alloc, terms, clock, rest)? {
+            Front::Unfinished => return Ok(Stop::Unfinished(rest.len())),
+            Front::Faulty => return Ok(Stop::Faulty(rest.len())),
+            Front::Entry(after) => rest = after,
         }
     }
 }
