@@ -1,10 +1,9 @@
 -- Places in lists of disks and desks.
-use Rattle.std.proofs.Common.{◌≡◌, inl, inr, ◌<◌, ℕ, zero, suc, ◌+◌, Bool, List, [], ◌∷◌, ◌++◌, length, drop, get_or, reverse, refl, sym, ◌∙◌, ap, subst, arith, length-append, length-drop}
+use Rattle.std.proofs.Common.{◌≡◌, inl, inr, ◌<◌, ℕ, zero, suc, ◌+◌, List, [], ◌∷◌, ◌++◌, length, drop, get_or, refl, sym, ◌∙◌, ap, subst, arith, length-append, length-drop}
 use Rattle.house_io.specs.Disks.{DiskShown}
-use Rattle.std.proofs.lemmas.List.{get_or_at, reverse-append, drop_more}
+use Rattle.std.proofs.lemmas.List.{get_or_at, get_or-drop, drop-drop}
 use Rattle.std.proofs.lemmas.Bool.{cases_lt}
 use Rattle.lot_base.specs.declared.auction_terms.Terms.{Terms}
-use Rattle.house_io.specs.Moments.{Moments}
 use Rattle.recovery.specs.Journaled.{owner_of}
 use Rattle.clock_book.specs.Opened.{IsUnopened}
 use Rattle.clock_book.specs.declared.faults.OpenFault.{OpenFault}
@@ -29,31 +28,19 @@ module _ {A : Type 0} where
   some-of [] k below = absurd (omega (arith, below))
   some-of (x ∷ xs) k below = x
 
-  -- the next of a list that lies reversed
+  -- the next of a list of which so many were taken
   pub record IsTaken (whole left : List A) (n : ℕ) (x : A) : Type 0 where
     pub within : n < length whole
     pub here : (d : A) → x ≡ get_or whole n d
-    pub rest : reverse left ≡ drop (n + 1) whole
+    pub rest : left ≡ drop (n + 1) whole
 
-  heads : (x y : A) (xs ys : List A) → x ∷ xs ≡ y ∷ ys → (x ≡ y) × (xs ≡ ys)
-  heads x y xs ys e = (ap (first x) e, ap (others xs) e)
-    where
-      first : A → List A → A
-      first d [] = d
-      first d (z ∷ zs) = z
-
-      others : List A → List A → List A
-      others d [] = d
-      others d (z ∷ zs) = zs
-
-  pub taken-next : (whole rest left : List A) (n : ℕ) (x : A) → rest ≡ left ++ x ∷ [] → reverse rest ≡ drop n whole → IsTaken whole left n x
-  taken-next whole rest left n x is back =
-      let e : x ∷ reverse left ≡ drop n whole = sym (reverse-append left (x ∷ [])) ∙ ap reverse (sym is) ∙ back in
-      let more : n < length whole = omega (arith, ap length e, length-drop n whole) in
+  pub taken-next : (whole left : List A) (n : ℕ) (x : A) → x ∷ left ≡ drop n whole → IsTaken whole left n x
+  taken-next whole left n x is =
+      let at : n + 0 ≡ n = omega arith in
       record {
-        within = more;
-        here = λ d. (heads x (get_or whole n d) (reverse left) (drop (n + 1) whole) (e ∙ drop_more whole n d more)).0;
-        rest = (heads x (get_or whole n x) (reverse left) (drop (n + 1) whole) (e ∙ drop_more whole n x more)).1;
+        within = omega (arith, ap length is, length-drop n whole);
+        here = λ d. ap (λ l. get_or l 0 d) is ∙ get_or-drop n whole 0 d ∙ ap (λ (k : ℕ). get_or whole k d) at;
+        rest = ap (λ l. drop 1 l) is ∙ drop-drop 1 n whole;
       }
 
 module _ {D : Type 0} (shown : D → DiskShown) (terms : Terms) (digest : List ℕ) (count : ℕ) where
@@ -76,12 +63,12 @@ module _ {D : Type 0} (shown : D → DiskShown) (terms : Terms) (digest : List �
 
   -- the disks are given back where one was not opened
   pub not-open : (disks left front new : List D) (laid : List (LaidOf D)) (n : ℕ) (disk back : D) (fault : OpenFault) → AreLaid shown terms digest count disks laid → length laid ≡ n → IsTaken disks left n disk
-      → IsUnopened shown (owner_of terms n digest) disk back fault → AreGivenBack shown laid front → new ≡ front ++ reverse (left ++ back ∷ []) → IsNotOpen shown terms digest disks new n fault
+      → IsUnopened shown (owner_of terms n digest) disk back fault → AreGivenBack shown laid front → new ≡ front ++ back ∷ left → IsNotOpen shown terms digest disks new n fault
   not-open disks left front new laid n disk back fault are size next unopened given is =
       let long : length front ≡ length laid = given-count shown laid front given in
       let suc-n : suc (length front) ≡ n + 1 = omega (arith, long, size) in
       let all : new ≡ front ++ back ∷ drop (suc (length front)) disks =
-      is ∙ ap (λ l. front ++ l) (reverse-append left (back ∷ [])) ∙ ap (λ l. front ++ back ∷ l) (next.rest ∙ ap (λ (k : ℕ). drop k disks) (sym suc-n)) in
+      is ∙ ap (λ l. front ++ back ∷ l) (next.rest ∙ ap (λ (k : ℕ). drop k disks) (sym suc-n)) in
       record {
         within = next.within;
         count = omega (arith, ap length all, length-append front (back ∷ drop (suc (length front)) disks), length-drop (suc (length front)) disks, suc-n, next.within);

@@ -1,13 +1,12 @@
 -- Desks at which nothing was made: the disks of their books stand as these say.
-use Rattle.std.proofs.Common.{◌≡◌, inl, inr, ◌<◌, ◌≤◌, ℕ, zero, suc, ◌+◌, Bool, ◌&&◌, List, [], ◌∷◌, ◌++◌, length, map, get_or, reverse, refl, sym, ◌∙◌, ap, subst, arith, length-append, append-nil, append_assoc}
-use Rattle.house_io.specs.Disks.{DiskShown, is_told, told_moments}
+use Rattle.std.proofs.Common.{◌≡◌, inl, inr, ◌<◌, ◌≤◌, ℕ, zero, suc, ◌+◌, ◌&&◌, List, [], ◌∷◌, ◌++◌, length, map, get_or, refl, sym, ◌∙◌, ap, subst, arith, length-append, append-nil, append_assoc}
+use Rattle.house_io.specs.Disks.{DiskShown, told_moments}
 use Rattle.std.specs.Prelude.{IsTrue, Option, Some, None, IfSome}
 use Rattle.std.specs.List.{AllByRecursion}
 use Rattle.std.proofs.lemmas.Bool.{cases_lt, le-leb, lt-ltb}
-use Rattle.std.proofs.lemmas.List.{reverse-append, reverse-reverse}
 use Rattle.demand_set.specs.declared.reports.Report.{Report}
 use Rattle.clock.specs.Reports.{ClockHistory}
-use Rattle.house_io.specs.Moments.{Moments, Leaves}
+use Rattle.house_io.specs.Moments.{Leaves}
 use Rattle.recovery.specs.Journaled.{Owner, owner_of}
 use Rattle.clock_book.specs.Opening.{history_of}
 use Rattle.clock_book.specs.Opened.{Opens}
@@ -83,13 +82,13 @@ empty-front [] ys none = refl
 empty-front (x ∷ xs) ys none = absurd (omega (arith, none))
 
 module _ {D : Type 0} (shown : D → DiskShown) (all : List (LaidOf D)) (rest : List D) where
-  -- the disks of the desks that are no longer left, the last first, after the rest
+  -- the disks of the desks that are no longer left, before the rest
   pub record AreTaken (left : List (LaidOf D)) (disks : List D) : Type 0 where
     pub gone : List (LaidOf D)
     pub front : List D
     pub split : all ≡ left ++ gone
     pub back : AreGivenBack shown gone front
-    pub behind : disks ≡ rest ++ reverse front
+    pub before : disks ≡ front ++ rest
 
   pub none-taken : (left : List (LaidOf D)) (disks : List D) → left ≡ all → disks ≡ rest → AreTaken left disks
   none-taken left disks whole same = record {
@@ -97,25 +96,25 @@ module _ {D : Type 0} (shown : D → DiskShown) (all : List (LaidOf D)) (rest : 
     front = [];
     split = sym whole ∙ sym (append-nil left);
     back = tt;
-    behind = same ∙ sym (append-nil rest);
+    before = same;
   }
 
   pub taken-more : (before left : List (LaidOf D)) (l : LaidOf D) (disks new : List D) (x : D) → AreTaken before disks → before ≡ left ++ l ∷ [] → IsGivenBack shown l.desk.book.origin l.desk.book.state.history x
-      → new ≡ disks ++ x ∷ [] → AreTaken left new
+      → new ≡ x ∷ disks → AreTaken left new
   taken-more before left l disks new x taken is back e = record {
     gone = l ∷ taken.gone;
     front = x ∷ taken.front;
     split = taken.split ∙ ap (λ z. z ++ taken.gone) is ∙ append_assoc left (l ∷ []) taken.gone;
     back = (back, taken.back);
-    behind = e ∙ ap (λ z. z ++ x ∷ []) taken.behind ∙ append_assoc rest (reverse taken.front) (x ∷ []) ∙ ap (λ z. rest ++ z) (sym (reverse-append (x ∷ []) taken.front));
+    before = e ∙ ap (λ z. x ∷ z) taken.before;
   }
 
-  pub all-taken : (left : List (LaidOf D)) (disks new : List D) → AreTaken left disks → length left ≡ 0 → new ≡ reverse disks → (front : List D) × AreGivenBack shown all front × (new ≡ front ++ reverse rest)
+  pub all-taken : (left : List (LaidOf D)) (disks new : List D) → AreTaken left disks → length left ≡ 0 → new ≡ disks → (front : List D) × AreGivenBack shown all front × (new ≡ front ++ rest)
   all-taken left disks new taken none e =
       let Back : List (LaidOf D) → Type 0 = λ ls. AreGivenBack shown ls taken.front in (
         taken.front,
         subst Back (sym (taken.split ∙ empty-front left taken.gone none)) taken.back,
-        e ∙ ap reverse taken.behind ∙ reverse-append rest (reverse taken.front) ∙ ap (λ z. z ++ reverse rest) (reverse-reverse taken.front),
+        e ∙ taken.before,
       )
 
 -- where each report is noted as offered, none is in doubt

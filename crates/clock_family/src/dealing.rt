@@ -17,6 +17,7 @@ use crate::laid::Laid;
 use crate::passes::ClockPass;
 use house_io::Disk;
 use std::alloc::{AllocError, Global};
+use std::collections::VecDeque;
 use turn_desk::{Desk, Pass};
 
 /// So many empty lists, each with room for so many.
@@ -99,7 +100,7 @@ fn deal_column<D: Disk>(
 
 /// Deals the passes of all desks out, and gives the desks.
 pub(crate) fn deal<D: Disk>(
-    mut laid: Vec<Laid<D>>,
+    laid: Vec<Laid<D>>,
     rows: &mut Vec<Vec<ClockPass<D>>>,
     mut desks: Vec<Desk<HouseBook<D>>>,
 ) -> Vec<Desk<HouseBook<D>>>
@@ -112,8 +113,8 @@ pub(crate) fn deal<D: Disk>(
 {
     let clocks = laid.len();
     let mut clock = 0;
-    laid.reverse();
-    while let Some(stand) = laid.pop() {
+    let mut laid = VecDeque::from_vec(laid);
+    while let Some(stand) = laid.pop_front() {
         let (desk, passes) = stand.into_parts();
         deal_column(passes, rows, clock, clocks);
         desks.push_reserved(desk);

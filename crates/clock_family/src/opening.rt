@@ -1,5 +1,6 @@
 //! How a house is opened: a desk for each clock.
-ghost use Rattle.std.specs.Prelude.{◌≡◌, ◌≤◌, ◌+◌, ◌++◌, List, length, reverse, vec_len, vec_capacity, IfOk, IfErr};
+ghost use Rattle.std.specs.Prelude.{◌≡◌, ◌≤◌, ◌+◌, ◌++◌, List, length, IfOk, IfErr};
+ghost use Rattle.std.specs.VecDeque.{deque_capacity};
 ghost use Rattle.recovery.specs.Journaled.{owner_of};
 ghost use Rattle.clock_book.specs.Opened.{IsUnopened};
 ghost use Rattle.std.specs.List.{AllByRecursion};
@@ -12,6 +13,7 @@ use clock_book::{ClockBook, OpenFault, Unopened};
 use house_io::Disk;
 use lot_base::Terms;
 use std::alloc::Global;
+use std::collections::VecDeque;
 use turn_desk::{Desk, NotMade};
 
 /// Opens the book of a clock, and lays it on a desk.
@@ -87,10 +89,9 @@ pub(crate) fn lay_all<D: Disk>(
             fault: OpenFault::NoMemory,
         });
     };
-    let mut rest = disks;
-    rest.reverse();
+    let mut rest = VecDeque::from_vec(disks);
     for clock in 0..terms.bidders + 1 {
-        let disk = rest.pop().unwrap();
+        let disk = rest.pop_front().unwrap();
         let Unopened { disk, fault } = match lay(alloc, disk, terms, clock, digest, passes) {
             Ok(stand) => {
                 laid.push_reserved(stand);
@@ -98,7 +99,7 @@ pub(crate) fn lay_all<D: Disk>(
             }
             Err(unopened) => unopened,
         };
-        rest.push_reserved(disk);
+        rest.push_front_reserved(disk);
         let disks = given_back(rest, laid);
         return Err(NotOpen {
             disks,
@@ -110,18 +111,17 @@ pub(crate) fn lay_all<D: Disk>(
     Ok(laid)
 }
 
-/// The disks in order: those of the desks, and then these, of which the last comes first.
-fn given_back<D: Disk>(rest: Vec<D>, laid: Vec<Laid<D>>) -> Vec<D>
-    requires room { length rest.items + length laid.items ≤ vec_capacity rest }
+/// The disks in order: those of the desks, and then these.
+fn given_back<D: Disk>(rest: VecDeque<D>, laid: Vec<Laid<D>>) -> Vec<D>
+    requires room { length rest.items + length laid.items ≤ deque_capacity rest }
     requires unused { AllByRecursion IsUnused laid.items }
-    ensures { (front : List D) × AreGivenBack D.shown laid.items front × (result.items ≡ front ++ reverse rest.items) }
+    ensures { (front : List D) × AreGivenBack D.shown laid.items front × (result.items ≡ front ++ rest.items) }
 {
     let mut disks = rest;
     let mut laid = laid;
     while let Some(stand) = laid.pop() {
-        disks.push_reserved(stand.into_disk());
+        disks.push_front_reserved(stand.into_disk());
     }
     laid.destroy_empty();
-    disks.reverse();
-    disks
+    disks.into_vec()
 }

@@ -1,6 +1,5 @@
-use Rattle.std.proofs.Common.{rules, arith, ◌≡◌, ℕ, ◌+◌, List, [], ◌∷◌, ◌++◌, ◌∙◌, ap, sym, subst, map, length, take, reverse, refl, length-append}
+use Rattle.std.proofs.Common.{rules, arith, ◌≡◌, ℕ, ◌+◌, List, [], ◌∷◌, ◌++◌, ◌∙◌, ap, sym, subst, map, length, take, refl}
 use Rattle.std.specs.List.{AllByRecursion}
-use Rattle.std.proofs.lemmas.List.{reverse-reverse}
 use Rattle.std.proofs.lemmas.List.{map-append, length-map, take_more, take_all}
 use Rattle.clock_book.specs.declared.entries.Entry.{Entry}
 use Rattle.clock_book.specs.declared.origins.Origin.{Origin}
@@ -20,7 +19,7 @@ loop-stand-init g c =
     record {
       within = search rules;
       whole = sym whole;
-      rest = ap reverse c.reverse.ensures.items ∙ reverse-reverse c.args.laid.items;
+      rest = c.from_vec-laid.ensures.items;
       desks = no-more c.args.desks.items c.requires.desks.empty;
       dealt = none-dealt [] (items_of c.args.rows.now.items) refl (spare-empty (length c.args.laid.items) c.args.rows.now.items c.requires.rows);
       many = refl;
@@ -32,8 +31,8 @@ pub deal_column-requires-clause-count : goal.deal_column-requires-clause-count
 deal_column-requires-clause-count g c =
     let i = c.loop-stand.invariant in
     let x = c.in-Some.stand in
-    let is : c.loop-stand.laid.items ≡ c.pop.new.self.items ++ x ∷ [] = search rules in
-    let next = taken-next c.args.laid.items c.loop-stand.laid.items c.pop.new.self.items c.loop-stand.clock x is i.rest in
+    let is : c.loop-stand.laid.items ≡ x ∷ c.pop_front.new.self.items = search rules in
+    let next = taken-next c.args.laid.items c.pop_front.new.self.items c.loop-stand.clock x (sym is ∙ i.rest) in
     let P : LaidOf g.row.D.Denot → Type 0 = λ l. length l.passes ≡ length c.args.rows.now.items in
     let fits = subst P (sym (next.here x)) (all-at P c.args.laid.items c.loop-stand.clock x next.within c.requires.passes) in
     ap length c.into_parts-desk.ensures.passes ∙ fits ∙ sym i.many
@@ -54,10 +53,9 @@ loop-stand-preserved g c =
     let m : ℕ = c.loop-stand.clock in
     let laid = c.args.laid.items in
     let rows = items_of c.loop-stand.rows.items in
-    let is : c.loop-stand.laid.items ≡ c.pop.new.self.items ++ x ∷ [] = search rules in
-    let next = taken-next laid c.loop-stand.laid.items c.pop.new.self.items m x is i.rest in
+    let is : c.loop-stand.laid.items ≡ x ∷ c.pop_front.new.self.items = search rules in
+    let next = taken-next laid c.pop_front.new.self.items m x (sym is ∙ i.rest) in
     let short = ap length is in
-    let both = length-append c.pop.new.self.items (x ∷ []) in
     let more : take (m + 1) laid ≡ take m laid ++ x ∷ [] = take_more laid m x next.within ∙ ap (λ z. take m laid ++ z ∷ []) (sym (next.here x)) in
     let P : LaidOf g.row.D.Denot → Type 0 = λ l. length l.passes ≡ length c.args.rows.now.items in
     let fits = subst P (sym (next.here x)) (all-at P laid m x next.within c.requires.passes) in
@@ -68,7 +66,7 @@ loop-stand-preserved g c =
     let Dealt : List (LaidOf g.row.D.Denot) → List (List (Known Entry Origin)) → Type 0 = λ ls rs. AreDealt ls rs in
     let on = dealt-more (take m laid) x rows i.dealt (wide ∙ i.many ∙ sym fits) in
     record {
-      within = (let w = i.within in omega (arith, w, short, both));
+      within = (let w = i.within in omega (arith, w, short));
       whole = i.whole;
       rest = next.rest;
       desks = c.push_reserved.ensures.items ∙ (λ k. i.desks k ++ c.into_parts-desk.ensures.desk k ∷ []) ∙ sym (map-append (λ (l : LaidOf g.row.D.Denot). l.desk) (take m laid) (x ∷ [])) ∙ ap (map (λ (l : LaidOf g.row.D.Denot). l.desk)) (sym more);

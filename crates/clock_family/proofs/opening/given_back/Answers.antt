@@ -21,15 +21,14 @@ loop-stand-preserved g c =
     let i = c.loop-stand.invariant in
     let is : c.loop-stand.laid.items ≡ c.pop.new.self.items ++ c.in-Some.stand ∷ [] = search rules in
     let shorter = length-append c.pop.new.self.items (c.in-Some.stand ∷ []) in
-    let longer = length-append c.loop-stand.disks.items (c.into_disk.result ∷ []) in
     record {
-      taken = taken-more g.D.Disk.shown c.args.laid.items c.args.rest.items c.loop-stand.laid.items c.pop.new.self.items c.in-Some.stand c.loop-stand.disks.items c.push_reserved.new.self.items c.into_disk.result
-          i.taken is c.into_disk.ensures.given_back c.push_reserved.ensures.items;
+      taken = taken-more g.D.Disk.shown c.args.laid.items c.args.rest.items c.loop-stand.laid.items c.pop.new.self.items c.in-Some.stand c.loop-stand.disks.items c.push_front_reserved.new.self.items c.into_disk.result
+          i.taken is c.into_disk.ensures.given_back c.push_front_reserved.ensures.items;
       unused = (all-popped (IsUnused {D = g.row.D.Denot}) c.loop-stand.laid.items c.pop.new.self.items c.in-Some.stand is i.unused).0;
-      room = omega (arith, i.room, ap length is, ap length c.push_reserved.ensures.items, shorter, longer, c.push_reserved.ensures.capacity);
+      room = omega (arith, i.room, ap length is, ap length c.push_front_reserved.ensures.items, shorter, c.push_front_reserved.ensures.capacity);
     }
 
 pub returns : goal.returns
 returns g c =
     let none : length c.loop-stand.laid.items ≡ 0 = search rules in
-    all-taken g.D.Disk.shown c.args.laid.items c.args.rest.items c.loop-stand.laid.items c.loop-stand.disks.items c.reverse.new.self.items c.loop-stand.invariant.taken none c.reverse.ensures.items
+    all-taken g.D.Disk.shown c.args.laid.items c.args.rest.items c.loop-stand.laid.items c.loop-stand.disks.items c.into_vec.result.items c.loop-stand.invariant.taken none c.into_vec.ensures.items
