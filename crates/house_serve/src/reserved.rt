@@ -7,6 +7,7 @@ use crate::ends::SessionEnd;
 use crate::houses::DoorLog;
 use lot_base::NoMemory;
 use std::alloc::Global;
+use std::collections::VecDeque;
 
 /// Lists that are empty, with room for an element of each door.
 pub(crate) struct Reserved<P, R> {
@@ -89,16 +90,13 @@ pub(crate) fn seat_all<P, R>(
     ensures doors { map (λ c. c.door) result.items ≡ doors.items }
     ensures notes { map (λ c. c.ends) result.items ≡ notes.items }
 {
-    let mut passes = passes;
-    let mut doors = doors;
-    let mut notes = notes;
+    let mut passes = VecDeque::from_vec(passes);
+    let mut doors = VecDeque::from_vec(doors);
+    let mut notes = VecDeque::from_vec(notes);
     let mut booths = booths;
-    passes.reverse();
-    doors.reverse();
-    notes.reverse();
-    while let Some(pass) = passes.pop() {
-        let door = doors.pop().unwrap();
-        let ends = notes.pop().unwrap();
+    while let Some(pass) = passes.pop_front() {
+        let door = doors.pop_front().unwrap();
+        let ends = notes.pop_front().unwrap();
         booths.push_reserved(Booth {
             pass,
             door,
@@ -122,11 +120,10 @@ pub(crate) fn unseat_all<P, R>(
     ensures passes { result.0.items ≡ map (λ c. c.pass) booths.items }
     ensures logs { result.1.items ≡ map log_of booths.items }
 {
-    let mut booths = booths;
+    let mut booths = VecDeque::from_vec(booths);
     let mut rows = rows;
     let mut logs = logs;
-    booths.reverse();
-    while let Some(booth) = booths.pop() {
+    while let Some(booth) = booths.pop_front() {
         let Booth {
             pass,
             door,
