@@ -1,7 +1,7 @@
 -- Places in lists of disks, books and clocks.
-use Rattle.std.proofs.Common.{◌≡◌, ◌<◌, ℕ, zero, suc, ◌+◌, List, [], ◌∷◌, ◌++◌, length, take, drop, get_or, slice_get, reverse, Some, refl, sym, ◌∙◌, ap, arith, length-drop}
+use Rattle.std.proofs.Common.{◌≡◌, ◌<◌, ℕ, zero, suc, ◌+◌, List, [], ◌∷◌, ◌++◌, length, take, drop, get_or, slice_get, Some, refl, sym, ◌∙◌, ap, arith, length-drop}
 use Rattle.std.specs.List.{AllByRecursion}
-use Rattle.std.proofs.lemmas.List.{get_or-map, reverse-append, take-append-drop, take_more, drop_more, append-nil}
+use Rattle.std.proofs.lemmas.List.{get_or-map, get_or-drop, drop-drop, take-append-drop, take_more, drop_more, append-nil}
 use Rattle.std.proofs.lemmas.Option.{slice_get_within, get_or_from_slice_get}
 use Rattle.clock.specs.Reports.{ClockHistory, ClockOf, histories}
 use Rattle.clock_book.specs.Books.{BookOf}
@@ -36,7 +36,7 @@ module _ {A : Type 0} where
   get-past (z ∷ front) y [] (suc k) d past = get-past front y [] k d (omega (arith, past))
   get-past (z ∷ front) y (x ∷ ds) (suc k) d past = get-past front y ds k d (omega (arith, past))
 
-  pub no-more : (xs ys : List A) → length ys ≡ 0 → xs ++ reverse ys ≡ xs
+  pub no-more : (xs ys : List A) → length ys ≡ 0 → xs ++ ys ≡ xs
   no-more xs [] none = append-nil xs
   no-more xs (y ∷ ys) none = absurd (omega (arith, none))
 
@@ -51,31 +51,19 @@ module _ {A : Type 0} where
       let within = slice_get_within xs n x at in
       sym (take_more xs n x within ∙ ap (λ y. take n xs ++ y ∷ []) (get_or_from_slice_get xs n x x at))
 
-  -- the next of a list that lies reversed
+  -- the next of a list of which so many were taken
   pub record IsTaken (whole left : List A) (n : ℕ) (x : A) : Type 0 where
     pub within : n < length whole
     pub here : (d : A) → x ≡ get_or whole n d
-    pub rest : reverse left ≡ drop (n + 1) whole
+    pub rest : left ≡ drop (n + 1) whole
 
-  heads : (x y : A) (xs ys : List A) → x ∷ xs ≡ y ∷ ys → (x ≡ y) × (xs ≡ ys)
-  heads x y xs ys e = (ap (first x) e, ap (others xs) e)
-    where
-      first : A → List A → A
-      first d [] = d
-      first d (z ∷ zs) = z
-
-      others : List A → List A → List A
-      others d [] = d
-      others d (z ∷ zs) = zs
-
-  pub taken-next : (whole rest left : List A) (n : ℕ) (x : A) → rest ≡ left ++ x ∷ [] → reverse rest ≡ drop n whole → IsTaken whole left n x
-  taken-next whole rest left n x is back =
-      let e : x ∷ reverse left ≡ drop n whole = sym (reverse-append left (x ∷ [])) ∙ ap reverse (sym is) ∙ back in
-      let more : n < length whole = omega (arith, ap length e, length-drop n whole) in
+  pub taken-next : (whole left : List A) (n : ℕ) (x : A) → x ∷ left ≡ drop n whole → IsTaken whole left n x
+  taken-next whole left n x is =
+      let at : n + 0 ≡ n = omega arith in
       record {
-        within = more;
-        here = λ d. (heads x (get_or whole n d) (reverse left) (drop (n + 1) whole) (e ∙ drop_more whole n d more)).0;
-        rest = (heads x (get_or whole n x) (reverse left) (drop (n + 1) whole) (e ∙ drop_more whole n x more)).1;
+        within = omega (arith, ap length is, length-drop n whole);
+        here = λ d. ap (λ l. get_or l 0 d) is ∙ get_or-drop n whole 0 d ∙ ap (λ (k : ℕ). get_or whole k d) at;
+        rest = ap (λ l. drop 1 l) is ∙ drop-drop 1 n whole;
       }
 
 -- the history of a clock in a list of clocks

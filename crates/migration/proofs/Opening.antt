@@ -1,11 +1,11 @@
 -- Books that were opened on the targets, and targets of which one was refused.
-use Rattle.std.proofs.Common.{◌≡◌, ◌⊎◌, inl, inr, ◌<◌, ◌≤◌, ℕ, suc, ◌+◌, Bool, IsTrue, List, [], ◌∷◌, ◌++◌, length, drop, get_or, reverse, Err, refl, sym, ◌∙◌, ap, subst, arith, length-append, length-drop}
+use Rattle.std.proofs.Common.{◌≡◌, ◌⊎◌, inl, inr, ◌<◌, ◌≤◌, ℕ, suc, ◌+◌, IsTrue, List, [], ◌∷◌, ◌++◌, length, drop, get_or, Err, refl, sym, ◌∙◌, ap, subst, arith, length-append, length-drop}
 use Rattle.std.proofs.lemmas.Bool.{true≢false}
 use Rattle.house_io.specs.Disks.{DiskShown, is_told, told_moments}
 use Rattle.std.proofs.lemmas.Bool.{cases_lt}
-use Rattle.std.proofs.lemmas.List.{get_or_at, reverse-append, length-map}
+use Rattle.std.proofs.lemmas.List.{get_or_at, length-map}
 use Rattle.lot_base.specs.declared.auction_terms.Terms.{Terms}
-use Rattle.house_io.specs.Moments.{Moments, AtEach, synced_at}
+use Rattle.house_io.specs.Moments.{AtEach, synced_at}
 use Rattle.clock.specs.Reports.{ClockHistory}
 use Rattle.recovery.specs.Journaled.{owner_of}
 use Rattle.clock_book.specs.Past.{IsAsOpened}
@@ -46,14 +46,14 @@ module _ {D : Type 0} (shown : D → DiskShown) (terms : Terms) (digest : List �
   counts-at n why.NoMemory before now counts = inl counts
 
   module _ (disks left : List D) (books : List (BookOf D)) (n : ℕ) (disk back : D) (fault : OpenFault) (are : AreOpen shown terms digest disks books) (size : length books ≡ n) (next : IsTaken disks left n disk)
-      (unopened : IsUnopened shown (owner_of terms n digest) disk back fault) (new : List D) (is : new ≡ disks_of books ++ reverse (left ++ back ∷ [])) where
+      (unopened : IsUnopened shown (owner_of terms n digest) disk back fault) (new : List D) (is : new ≡ disks_of books ++ back ∷ left) where
     long : length (disks_of books) ≡ n
     long = length-map books (λ (b : BookOf D). b.disk) ∙ size
 
     whole : new ≡ disks_of books ++ back ∷ drop (suc (length (disks_of books))) disks
     whole =
         let suc-n : n + 1 ≡ suc (length (disks_of books)) = omega (arith, long) in
-        is ∙ ap (λ l. disks_of books ++ l) (reverse-append left (back ∷ [])) ∙ ap (λ l. disks_of books ++ back ∷ l) (next.rest ∙ ap (λ (k : ℕ). drop k disks) suc-n)
+        is ∙ ap (λ l. disks_of books ++ back ∷ l) (next.rest ∙ ap (λ (k : ℕ). drop k disks) suc-n)
 
     new-before : (k : ℕ) (b : BookOf D) (d : D) → k < n → get_or new k d ≡ (get_or books k b).disk
     new-before k b d less =

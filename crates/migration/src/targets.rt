@@ -1,5 +1,6 @@
 //! Books on the targets.
-ghost use Rattle.std.specs.Prelude.{◌≡◌, ◌+◌, ◌≤◌, ◌++◌, List, length, map, reverse, vec_capacity, IfOk, IfErr, Err};
+ghost use Rattle.std.specs.Prelude.{◌≡◌, ◌+◌, ◌≤◌, ◌++◌, List, length, map, IfOk, IfErr, Err};
+ghost use Rattle.std.specs.VecDeque.{deque_capacity};
 ghost use Rattle.clock.specs.Reports.{ClockHistory};
 ghost use Rattle.clock_book.specs.Books.{BookOf};
 ghost use Rattle.migration.specs.Targets.{AreOpen, disks_of};
@@ -10,6 +11,7 @@ use clock_book::{ClockBook, Unopened};
 use house_io::Disk;
 use lot_base::Terms;
 use std::alloc::Global;
+use std::collections::VecDeque;
 
 /// The targets, given back in the order of the clocks, where not all books were opened, with the reason.
 pub(crate) struct GivenBack<D> {
@@ -19,12 +21,12 @@ pub(crate) struct GivenBack<D> {
     pub(crate) fault: MoveFault,
 }
 
-/// The books on the targets, in the order of the clocks, with an empty list that has room for the disks.
+/// The books on the targets, in the order of the clocks, with an empty queue that has room for the disks.
 pub(crate) struct Targets<D: Disk> {
     /// Clock 0's first: one for each target.
     pub(crate) books: Vec<ClockBook<D>>,
-    /// An empty list. A disk of each book fits in it.
-    pub(crate) room: Vec<D>,
+    /// An empty queue. A disk of each book fits in it.
+    pub(crate) room: VecDeque<D>,
 }
 
 /// Opens a book on each target, clock by clock. Where one is refused, the books before it are closed.
@@ -37,7 +39,7 @@ pub(crate) fn open_books<D: Disk>(
     requires { length disks.items ≡ terms.now.bidders + 1 }
     ensures ok { IfOk result (λ o. AreOpen D.shown terms.now digest.now disks.items o.books.items) }
     ensures count { IfOk result (λ o. length o.books.items ≡ length disks.items) }
-    ensures room { IfOk result (λ o. (length o.room.items ≡ 0) × (length disks.items ≤ vec_capacity o.room)) }
+    ensures room { IfOk result (λ o. (length o.room.items ≡ 0) × (length disks.items ≤ deque_capacity o.room)) }
     ensures err { IfErr result (λ e. (clocks : List ClockHistory)
         → Moves D.shown terms.now digest.now clocks disks.items e.disks.items (Err e.fault)) }
 {
@@ -47,10 +49,9 @@ pub(crate) fn open_books<D: Disk>(
             fault: MoveFault::NoMemory,
         });
     };
-    let mut rest = disks;
-    rest.reverse();
+    let mut rest = VecDeque::from_vec(disks);
     for clock in 0..terms.bidders + 1 {
-        let disk = rest.pop().unwrap();
+        let disk = rest.pop_front().unwrap();
         let Unopened { disk, fault } = match ClockBook::open(alloc, disk, terms, clock, digest) {
             Ok(book) => {
                 books.push_reserved(book);
@@ -58,7 +59,7 @@ pub(crate) fn open_books<D: Disk>(
             }
             Err(unopened) => unopened,
         };
-        rest.push_reserved(disk);
+        rest.push_front_reserved(disk);
         let disks = close_books(books, rest);
         return Err(GivenBack {
             disks,
@@ -68,18 +69,17 @@ pub(crate) fn open_books<D: Disk>(
     Ok(Targets { books, room: rest })
 }
 
-/// The disks in order: those of the books, and then these, of which the last comes first. Takes no memory.
-pub(crate) fn close_books<D: Disk>(books: Vec<ClockBook<D>>, disks: Vec<D>) -> Vec<D>
-    requires { length disks.items + length books.items ≤ vec_capacity disks }
-    ensures { result.items ≡ disks_of books.items ++ reverse disks.items }
+/// The disks in order: those of the books, and then these. Takes no memory.
+pub(crate) fn close_books<D: Disk>(books: Vec<ClockBook<D>>, disks: VecDeque<D>) -> Vec<D>
+    requires { length disks.items + length books.items ≤ deque_capacity disks }
+    ensures { result.items ≡ disks_of books.items ++ disks.items }
 {
     let mut disks = disks;
     let mut books = books;
     while let Some(book) = books.pop() {
         let (_clock, disk) = book.into_parts();
-        disks.push_reserved(disk);
+        disks.push_front_reserved(disk);
     }
     books.destroy_empty();
-    disks.reverse();
-    disks
+    disks.into_vec()
 }
