@@ -1,11 +1,11 @@
 -- The journals of an auction's clocks are opened one after another, and given back one after another.
-use Rattle.std.proofs.Common.{if◌then◌else◌, ◌≡◌, ◌≢◌, ◌∙◌, ◌<◌, ◌≤◌, ◌+◌, ◌++◌, ℕ, suc, List, [], ◌∷◌, length, get_or, reverse, Option, Some, None, Err, arith, inl, inr, refl, sym, ap, subst, append_assoc, length-append, option_map, unwrap_or}
+use Rattle.std.proofs.Common.{if◌then◌else◌, ◌≡◌, ◌≢◌, ◌∙◌, ◌<◌, ◌≤◌, ◌+◌, ◌++◌, ℕ, suc, List, [], ◌∷◌, length, get_or, Option, Some, None, Err, arith, inl, inr, refl, sym, ap, subst, append_assoc, length-append, option_map, unwrap_or}
 use Rattle.house_io.specs.Disks.{DiskShown, IsFresh, told_moments}
 use Rattle.std.specs.Prelude.{String, string_bytes, Contains}
 use Rattle.std.specs.declared.alloc.Global.{Global}
 use Rattle.std.specs.List.{AllByRecursion}
 use Rattle.std.proofs.lemmas.Bool.{cases_lt}
-use Rattle.std.proofs.lemmas.List.{get_or_append_left, get_or_at, reverse-append}
+use Rattle.std.proofs.lemmas.List.{get_or_append_left, get_or_at}
 use Rattle.std.proofs.lemmas.List.Elements.{All-from_recursion}
 use Rattle.house_io.specs.Faults.{Rose, raised_by}
 use Rattle.house_io.specs.Moments.{Moments, opened}
@@ -334,13 +334,12 @@ pub record Opening {D : Type 0} (shown : D → DiskShown) (names : List (String 
 
 pub record Closing {D : Type 0} (shown : D → DiskShown) (names : List (String Global)) (disks rest : List D) (clock : ℕ) (shelf : ShelfSeen) : Type 0 where
   pub front : List D
-  pub disks_are : disks ≡ front ++ reverse rest
+  pub disks_are : disks ≡ front ++ rest
   pub count : length front ≡ clock
   pub left : clock + length rest ≡ length names
   pub same : shelf.opened ≡ shelf.opened_before
   pub given : (journals : List ℕ) → AreNames journals names → AreGivenBack shown journals front shelf
 
--- the next of a list that lies reversed
-pub next-of : {D : Type 0} (disks front rest left : List D) (disk : D) → rest ≡ left ++ disk ∷ [] → disks ≡ front ++ reverse rest → disks ≡ (front ++ disk ∷ []) ++ reverse left
-next-of disks front rest left disk is are =
-    are ∙ ap (λ l. front ++ reverse l) is ∙ ap (λ l. front ++ l) (reverse-append left (disk ∷ [])) ∙ sym (append_assoc front (disk ∷ []) (reverse left))
+-- the next of a list
+pub next-of : {D : Type 0} (disks front rest left : List D) (disk : D) → rest ≡ disk ∷ left → disks ≡ front ++ rest → disks ≡ (front ++ disk ∷ []) ++ left
+next-of disks front rest left disk is are = are ∙ ap (λ l. front ++ l) is ∙ sym (append_assoc front (disk ∷ []) left)

@@ -1,8 +1,8 @@
 -- Doors and books are given back one after another.
-use Rattle.std.proofs.Common.{◌≡◌, ◌∙◌, ◌≤◌, ◌-◌, ◌++◌, ℕ, List, [], ◌∷◌, length, map, reverse, Option, Some, None, arith, refl, sym, ap, subst, append_assoc, length-append}
+use Rattle.std.proofs.Common.{◌≡◌, ◌∙◌, ◌≤◌, ◌-◌, ◌++◌, ℕ, List, [], ◌∷◌, length, map, Option, Some, None, arith, refl, sym, ap, subst, append_assoc, length-append}
 use Rattle.house_io.specs.Disks.{DiskShown}
 use Rattle.std.specs.List.{AllByRecursion}
-use Rattle.std.proofs.lemmas.List.{append-nil, map-append, reverse-append}
+use Rattle.std.proofs.lemmas.List.{append-nil, map-append}
 use Rattle.house_io.specs.Faults.{raised_by}
 use Rattle.house_io.specs.Nets.{NetLists, TakesDoor}
 use Rattle.house_io.specs.Told.{IfTold}
@@ -63,61 +63,60 @@ one-taken front door a b c first takes few =
 -- before a door is given back
 pub record DoorsBack {D L : Type 0} (faults : D → ℕ) (doors rest : List D) (told_before told : Option (NetLists D L)) (counted_before counted : ℕ) : Type 0 where
   pub front : List D
-  pub are : doors ≡ front ++ reverse rest
+  pub are : doors ≡ front ++ rest
   pub lists : IfTold told_before told (TakesAll front)
   pub counts : counted ≡ raised_by_all counted_before (map faults front)
 
-turned : {A : Type 0} (all front rest left : List A) (one : A) → rest ≡ left ++ one ∷ [] → all ≡ front ++ reverse rest → all ≡ (front ++ one ∷ []) ++ reverse left
-turned all front rest left one is are =
-    are ∙ ap (λ l. front ++ reverse l) is ∙ ap (λ l. front ++ l) (reverse-append left (one ∷ [])) ∙ sym (append_assoc front (one ∷ []) (reverse left))
+one-further : {A : Type 0} (all front rest left : List A) (one : A) → rest ≡ one ∷ left → all ≡ front ++ rest → all ≡ (front ++ one ∷ []) ++ left
+one-further all front rest left one is are = are ∙ ap (λ l. front ++ l) is ∙ sym (append_assoc front (one ∷ []) left)
 
-pub doors-begun : {D L : Type 0} (faults : D → ℕ) (doors rest : List D) (told : Option (NetLists D L)) (counted : ℕ) → doors ≡ reverse rest → DoorsBack faults doors rest told told counted counted
+pub doors-begun : {D L : Type 0} (faults : D → ℕ) (doors rest : List D) (told : Option (NetLists D L)) (counted : ℕ) → doors ≡ rest → DoorsBack faults doors rest told told counted counted
 doors-begun faults doors rest told counted are = record { front = []; are = are; lists = told-same (TakesAll []) told none-taken; counts = refl }
 
 pub doors-more : {D L : Type 0} (faults : D → ℕ) (doors rest left : List D) (door : D) (before between after : Option (NetLists D L)) (counted_before counted counted_after : ℕ)
-    → rest ≡ left ++ door ∷ [] → DoorsBack faults doors rest before between counted_before counted → IfTold between after (TakesDoor door) → counted_after ≡ raised_by counted (faults door)
+    → rest ≡ door ∷ left → DoorsBack faults doors rest before between counted_before counted → IfTold between after (TakesDoor door) → counted_after ≡ raised_by counted (faults door)
     → DoorsBack faults doors left before after counted_before counted_after
 doors-more faults doors rest left door before between after counted_before counted counted_after is back takes raised = record {
   front = back.front ++ door ∷ [];
-  are = turned doors back.front rest left door is back.are;
+  are = one-further doors back.front rest left door is back.are;
   lists = told-then (TakesAll back.front) (TakesDoor door) (TakesAll (back.front ++ door ∷ [])) before between after (one-taken back.front door) back.lists takes;
   counts =
       raised ∙ ap (λ n. raised_by n (faults door)) back.counts ∙ sym (raised-push counted_before (faults door) (map faults back.front))
       ∙ ap (raised_by_all counted_before) (sym (map-append faults back.front (door ∷ [])));
 }
 
-whole : {A : Type 0} (all front : List A) → all ≡ front ++ reverse [] → front ≡ all
+whole : {A : Type 0} (all front : List A) → all ≡ front ++ [] → front ≡ all
 whole all front are = sym (are ∙ append-nil front)
 
 pub doors-lists : {D L : Type 0} (faults : D → ℕ) (doors rest : List D) (before after : Option (NetLists D L)) (counted_before counted : ℕ) → rest ≡ [] → DoorsBack faults doors rest before after counted_before counted → IfTold before after (TakesAll doors)
 doors-lists faults doors rest before after counted_before counted none back =
-    subst (λ ds. IfTold before after (TakesAll ds)) (whole doors back.front (back.are ∙ ap (λ l. back.front ++ reverse l) none)) back.lists
+    subst (λ ds. IfTold before after (TakesAll ds)) (whole doors back.front (back.are ∙ ap (λ l. back.front ++ l) none)) back.lists
 
 pub doors-counts : {D L : Type 0} (faults : D → ℕ) (doors rest : List D) (before after : Option (NetLists D L)) (counted_before counted : ℕ) → rest ≡ [] → DoorsBack faults doors rest before after counted_before counted
     → counted ≡ raised_by_all counted_before (map faults doors)
 doors-counts faults doors rest before after counted_before counted none back =
-    back.counts ∙ ap (λ ds. raised_by_all counted_before (map faults ds)) (whole doors back.front (back.are ∙ ap (λ l. back.front ++ reverse l) none))
+    back.counts ∙ ap (λ ds. raised_by_all counted_before (map faults ds)) (whole doors back.front (back.are ∙ ap (λ l. back.front ++ l) none))
 
 -- books
 
 -- before a book is taken apart
 pub record BooksApart {D : Type 0} (shown : D → DiskShown) (books rest : List (BookOf D)) (clocks : List ClockOf) (disks : List D) : Type 0 where
   pub front : List (BookOf D)
-  pub are : books ≡ front ++ reverse rest
+  pub are : books ≡ front ++ rest
   pub clocks_are : histories clocks ≡ map (λ (b : BookOf D). b.state.clock) front
   pub disks_are : disks ≡ map (λ (b : BookOf D). b.disk) front
   pub kept : AllByRecursion (λ (b : BookOf D). IsKept shown b) front
 
 module _ {D : Type 0} (shown : D → DiskShown) where
-  pub books-begun : (books rest : List (BookOf D)) (clocks : List ClockOf) (disks : List D) → books ≡ reverse rest → clocks ≡ [] → disks ≡ [] → BooksApart shown books rest clocks disks
+  pub books-begun : (books rest : List (BookOf D)) (clocks : List ClockOf) (disks : List D) → books ≡ rest → clocks ≡ [] → disks ≡ [] → BooksApart shown books rest clocks disks
   books-begun books rest clocks disks are none empty = record { front = []; are = are; clocks_are = ap histories none; disks_are = empty; kept = tt }
 
-  pub books-more : (books rest left : List (BookOf D)) (book : BookOf D) (clocks clocks_then : List ClockOf) (clock : ClockOf) (disks disks_then : List D) (disk : D) → rest ≡ left ++ book ∷ [] → BooksApart shown books rest clocks disks
+  pub books-more : (books rest left : List (BookOf D)) (book : BookOf D) (clocks clocks_then : List ClockOf) (clock : ClockOf) (disks disks_then : List D) (disk : D) → rest ≡ book ∷ left → BooksApart shown books rest clocks disks
       → IsKept shown book → clock.history ≡ book.state.clock → disk ≡ book.disk → clocks_then ≡ clocks ++ clock ∷ [] → disks_then ≡ disks ++ disk ∷ []
       → BooksApart shown books left clocks_then disks_then
   books-more books rest left book clocks clocks_then clock disks disks_then disk is apart kept history same clocks_more disks_more = record {
     front = apart.front ++ book ∷ [];
-    are = turned books apart.front rest left book is apart.are;
+    are = one-further books apart.front rest left book is apart.are;
     clocks_are =
         ap histories clocks_more ∙ map-append (λ (c : ClockOf). c.history) clocks (clock ∷ []) ∙ (λ i. apart.clocks_are i ++ history i ∷ []) ∙ sym (map-append (λ (b : BookOf D). b.state.clock) apart.front (book ∷ []));
     disks_are = disks_more ∙ (λ i. apart.disks_are i ++ same i ∷ []) ∙ sym (map-append (λ (b : BookOf D). b.disk) apart.front (book ∷ []));
@@ -131,7 +130,7 @@ module _ {D : Type 0} (shown : D → DiskShown) where
     kept : AllByRecursion (λ (b : BookOf D). IsKept shown b) books;
   }
   books-apart books rest clocks disks none apart =
-      let e = whole books apart.front (apart.are ∙ ap (λ l. apart.front ++ reverse l) none) in
+      let e = whole books apart.front (apart.are ∙ ap (λ l. apart.front ++ l) none) in
       record {
         clocks = apart.clocks_are ∙ ap (map (λ (b : BookOf D). b.state.clock)) e;
         disks = apart.disks_are ∙ ap (map (λ (b : BookOf D). b.disk)) e;
@@ -144,18 +143,13 @@ pub length-none : {A : Type 0} (xs : List A) → length xs ≡ 0 → xs ≡ []
 length-none [] none = refl
 length-none (x ∷ xs) none = absurd (omega arith)
 
-pub map-reverse : {A B : Type 0} (f : A → B) (xs : List A) → map f (reverse xs) ≡ reverse (map f xs)
-map-reverse f [] = refl
-map-reverse f (x ∷ xs) =
-    ap (map f) (reverse-append (x ∷ []) xs) ∙ map-append f (reverse xs) (x ∷ []) ∙ ap (λ l. l ++ f x ∷ []) (map-reverse f xs) ∙ sym (reverse-append (f x ∷ []) (map f xs))
-
 pub map-map : {A B C : Type 0} (f : B → C) (h : A → B) (xs : List A) → map f (map h xs) ≡ map (λ x. f (h x)) xs
 map-map f h [] = refl
 map-map f h (x ∷ xs) = ap (λ l. f (h x) ∷ l) (map-map f h xs)
 
--- one more is kept of a list that lies reversed
-pub kept-more : {A B V : Type 0} (f : V → B) (h : A → B) (kept kept_then : List V) (v : V) (all rest left : List A) (one : A) → kept_then ≡ kept ++ v ∷ [] → f v ≡ h one → rest ≡ left ++ one ∷ []
-    → map f kept ++ map h (reverse rest) ≡ map h all → map f kept_then ++ map h (reverse left) ≡ map h all
+-- one more of a list is kept
+pub kept-more : {A B V : Type 0} (f : V → B) (h : A → B) (kept kept_then : List V) (v : V) (all rest left : List A) (one : A) → kept_then ≡ kept ++ v ∷ [] → f v ≡ h one → rest ≡ one ∷ left
+    → map f kept ++ map h rest ≡ map h all → map f kept_then ++ map h left ≡ map h all
 kept-more f h kept kept_then v all rest left one more same is are =
-    ap (λ l. map f l ++ map h (reverse left)) more ∙ ap (λ l. l ++ map h (reverse left)) (map-append f kept (v ∷ [])) ∙ append_assoc (map f kept) (f v ∷ []) (map h (reverse left))
-    ∙ ap (λ b. map f kept ++ b ∷ map h (reverse left)) same ∙ sym (ap (λ l. map f kept ++ map h l) (ap reverse is ∙ reverse-append left (one ∷ []))) ∙ are
+    ap (λ l. map f l ++ map h left) more ∙ ap (λ l. l ++ map h left) (map-append f kept (v ∷ [])) ∙ append_assoc (map f kept) (f v ∷ []) (map h left)
+    ∙ ap (λ b. map f kept ++ b ∷ map h left) same ∙ sym (ap (λ l. map f kept ++ map h l) is) ∙ are

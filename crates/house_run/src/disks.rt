@@ -7,6 +7,7 @@ use crate::journals::{Unread, name_of};
 use clock_book::OpenFault;
 use house_io::{Refusal, Shelf};
 use std::alloc::{AllocError, Global};
+use std::collections::VecDeque;
 
 /// The names of the journals of so many clocks, in order.
 pub(crate) fn journal_names(
@@ -81,10 +82,9 @@ pub(crate) fn close_journals<H: Shelf>(shelf: &mut H, names: &[String], disks: V
     ensures { (journals : List ℕ) → AreNames journals names.now
         → AreGivenBack H.Disk.Disk.shown journals disks.items (shelf_seen H.Shelf shelf.old shelf.new) }
 {
-    let mut rest = disks;
-    rest.reverse();
+    let mut rest = VecDeque::from_vec(disks);
     for name in names {
-        let disk = rest.pop().unwrap();
+        let disk = rest.pop_front().unwrap();
         shelf.close_disk(name, disk);
     }
     rest.destroy_empty();

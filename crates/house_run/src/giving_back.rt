@@ -9,15 +9,15 @@ use clock::Clock;
 use clock_book::ClockBook;
 use house_io::{Disk, Net};
 use house_serve::{DoorLog, SessionEnd};
+use std::collections::VecDeque;
 
 /// Gives doors back to the net, in order.
 pub(crate) fn close_doors<N: Net>(net: &mut N, doors: Vec<N::Door>)
     ensures lists { HasTaken N.Net doors.items net.old net.new }
     ensures faults { CountsDoors N.Net N.Door.Door (λ door. door) doors.items net.old net.new }
 {
-    let mut rest = doors;
-    rest.reverse();
-    while let Some(door) = rest.pop() {
+    let mut rest = VecDeque::from_vec(doors);
+    while let Some(door) = rest.pop_front() {
         net.close_door(door);
     }
     rest.destroy_empty();
@@ -35,9 +35,8 @@ pub(crate) fn close_logs<N: Net>(
     ensures faults { CountsDoors N.Net N.Door.Door (λ log. log.door) logs.items net.old net.new }
     ensures ends { map (λ v. v.items) ends.new.items ≡ map (λ log. log.ends.items) logs.items }
 {
-    let mut rest = logs;
-    rest.reverse();
-    while let Some(log) = rest.pop() {
+    let mut rest = VecDeque::from_vec(logs);
+    while let Some(log) = rest.pop_front() {
         let DoorLog {
             door,
             ends: sessions,
@@ -74,9 +73,8 @@ pub(crate) fn take_apart<D: Disk>(
     ensures disks { disks.new.items ≡ map (λ book. book.disk) books.items }
     ensures kept { AllByRecursion (λ book. IsKept D.shown book) books.items }
 {
-    let mut rest = books;
-    rest.reverse();
-    while let Some(book) = rest.pop() {
+    let mut rest = VecDeque::from_vec(books);
+    while let Some(book) = rest.pop_front() {
         let _kept = book.clock();
         let (clock, disk) = book.into_parts();
         clocks.push_reserved(clock);

@@ -1,7 +1,6 @@
--- Each disk is taken in turn from the back of the list, which was reversed.
-use Rattle.std.proofs.Common.{◌≡◌, ◌∙◌, ◌<◌, ◌+◌, ◌++◌, ℕ, List, [], ◌∷◌, length, get_or, reverse, arith, refl, rules, sym, ap, subst}
+use Rattle.std.proofs.Common.{◌≡◌, ◌∙◌, ◌<◌, ◌+◌, ◌++◌, ℕ, List, [], ◌∷◌, length, get_or, arith, refl, rules, sym, ap, subst}
 use Rattle.std.specs.Prelude.{Contains, string_bytes}
-use Rattle.std.proofs.lemmas.List.{length-reverse, length_push, reverse-reverse}
+use Rattle.std.proofs.lemmas.List.{length_push}
 use Rattle.house_run.specs.Needs.{journal_name}
 use Rattle.house_run.specs.Seen.{shelf_seen}
 use Rattle.house_run.proofs.DiskNames.{name-at}
@@ -11,9 +10,9 @@ use Rattle.house_run.proofs.disks.close_journals.Goals as goal
 pub loop-name-init : goal.loop-name-init
 loop-name-init g c = record {
   front = [];
-  disks_are = sym (ap reverse c.reverse.ensures.items ∙ reverse-reverse c.args.disks.items);
+  disks_are = sym c.from_vec-rest.ensures.items;
   count = refl;
-  left = let e = ap length c.reverse.ensures.items ∙ length-reverse c.args.disks.items in let n = c.requires.count in omega arith;
+  left = let e = ap length c.from_vec-rest.ensures.items in let n = c.requires.count in omega arith;
   same = refl;
   given = λ journals are. none-given g.H.Disk.Disk.shown journals (g.H.Shelf.files c.args.shelf.now) (g.H.Shelf.faults c.args.shelf.now) (g.H.Shelf.opened c.args.shelf.now);
 }
@@ -30,13 +29,13 @@ pub loop-name-preserved : goal.loop-name-preserved
 loop-name-preserved g c =
     let i = c.loop-name.invariant in
     let disk = c.unwrap-disk.result in
-    let is : c.loop-name.rest.items ≡ c.pop.new.self.items ++ disk ∷ [] = search rules in
+    let is : c.loop-name.rest.items ≡ disk ∷ c.pop_front.new.self.items = search rules in
     let below : c.loop-name.name-index < length c.args.names.now = c.loop-name-test.true in
     record {
       front = i.front ++ disk ∷ [];
-      disks_are = next-of c.args.disks.items i.front c.loop-name.rest.items c.pop.new.self.items disk is i.disks_are;
+      disks_are = next-of c.args.disks.items i.front c.loop-name.rest.items c.pop_front.new.self.items disk is i.disks_are;
       count = length_push i.front disk ∙ ap (λ n. n + 1) i.count;
-      left = let e = ap length is ∙ length_push c.pop.new.self.items disk in let l = i.left in omega arith;
+      left = let e = ap length is in let l = i.left in omega arith;
       same = c.close_disk.ensures.names ∙ i.same;
       given = λ journals are.
           given-more g.H.Disk.Disk.shown journals i.front disk c.deref.result.now (shelf_seen g.H.Shelf c.args.shelf.now c.close_disk.new.self)

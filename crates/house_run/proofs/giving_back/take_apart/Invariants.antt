@@ -11,4 +11,4 @@ invariant-loop-book g l = record {
 }
 
 abbrev pub decreases-loop-book : goal.decreases-loop-book
-decreases-loop-book g l = goal.left-loop-book g l
+decreases-loop-book g l = length l.rest.items
