@@ -28,10 +28,8 @@ pub(crate) fn followers_at(
 {
     let mut followers = Vec::new(alloc);
     for place in 0..valuations.len() {
-        match Follower::new(alloc, &terms.goods, &valuations[place], prices) {
-            Ok(follower) => followers.push(follower)?,
-            Err(NoMemory) => return Err(NoMemory),
-        }
+        let follower = Follower::new(alloc, &terms.goods, &valuations[place], prices)?;
+        followers.push(follower)?;
     }
     Ok(followers)
 }
@@ -98,14 +96,10 @@ pub(crate) fn lead(
     let slot = columns[set.0 as usize].take();
     let column = column_for(alloc, &terms.goods, set, slot)?;
     let left = least_left(followers, number, set, &column);
-    match clock.repeat(alloc, left) {
-        Ok(added) => {
-            step_all(followers, number, &column, added + 1);
-            put_back(columns, set, column);
-            Ok(())
-        }
-        Err(NoMemory) => Err(NoMemory),
-    }
+    let added = clock.repeat(alloc, left)?;
+    step_all(followers, number, &column, added + 1);
+    put_back(columns, set, column);
+    Ok(())
 }
 
 /// Brings each member up to date that owes steps on another set.

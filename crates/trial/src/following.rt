@@ -50,15 +50,13 @@ impl Follower {
         ensures goods { IfOk result (λ f. f.supply ≡ goods.now) }
         ensures follows { IfOk result (λ f. Follows f (valuation_of goods.now valuation.now) prices.now) }
     {
-        match Surplus::new(alloc, goods, valuation, prices) {
-            Ok(surplus) => Ok(Follower {
-                surplus,
-                set: GoodSet(0),
-                owed: 0,
-                steady: 0,
-            }),
-            Err(NoMemory) => Err(NoMemory),
-        }
+        let surplus = Surplus::new(alloc, goods, valuation, prices)?;
+        Ok(Follower {
+            surplus,
+            set: GoodSet(0),
+            owed: 0,
+            steady: 0,
+        })
     }
 
     /// The bundles that the bidder demands at the present prices.

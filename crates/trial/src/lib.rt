@@ -55,10 +55,8 @@ pub fn trial<T: Threads + Sync>(
         t.settlement) }
     ensures refused { IfErr result (IsRefusal terms.now (bidders_of terms.now.goods valuations.now)) }
 {
-    match run_workers(rt, alloc, terms, valuations, workers) {
-        Ok(run) => settle_all(alloc, terms, valuations, run),
-        Err(fault) => Err(fault),
-    }
+    let run = run_workers(rt, alloc, terms, valuations, workers)?;
+    settle_all(alloc, terms, valuations, run)
 }
 
 /// What the clocks of a trial settle, beside them.

@@ -32,25 +32,16 @@ pub(crate) fn run_clock(
     ensures clock { IfOk result (λ c. IsTrialOf terms.now (bidders_of terms.now.goods valuations.now) number c.history) }
     ensures columns { AreColumns terms.now.goods columns.new.items }
 {
-    let mut clock = match Clock::new(alloc, terms, number) {
-        Ok(clock) => clock,
-        Err(NoMemory) => return Err(NoMemory),
-    };
+    let mut clock = Clock::new(alloc, terms, number)?;
     let opening = clock.look().prices;
-    let mut followers = match followers_at(alloc, terms, valuations, &opening) {
-        Ok(followers) => followers,
-        Err(NoMemory) => return Err(NoMemory),
-    };
+    let mut followers = followers_at(alloc, terms, valuations, &opening)?;
     for turn in 0..MORE_ROUNDS {
         let before = clock.look().prices;
-        match tell_round(alloc, &mut clock, terms, valuations, &followers) {
-            Ok(()) => {}
-            Err(NoMemory) => return Err(NoMemory),
-        }
+        tell_round(alloc, &mut clock, terms, valuations, &followers)?;
         if !is_running(&clock) {
             return Ok(clock);
         }
-        match lead(
+        lead(
             alloc,
             &mut clock,
             terms,
@@ -58,10 +49,7 @@ pub(crate) fn run_clock(
             columns,
             &mut followers,
             &before,
-        ) {
-            Ok(()) => {}
-            Err(NoMemory) => return Err(NoMemory),
-        }
+        )?;
     }
     let _steps = clock.steps();
     Ok(clock)

@@ -208,12 +208,10 @@ fn conclude(
     let Ok(Placed { told, verdicts }) = place(alloc, terms, valuations, parts) else {
         return Err(TrialFault::NoMemory);
     };
-    match judge(terms, valuations, verdicts.as_slice()) {
-        Err(fault) => Err(fault),
-        Ok(()) => match in_order(alloc, terms, valuations, told) {
-            Err(NoMemory) => Err(TrialFault::NoMemory),
-            Ok(run) => Ok(run),
-        },
+    judge(terms, valuations, verdicts.as_slice())?;
+    match in_order(alloc, terms, valuations, told) {
+        Ok(run) => Ok(run),
+        Err(NoMemory) => Err(TrialFault::NoMemory),
     }
 }
 

@@ -15,9 +15,9 @@ loop-place-preserved c =
     let P : ℕ → Followed → Type 0 = λ k f. IsFollowed goods (bidders_of goods all (k + 1)) c.args.prices.now f in
     let back : place + 1 - 1 ≡ place = omega arith in
     let value : c.index-valuations-place.result ≡ get_or all (place + 1 - 1) [] = c.index-valuations-place.is ∙ get-same all place _ [] c.loop-place-test.true ∙ ap (λ k. get_or all k []) (sym back) in
-    let F : List ℕ → Type 0 = λ v. Follows c.in-Ok.follower (valuation_of goods v) c.args.prices.now in
+    let F : List ℕ → Type 0 = λ v. Follows c.in_ok-follower.follower (valuation_of goods v) c.args.prices.now in
     record {
       count = search rules;
-      each = next-pushed P place c.loop-place.followers.items c.push.new.self.items c.in-Ok.follower c.in_ok-push-in-Ok.ensures.items c.loop-place.invariant.count c.loop-place.invariant.each
-          (record { over = c.in-Ok.ensures.goods; follows = subst F value c.in-Ok.ensures.follows });
+      each = next-pushed P place c.loop-place.followers.items c.push.new.self.items c.in_ok-follower.follower c.in_ok-push.ensures.items c.loop-place.invariant.count c.loop-place.invariant.each
+          (record { over = c.in_ok-follower.ensures.goods; follows = subst F value c.in_ok-follower.ensures.follows });
     }

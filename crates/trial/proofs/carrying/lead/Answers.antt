@@ -83,8 +83,8 @@ put_back-requires c =
     let same = length-set c.catch_up_all.new.columns.items set c.take-slot.new.self in
     omega (arith, inside, same, c.catch_up_all.ensures.columns.count)
 
-pub returns-in-Ok-clause-gone : goal.returns-in-Ok-clause-gone
-returns-in-Ok-clause-gone c =
+pub returns-clause-gone : goal.returns-clause-gone
+returns-clause-gone c =
     let terms = c.args.terms.now in
     let u = bidders_of terms.goods c.args.valuations.now in
     let old = c.args.clock.now.history in
@@ -92,17 +92,17 @@ returns-in-Ok-clause-gone c =
     let before = c.args.before.now in
     let set = c.raised_between-set.result.0 in
     let value = c.number-number.ensures.value in
-    let is = ap (λ (k : ClockOf). k.history) c.in-Ok.ensures.ok in
+    let is = ap (λ (k : ClockOf). k.history) c.in_ok-added.ensures.ok in
     let told = rose-on u before c.look.result.prices old set c.requires.led c.look.ensures.prices c.raised_between-set.ensures in
     let ready = subst (λ n. AreReady n set c.args.followers.now c.catch_up_all.new.followers) value c.in_ok-catch_up_all.ensures.ready in
     let on = subst (λ n. AreOn n set c.catch_up_all.new.followers c.least_left-left.new.followers) value c.least_left-left.ensures.on in
     let steady = subst (λ n. AreSteady n set c.least_left-left.result c.least_left-left.new.followers) value c.least_left-left.ensures.steady in
-    let at = gone-on u terms before set c.least_left-left.result c.in-Ok.added c.args.followers.now c.catch_up_all.new.followers c.least_left-left.new.followers old new c.requires.led c.requires.terms c.requires.followed told
-    ready on steady is c.in-Ok.ensures.few c.in-Ok.ensures.steps in
-    has-gone u before set c.least_left-left.result c.in-Ok.added old new at is c.in-Ok.ensures.steps
+    let at = gone-on u terms before set c.least_left-left.result c.in_ok-added.added c.args.followers.now c.catch_up_all.new.followers c.least_left-left.new.followers old new c.requires.led c.requires.terms c.requires.followed told
+    ready on steady is c.in_ok-added.ensures.few c.in_ok-added.ensures.steps in
+    has-gone u before set c.least_left-left.result c.in_ok-added.added old new at is c.in_ok-added.ensures.steps
 
-pub returns-in-Ok-clause-followed : goal.returns-in-Ok-clause-followed
-returns-in-Ok-clause-followed c =
+pub returns-clause-followed : goal.returns-clause-followed
+returns-clause-followed c =
     let terms = c.args.terms.now in
     let u = bidders_of terms.goods c.args.valuations.now in
     let old = c.args.clock.now.history in
@@ -110,16 +110,16 @@ returns-in-Ok-clause-followed c =
     let before = c.args.before.now in
     let set = c.raised_between-set.result.0 in
     let value = c.number-number.ensures.value in
-    let is = ap (λ (k : ClockOf). k.history) c.in-Ok.ensures.ok in
+    let is = ap (λ (k : ClockOf). k.history) c.in_ok-added.ensures.ok in
     let told = rose-on u before c.look.result.prices old set c.requires.led c.look.ensures.prices c.raised_between-set.ensures in
     let ready = subst (λ n. AreReady n set c.args.followers.now c.catch_up_all.new.followers) value c.in_ok-catch_up_all.ensures.ready in
     let on = subst (λ n. AreOn n set c.catch_up_all.new.followers c.least_left-left.new.followers) value c.least_left-left.ensures.on in
     let steady = subst (λ n. AreSteady n set c.least_left-left.result c.least_left-left.new.followers) value c.least_left-left.ensures.steady in
-    let at = gone-on u terms before set c.least_left-left.result c.in-Ok.added c.args.followers.now c.catch_up_all.new.followers c.least_left-left.new.followers old new c.requires.led c.requires.terms c.requires.followed told
-    ready on steady is c.in-Ok.ensures.few c.in-Ok.ensures.steps in
-    let one : c.in-Ok.added + 1 ≡ suc c.in-Ok.added = omega arith in
+    let at = gone-on u terms before set c.least_left-left.result c.in_ok-added.added c.args.followers.now c.catch_up_all.new.followers c.least_left-left.new.followers old new c.requires.led c.requires.terms c.requires.followed told
+    ready on steady is c.in_ok-added.ensures.few c.in_ok-added.ensures.steps in
+    let one : c.in_ok-added.added + 1 ≡ suc c.in_ok-added.added = omega arith in
     let followed = subst (λ n. AreFollowed terms u n before c.args.followers.now) (sym value) c.requires.followed in
-    let stays : c.number-number.result ≡ new.number = value ∙ sym (number-stay c.in-Ok.added old) ∙ ap (λ (k : ClockHistory). k.number) (sym is) in
+    let stays : c.number-number.result ≡ new.number = value ∙ sym (number-stay c.in_ok-added.added old) ∙ ap (λ (k : ClockHistory). k.number) (sym is) in
     subst (λ n. AreFollowed terms u n (prices_of new) c.step_all.new.followers) stays
-    (followed-on terms u c.number-number.result (c.in-Ok.added + 1) set before (prices_of new) c.args.followers.now c.catch_up_all.new.followers c.least_left-left.new.followers c.step_all.new.followers followed c.in_ok-catch_up_all.ensures.ready c.least_left-left.ensures.on
+    (followed-on terms u c.number-number.result (c.in_ok-added.added + 1) set before (prices_of new) c.args.followers.now c.catch_up_all.new.followers c.least_left-left.new.followers c.step_all.new.followers followed c.in_ok-catch_up_all.ensures.ready c.least_left-left.ensures.on
     c.step_all.ensures (c.requires.led.each_good ∙ ap (λ (t : Terms). length t.goods) c.requires.terms) (ap (λ k. raised_by k set before) one ∙ sym at.prices))
