@@ -1,6 +1,6 @@
 -- Prices that moved, and the bidders that follow them.
 use Rattle.std.proofs.Common.{◌≡◌, ◌<◌, ◌≤◌, inl, inr, ℕ, zero, suc, ◌+◌, ◌-◌, ◌*◌, ◌/◌, ◌%◌, ◌^◌, false, cond, nat_eq, List, [], ◌∷◌, ◌++◌, length, drop, get_or, refl, sym, ◌∙◌, ap, arith, subst}
-use Rattle.std.specs.Prelude.{slice_index, slice_index_or, slice_set, ℤ}
+use Rattle.std.specs.Prelude.{slice_index, slice_index_or, slice_set, ℤ, OnOk, Result, Ok, Err}
 use Rattle.std.proofs.lemmas.Bool.{cases_lt}
 use Rattle.std.proofs.lemmas.List.{length-append, length-set, get_or-set_same, get_or-set_other, get_or_append_left, get_or_push}
 use Rattle.lot_base.specs.Goods.{raised}
@@ -13,6 +13,11 @@ use Rattle.trial.proofs.Risen.{from-place}
 use Rattle.trial.proofs.Telling.{get-same}
 use Rattle.two_way.specs.Bidding.{bidder_in, IsBidder, AreBidders, AreRenewed, AreRisen, IsRenewed, IsRisen, HaveFollowed}
 use Rattle.two_way.specs.declared.bidding.Bidder.{Bidder}
+
+-- what follows from what holds where a call went well
+pub OnOk-weaker : {X E : Type 0} (P Q : Type 0) → (P → Q) → (r : Result X E) → OnOk r P → OnOk r Q
+OnOk-weaker P Q more (Ok x) h = more h
+OnOk-weaker P Q more (Err e) h = tt
 
 -- one good more, from the last on
 raised-here : (a b bit old : ℕ) (later earlier : List ℕ) → bit ≤ 1 → a ≡ b + bit → later ≡ raised earlier old → a ∷ later ≡ raised (b ∷ earlier) (old * 2 + bit)

@@ -36,13 +36,11 @@ pub(crate) fn bidders_at(
 {
     let mut bidders = Vec::new(alloc);
     for place in 0..valuations.len() {
-        match Follower::new(alloc, &terms.goods, &valuations[place], prices) {
-            Ok(follower) => bidders.push(Bidder {
-                follower,
-                stays: false,
-            })?,
-            Err(NoMemory) => return Err(NoMemory),
-        }
+        let follower = Follower::new(alloc, &terms.goods, &valuations[place], prices)?;
+        bidders.push(Bidder {
+            follower,
+            stays: false,
+        })?;
     }
     Ok(bidders)
 }
@@ -67,14 +65,8 @@ pub(crate) fn follow(
     ensures columns { AreColumns terms.now.goods columns.new.items }
 {
     match raised_on(before.as_slice(), after.as_slice()) {
-        Some(set) => match rise_all(alloc, &terms.goods, columns, bidders, set) {
-            Ok(()) => Ok(()),
-            Err(NoMemory) => Err(NoMemory),
-        },
-        None => match renew_all(alloc, &terms.goods, valuations, bidders, after) {
-            Ok(()) => Ok(()),
-            Err(NoMemory) => Err(NoMemory),
-        },
+        Some(set) => rise_all(alloc, &terms.goods, columns, bidders, set),
+        None => renew_all(alloc, &terms.goods, valuations, bidders, after),
     }
 }
 

@@ -26,10 +26,9 @@ pub(crate) fn choice_of(
 {
     let look = clock.look();
     let demands = last_demands(alloc, terms, clock)?;
-    match assemble(alloc, &terms.goods, &terms.opening, &look.prices, &demands) {
-        Ok(Assembly::Award(choice)) => Ok(Some(choice)),
-        Ok(Assembly::NoChoice) => Ok(None),
-        Err(NoMemory) => Err(NoMemory),
+    match assemble(alloc, &terms.goods, &terms.opening, &look.prices, &demands)? {
+        Assembly::Award(choice) => Ok(Some(choice)),
+        Assembly::NoChoice => Ok(None),
     }
 }
 

@@ -153,20 +153,17 @@ impl TwoWay {
         ensures ok { OnOk result (self.new ≡ told self.old (again_by self.old bidder)) }
         ensures err { OnErr result (self.new ≡ self.old) }
     {
-        match self.past.push_again(self.last, self.standing.steps, bidder) {
-            Err(NoMemory) => Err(NoMemory),
-            Ok(()) => {
-                go_on(
-                    &self.terms,
-                    self.number,
-                    &self.past,
-                    &mut self.standing,
-                    &mut self.begin,
-                    &mut self.last,
-                );
-                Ok(())
-            }
-        }
+        self.past
+            .push_again(self.last, self.standing.steps, bidder)?;
+        go_on(
+            &self.terms,
+            self.number,
+            &self.past,
+            &mut self.standing,
+            &mut self.begin,
+            &mut self.last,
+        );
+        Ok(())
     }
 
     /// The last or current round. Takes no memory.

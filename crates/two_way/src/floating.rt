@@ -81,12 +81,10 @@ pub fn float(
         f.rows f.choices) }
     ensures refused { IfErr result (IsRefusal terms.now (bidders_of terms.now.goods valuations.now)) }
 {
-    match check_all(terms, valuations) {
-        Err(fault) => Err(fault),
-        Ok(()) => match float_all(alloc, terms, valuations, start) {
-            Ok(floated) => Ok(floated),
-            Err(NoMemory) => Err(FloatFault::NoMemory),
-        },
+    check_all(terms, valuations)?;
+    match float_all(alloc, terms, valuations, start) {
+        Ok(floated) => Ok(floated),
+        Err(NoMemory) => Err(FloatFault::NoMemory),
     }
 }
 
@@ -129,23 +127,15 @@ fn float_all(
     ensures { IfOk result (λ f. IsFloat terms.now (bidders_of terms.now.goods valuations.now) start.now f.clocks.items f.prices
         f.rows f.choices) }
 {
-    let clocks = match run_clocks(alloc, terms, valuations, start) {
-        Ok(clocks) => clocks,
-        Err(NoMemory) => return Err(NoMemory),
-    };
-    let choices = match choices_of(alloc, terms, valuations, start, clocks.as_slice()) {
-        Ok(choices) => choices,
-        Err(NoMemory) => return Err(NoMemory),
-    };
-    match settle(alloc, terms, start, clocks.as_slice(), choices.as_slice()) {
-        Ok(Awarded { prices, rows }) => Ok(Floated {
-            clocks,
-            prices,
-            rows,
-            choices: Sequence::from_vec(choices),
-        }),
-        Err(NoMemory) => Err(NoMemory),
-    }
+    let clocks = run_clocks(alloc, terms, valuations, start)?;
+    let choices = choices_of(alloc, terms, valuations, start, clocks.as_slice())?;
+    let awarded = settle(alloc, terms, start, clocks.as_slice(), choices.as_slice())?;
+    Ok(Floated {
+        clocks,
+        prices: awarded.prices,
+        rows: awarded.rows,
+        choices: Sequence::from_vec(choices),
+    })
 }
 
 /// The last prices of the clock of all, and the rows of the bidders, by the choice of each clock.
@@ -165,10 +155,8 @@ fn settle(
     let others = clocks.split_at(1).1;
     let awards = &choices[0];
     let prices = all.look().prices;
-    match award_rows(alloc, all, others, &prices, awards) {
-        Ok(rows) => Ok(Awarded { prices, rows }),
-        Err(NoMemory) => Err(NoMemory),
-    }
+    let rows = award_rows(alloc, all, others, &prices, awards)?;
+    Ok(Awarded { prices, rows })
 }
 
 /// The first choices that clear, one for each clock.
@@ -188,10 +176,9 @@ fn choices_of(
 {
     let mut choices = Vec::new(alloc);
     for place in 0..clocks.len() {
-        match choice_of(alloc, terms, &clocks[place]) {
-            Ok(Some(choice)) => choices.push(choice)?,
-            Ok(None) => unreachable!(),
-            Err(NoMemory) => return Err(NoMemory),
+        match choice_of(alloc, terms, &clocks[place])? {
+            Some(choice) => choices.push(choice)?,
+            None => unreachable!(),
         }
     }
     Ok(choices)
@@ -213,10 +200,8 @@ fn run_clocks(
     let mut columns = no_columns(alloc, &terms.goods)?;
     let mut clocks = Vec::new(alloc);
     for number in 0..terms.bidders + 1 {
-        match run_clock(alloc, terms, valuations, &mut columns, number, start) {
-            Ok(clock) => clocks.push(clock)?,
-            Err(NoMemory) => return Err(NoMemory),
-        }
+        let clock = run_clock(alloc, terms, valuations, &mut columns, number, start)?;
+        clocks.push(clock)?;
     }
     Ok(clocks)
 }
@@ -245,10 +230,7 @@ fn run_clock(
         if !is_running(&clock) {
             return Ok(clock);
         }
-        match run_round(alloc, &mut clock, terms, valuations, columns, &mut bidders) {
-            Ok(()) => {}
-            Err(NoMemory) => return Err(NoMemory),
-        }
+        run_round(alloc, &mut clock, terms, valuations, columns, &mut bidders)?;
     }
     Ok(clock)
 }
@@ -288,15 +270,9 @@ fn run_round(
     ensures columns { AreColumns terms.now.goods columns.new.items }
 {
     let before = clock.look().prices;
-    match tell_round(alloc, clock, terms, valuations, bidders) {
-        Ok(()) => {}
-        Err(NoMemory) => return Err(NoMemory),
-    }
+    tell_round(alloc, clock, terms, valuations, bidders)?;
     let after = clock.look().prices;
-    match follow(alloc, terms, valuations, columns, bidders, &before, &after) {
-        Ok(()) => Ok(()),
-        Err(NoMemory) => Err(NoMemory),
-    }
+    follow(alloc, terms, valuations, columns, bidders, &before, &after)
 }
 
 /// Tells the clock what each of its members demands at the prices of the present round, the smallest member first.

@@ -109,17 +109,13 @@ impl Past {
         ensures err { OnErr result (self.new ≡ self.old) }
     {
         let number = number_in(self.places.split_at(from).1, round, bidder);
-        match make_place(&mut self.places) {
-            Err(NoMemory) => Err(NoMemory),
-            Ok(()) => {
-                let _in_room = self.places.push(Place {
-                    bidder,
-                    round: round + 1,
-                    number,
-                });
-                Ok(())
-            }
-        }
+        make_place(&mut self.places)?;
+        let _in_room = self.places.push(Place {
+            bidder,
+            round: round + 1,
+            number,
+        });
+        Ok(())
     }
 
     /// What is kept of the demand of a bidder in a round, if one of the reports from a place on says it.
@@ -213,10 +209,8 @@ fn make_room(demands: &mut Vec<Kept>, places: &mut Vec<Place>) -> Result<(), NoM
     ensures room_demands { OnOk result (length demands.old.items < vec_capacity demands.new) }
     ensures room_places { OnOk result (length places.old.items < vec_capacity places.new) }
 {
-    match demands.reserve(1) {
-        Err(_) => Err(NoMemory),
-        Ok(()) => make_place(places),
-    }
+    demands.reserve(1)?;
+    make_place(places)
 }
 
 /// Makes room for a report more. What is kept stays, whatever is answered.
@@ -224,10 +218,8 @@ fn make_place(places: &mut Vec<Place>) -> Result<(), NoMemory>
     ensures places { places.new.items ≡ places.old.items }
     ensures room { OnOk result (length places.old.items < vec_capacity places.new) }
 {
-    match places.reserve(1) {
-        Err(_) => Err(NoMemory),
-        Ok(()) => Ok(()),
-    }
+    places.reserve(1)?;
+    Ok(())
 }
 
 /// Puts a demand after the others, in the room for it, if it is not kept already. Tells where it is kept.

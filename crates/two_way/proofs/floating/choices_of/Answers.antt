@@ -23,7 +23,7 @@ unreachable-requires c =
     let terms = c.args.terms.now in
     let u = bidders_of terms.goods c.args.valuations.now in
     always-chosen u terms c.args.start.now c.args.clocks.now c.index-clocks-place.result c.loop-place.place (known terms c.args.valuations.now c.requires.valuations c.requires.substitutes) c.requires.start c.requires.clocks c.loop-place-test.true c.index-clocks-place.is
-    (c.in-Ok-None.ensures ∙ c.in-Ok-None.field-0-is)
+    (c.in_ok-choice.ensures ∙ c.in-None.is)
 
 pub loop-place-preserved : goal.loop-place-preserved
 loop-place-preserved c =
@@ -34,4 +34,4 @@ loop-place-preserved c =
     let Y : List TwoWayHistory → Type 0 = λ hs. AllZip R hs c.push.new.self.items in
     let Z : List (List (List ℕ)) → Type 0 = λ xs. AllZip R (take place clocks ++ h ∷ []) xs in
     subst Y (sym (take-next clocks place h c.loop-place-test.true c.index-clocks-place.is))
-    (subst Z (sym c.in_ok-push-in-Ok-Some.ensures.items) (zip-push R (take place clocks) c.loop-place.choices.items h c.in-Ok-Some.choice c.loop-place.invariant (c.in-Ok-Some.ensures ∙ c.in-Ok-Some.field-0-is)))
+    (subst Z (sym c.in_ok-push-in-Some.ensures.items) (zip-push R (take place clocks) c.loop-place.choices.items h c.in-Some.choice c.loop-place.invariant (c.in_ok-choice.ensures ∙ c.in-Some.is)))

@@ -43,9 +43,9 @@ loop-turn-preserved c =
     let terms = c.args.terms.now in
     record {
       on = on-told terms c.args.start.now c.args.number (bidders_of terms.goods c.args.valuations.now) c.loop-turn.turn c.loop-turn.clock c.run_round.new.clock c.loop-turn.invariant.on
-          (sym c.is_running.ensures ∙ c.if-not-is_running.false) c.in-Ok.ensures.told c.in-Ok.ensures.turned;
-      bidders = c.in-Ok.ensures.bidders;
-      said = c.in-Ok.ensures.said;
+          (sym c.is_running.ensures ∙ c.if-not-is_running.false) c.in_ok-run_round.ensures.told c.in_ok-run_round.ensures.turned;
+      bidders = c.in_ok-run_round.ensures.bidders;
+      said = c.in_ok-run_round.ensures.said;
       columns = c.run_round.ensures.columns;
     }
 

@@ -7,7 +7,7 @@ pub loop-number-preserved : goal.loop-number-preserved
 loop-number-preserved c =
     let terms = c.args.terms.now in
     record {
-      order = order-next terms (bidders_of terms.goods c.args.valuations.now) c.args.start.now c.loop-number.number c.loop-number.clocks.items c.push.new.self.items c.in-Ok.clock c.loop-number.invariant.order c.in-Ok.ensures.clock c.in_ok-push-in-Ok.ensures.items;
+      order = order-next terms (bidders_of terms.goods c.args.valuations.now) c.args.start.now c.loop-number.number c.loop-number.clocks.items c.push.new.self.items c.in_ok-clock.clock c.loop-number.invariant.order c.in_ok-clock.ensures.clock c.in_ok-push.ensures.items;
       columns = c.run_clock.ensures.columns;
     }
 

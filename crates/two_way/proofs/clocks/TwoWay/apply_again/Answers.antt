@@ -26,7 +26,7 @@ go_on-requires-clause-fit c =
     let D : TwoWayHistory → Type 0 = λ k. IsDemand k.terms.goods r.demand in
     let fits : IsDemand h.terms.goods r.demand = subst D (sym c.self.view_is) (again-fits c.args.self.now c.args.bidder (subst A c.self.view_is c.self.invariant.0.fit) c.requires.said) in
     let is = again-is h c.args.self.now i.past.goods i.last i.begin i.standing c.args.bidder c.self.invariant.0 c.self.invariant.1 c.self.view_is in
-    let past = c.in-Ok.ensures.ok ∙ ap (with_report i.past) is in
+    let past = c.in_ok-push_again.ensures.ok ∙ ap (with_report i.past) is in
     applied-fit h r i.begin i.standing (drop i.begin c.push_again.new.self.reports) c.self.invariant.0 taken fits (ap (λ (p : PastOf). drop i.begin p.reports) past)
 
 pub go_on-requires-clause-room : goal.go_on-requires-clause-room
@@ -39,11 +39,11 @@ go_on-requires-clause-room c =
     let D : TwoWayHistory → Type 0 = λ k. IsDemand k.terms.goods r.demand in
     let fits : IsDemand h.terms.goods r.demand = subst D (sym c.self.view_is) (again-fits c.args.self.now c.args.bidder (subst A c.self.view_is c.self.invariant.0.fit) c.requires.said) in
     let is = again-is h c.args.self.now i.past.goods i.last i.begin i.standing c.args.bidder c.self.invariant.0 c.self.invariant.1 c.self.view_is in
-    let past = c.in-Ok.ensures.ok ∙ ap (with_report i.past) is in
+    let past = c.in_ok-push_again.ensures.ok ∙ ap (with_report i.past) is in
     applied-room h r i.begin i.standing (drop i.begin c.push_again.new.self.reports) c.self.invariant.0 taken fits (ap (λ (p : PastOf). drop i.begin p.reports) past)
 
-pub invariant_of-self-in-Ok : goal.invariant_of-self-in-Ok
-invariant_of-self-in-Ok c =
+pub invariant_of-self-2 : goal.invariant_of-self-2
+invariant_of-self-2 c =
     let i = c.self.inside in
     let r = again_by c.args.self.now c.args.bidder in
     let h : TwoWayHistory = record { terms = i.terms; number = i.number; start = i.start; reports = i.past.reports } in
@@ -52,15 +52,15 @@ invariant_of-self-in-Ok c =
     let D : TwoWayHistory → Type 0 = λ k. IsDemand k.terms.goods r.demand in
     let fits : IsDemand h.terms.goods r.demand = subst D (sym c.self.view_is) (again-fits c.args.self.now c.args.bidder (subst A c.self.view_is c.self.invariant.0.fit) c.requires.said) in
     let is = again-is h c.args.self.now i.past.goods i.last i.begin i.standing c.args.bidder c.self.invariant.0 c.self.invariant.1 c.self.view_is in
-    let past = c.in-Ok.ensures.ok ∙ ap (with_report i.past) is in
+    let past = c.in_ok-push_again.ensures.ok ∙ ap (with_report i.past) is in
     kept-both h r i.past.goods c.push_again.new.self i.last i.begin c.go_on.new.last c.go_on.new.begin i.standing c.go_on.new.standing c.self.invariant.0 c.self.invariant.1 taken fits past
     c.go_on.ensures.open c.go_on.ensures.full c.go_on.ensures.stays c.go_on.ensures.goes
 
-pub returns-in-Ok-clause-ok : goal.returns-in-Ok-clause-ok
-returns-in-Ok-clause-ok c =
+pub returns-clause-ok : goal.returns-clause-ok
+returns-clause-ok c =
     let i = c.self.inside in
     let r = again_by c.args.self.now c.args.bidder in
     let h : TwoWayHistory = record { terms = i.terms; number = i.number; start = i.start; reports = i.past.reports } in
     let is = again-is h c.args.self.now i.past.goods i.last i.begin i.standing c.args.bidder c.self.invariant.0 c.self.invariant.1 c.self.view_is in
-    let past = c.in-Ok.ensures.ok ∙ ap (with_report i.past) is in
+    let past = c.in_ok-push_again.ensures.ok ∙ ap (with_report i.past) is in
     (λ j. record { terms = i.terms; number = i.number; start = i.start; reports = (past j).reports }) ∙ ap (λ (k : TwoWayHistory). told k r) c.self.view_is

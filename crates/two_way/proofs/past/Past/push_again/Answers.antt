@@ -8,14 +8,14 @@ use Rattle.two_way.specs.Past.{PastOf, with_report}
 use Rattle.two_way.proofs.Pasts.{named_place, says-again}
 use Rattle.two_way.proofs.past.Past.push_again.Goals as goal
 
-pub invariant_of-self-in-Ok : goal.invariant_of-self-in-Ok
-invariant_of-self-in-Ok c =
+pub invariant_of-self-2 : goal.invariant_of-self-2
+invariant_of-self-2 c =
     let old = c.self.inside in
     let places = c.make_place.new.places in
-    let same = c.in-Ok.ensures.places in
+    let same = c.in_ok-make_place.ensures.places in
     let long = ap length same in
     let size : vec_len places ≡ length places.items = omega (arith, places.ok) in
-    let room = c.in-Ok.ensures.room in
+    let room = c.in_ok-make_place.ensures.room in
     let ok = in-room c.push-in_room.result (vec_capacity places) (vec_len places) c.push-in_room.ensures.full (omega (arith, size, long, room)) in
     let q : Place = record { bidder = c.args.bidder; round = c.args.round + 1; number = c.number_in-number.result } in
     let items = pushed-items c.push-in_room.result places.items c.push-in_room.new.self.items q ok c.push-in_room.ensures.items ∙ ap (λ ps. ps ++ q ∷ []) same in
@@ -27,14 +27,14 @@ invariant_of-self-in-Ok c =
       c.self.invariant.1,
     )
 
-pub returns-in-Ok-clause-ok : goal.returns-in-Ok-clause-ok
-returns-in-Ok-clause-ok c =
+pub returns-clause-ok : goal.returns-clause-ok
+returns-clause-ok c =
     let old = c.self.inside in
     let places = c.make_place.new.places in
-    let same = c.in-Ok.ensures.places in
+    let same = c.in_ok-make_place.ensures.places in
     let long = ap length same in
     let size : vec_len places ≡ length places.items = omega (arith, places.ok) in
-    let room = c.in-Ok.ensures.room in
+    let room = c.in_ok-make_place.ensures.room in
     let ok = in-room c.push-in_room.result (vec_capacity places) (vec_len places) c.push-in_room.ensures.full (omega (arith, size, long, room)) in
     let q : Place = record { bidder = c.args.bidder; round = c.args.round + 1; number = c.number_in-number.result } in
     let items = pushed-items c.push-in_room.result places.items c.push-in_room.new.self.items q ok c.push-in_room.ensures.items ∙ ap (λ ps. ps ++ q ∷ []) same in
