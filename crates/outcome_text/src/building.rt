@@ -237,14 +237,13 @@ impl Numbers<'_> {
             Some(head) => head,
             None => return Ok(None),
         };
-        match self.choices(alloc, goods, member_count(bidders, clock)) {
-            Ok(Some(choices)) => Ok(Some(ClockRow {
+        match self.choices(alloc, goods, member_count(bidders, clock))? {
+            Some(choices) => Ok(Some(ClockRow {
                 steps,
                 prices,
                 choices,
             })),
-            Ok(None) => Ok(None),
-            Err(NoMemory) => Err(NoMemory),
+            None => Ok(None),
         }
     }
 
@@ -264,10 +263,9 @@ impl Numbers<'_> {
     {
         let mut rows = Vec::new(alloc);
         for clock in 0..bidders + 1 {
-            match self.clock_row(alloc, goods, bidders, clock) {
-                Ok(Some(row)) => rows.push(row)?,
-                Ok(None) => return Ok(None),
-                Err(NoMemory) => return Err(NoMemory),
+            match self.clock_row(alloc, goods, bidders, clock)? {
+                Some(row) => rows.push(row)?,
+                None => return Ok(None),
             }
         }
         Ok(Some(Sequence::from_vec(rows)))
@@ -289,15 +287,13 @@ pub(crate) fn outcome_of(
         Some(head) => head,
         None => return Ok(None),
     };
-    let rows = match numbers.award_rows(alloc, head.goods, head.bidders) {
-        Ok(Some(rows)) => rows,
-        Ok(None) => return Ok(None),
-        Err(NoMemory) => return Err(NoMemory),
+    let rows = match numbers.award_rows(alloc, head.goods, head.bidders)? {
+        Some(rows) => rows,
+        None => return Ok(None),
     };
-    let clocks = match numbers.clock_rows(alloc, head.goods, head.bidders) {
-        Ok(Some(clocks)) => clocks,
-        Ok(None) => return Ok(None),
-        Err(NoMemory) => return Err(NoMemory),
+    let clocks = match numbers.clock_rows(alloc, head.goods, head.bidders)? {
+        Some(clocks) => clocks,
+        None => return Ok(None),
     };
     let prices = clocks.as_slice()[0].prices;
     Ok(Some(Outcome {

@@ -15,10 +15,8 @@ use std::alloc::{AllocError, Global};
 pub fn write_json(alloc: Global, outcome: &Outcome) -> Result<Vec<u8>, NoMemory>
     ensures { IfOk result (λ v. v.items ≡ json_text outcome.now) }
 {
-    match json_line(alloc, outcome) {
-        Ok(text) => Ok(text.into_bytes()),
-        Err(_) => Err(NoMemory),
-    }
+    let text = json_line(alloc, outcome)?;
+    Ok(text.into_bytes())
 }
 
 fn json_line(alloc: Global, outcome: &Outcome) -> Result<String, AllocError>

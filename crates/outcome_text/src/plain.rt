@@ -15,10 +15,8 @@ use std::fmt::Write;
 pub fn write_plain(alloc: Global, outcome: &Outcome) -> Result<Vec<u8>, NoMemory>
     ensures { IfOk result (λ v. v.items ≡ plain_text outcome.now) }
 {
-    match whole_text(alloc, outcome) {
-        Ok(text) => Ok(text.into_bytes()),
-        Err(_) => Err(NoMemory),
-    }
+    let text = whole_text(alloc, outcome)?;
+    Ok(text.into_bytes())
 }
 
 fn whole_text(alloc: Global, outcome: &Outcome) -> Result<String, AllocError>

@@ -17,14 +17,10 @@ pub fn read_plain(alloc: Global, bytes: &[u8]) -> Result<Option<Outcome>, NoMemo
     ensures read { IfOk result (λ o. IsReadFrom bytes.now o) }
     ensures back { (o : OutcomeValue) → IsTextOf bytes.now o → IfOk result (λ r. r ≡ Some o) }
 {
-    let numbers = match read_numbers(alloc, bytes) {
-        Ok(numbers) => numbers,
-        Err(_) => return Err(NoMemory),
-    };
-    match read_as(alloc, bytes, &numbers, false) {
-        Ok(Some(outcome)) => Ok(Some(outcome)),
-        Ok(None) => read_as(alloc, bytes, &numbers, true),
-        Err(NoMemory) => Err(NoMemory),
+    let numbers = read_numbers(alloc, bytes)?;
+    match read_as(alloc, bytes, &numbers, false)? {
+        Some(outcome) => Ok(Some(outcome)),
+        None => read_as(alloc, bytes, &numbers, true),
     }
 }
 
@@ -39,15 +35,14 @@ fn read_as(
     ensures read { IfOk result (λ r. IfSome r (IsTextOf bytes.now)) }
     ensures back { (o : OutcomeValue) → IsTextOf bytes.now o → is_some o.opening ≡ shows_opening → IfOk result (λ r. r ≡ Some o) }
 {
-    let outcome = match outcome_of(alloc, numbers, shows_opening) {
-        Ok(Some(outcome)) => outcome,
-        Ok(None) => return Ok(None),
-        Err(NoMemory) => return Err(NoMemory),
+    let outcome = match outcome_of(alloc, numbers, shows_opening)? {
+        Some(outcome) => outcome,
+        None => return Ok(None),
     };
-    match is_plain_text(alloc, &outcome, bytes) {
-        Ok(true) => Ok(Some(outcome)),
-        Ok(false) => Ok(None),
-        Err(NoMemory) => Err(NoMemory),
+    if is_plain_text(alloc, &outcome, bytes)? {
+        Ok(Some(outcome))
+    } else {
+        Ok(None)
     }
 }
 
@@ -55,8 +50,6 @@ fn read_as(
 fn is_plain_text(alloc: Global, outcome: &Outcome, bytes: &[u8]) -> Result<bool, NoMemory>
     ensures { IfOk result (λ same. IsTrue same ↔ (bytes.now ≡ plain_text outcome.now)) }
 {
-    match write_plain(alloc, outcome) {
-        Ok(text) => Ok(text.as_slice() == bytes),
-        Err(NoMemory) => Err(NoMemory),
-    }
+    let text = write_plain(alloc, outcome)?;
+    Ok(text.as_slice() == bytes)
 }

@@ -18,10 +18,8 @@ pub fn write_standing(
 ) -> Result<Vec<u8>, NoMemory>
     ensures { IfOk result (λ v. v.items ≡ standing_line clock look.now.round look.now.phase look.now.prices missing) }
 {
-    match standing_text(alloc, clock, look, missing) {
-        Ok(text) => Ok(text.into_bytes()),
-        Err(_) => Err(NoMemory),
-    }
+    let text = standing_text(alloc, clock, look, missing)?;
+    Ok(text.into_bytes())
 }
 
 fn standing_text(alloc: Global, clock: u8, look: &Look, missing: u8) -> Result<String, AllocError>

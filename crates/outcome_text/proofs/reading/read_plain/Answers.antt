@@ -6,7 +6,7 @@ use Rattle.outcome_text.specs.Reading.{IsTextOf}
 use Rattle.outcome_text.proofs.OneOutcome.{one-outcome}
 use Rattle.outcome_text.proofs.reading.read_plain.Goals as goal
 
-pub returns-in-Ok-Some-clause-back : goal.returns-in-Ok-Some-clause-back
-returns-in-Ok-Some-clause-back c = λ o is.
+pub returns-in-Some-clause-back : goal.returns-in-Some-clause-back
+returns-in-Some-clause-back c = λ o is.
     let P : Option Outcome → Type 0 = λ r. IfSome r (IsTextOf c.args.bytes.now) in
-    ap (λ p. Some p) (one-outcome c.args.bytes.now c.in-Ok-Some.outcome o (subst P c.in-Ok-Some.field-0-is c.in-Ok-Some.ensures.read) is)
+    ap (λ p. Some p) (one-outcome c.args.bytes.now c.in-Some.outcome o (subst P c.in-Some.is c.in_ok-outcome.ensures.read) is)

@@ -4,17 +4,17 @@ use Rattle.outcome_text.specs.Parts.{IsClockOf}
 use Rattle.outcome_text.proofs.ClockRows.{one-more-clock, no-clock, all-clocks, AreClocksTaken, TakesClock}
 use Rattle.outcome_text.proofs.building.Numbers.clock_rows.Goals as goal
 
-pub returns-in-Ok-None-clause-back : goal.returns-in-Ok-None-clause-back
-returns-in-Ok-None-clause-back c = λ rows behind are e.
+pub returns-in-None-clause-back : goal.returns-in-None-clause-back
+returns-in-None-clause-back c = λ rows behind are e.
     let Takes : Option ClockRow → Type 0 = λ row. TakesClock c.args.goods c.args.bidders c.loop-clock.clock c.loop-clock.self.rest.now c.clock_row.new.self.rest.now row in
-    absurd (no-clock c.args.goods c.args.bidders c.loop-clock.clock c.args.self.now.rest.now c.loop-clock.self.rest.now c.clock_row.new.self.rest.now c.loop-clock.rows.items rows behind c.loop-clock.invariant c.loop-clock-test.true (subst Takes c.in-Ok-None.field-0-is c.in-Ok-None.ensures.back) are e)
+    absurd (no-clock c.args.goods c.args.bidders c.loop-clock.clock c.args.self.now.rest.now c.loop-clock.self.rest.now c.clock_row.new.self.rest.now c.loop-clock.rows.items rows behind c.loop-clock.invariant c.loop-clock-test.true (subst Takes c.in-None.is c.in_ok-row.ensures.back) are e)
 
 pub loop-clock-preserved : goal.loop-clock-preserved
 loop-clock-preserved c =
     let Takes : Option ClockRow → Type 0 = λ row. TakesClock c.args.goods c.args.bidders c.loop-clock.clock c.loop-clock.self.rest.now c.clock_row.new.self.rest.now row in
     let Fits : Option ClockRow → Type 0 = λ row. IfSome row (IsClockOf c.args.goods c.args.bidders c.loop-clock.clock) in
-    one-more-clock c.args.goods c.args.bidders c.loop-clock.clock c.args.self.now.rest.now c.loop-clock.self.rest.now c.clock_row.new.self.rest.now c.loop-clock.rows.items c.push.new.self.items c.in-Ok-Some.row
-    c.loop-clock.invariant c.loop-clock-test.true (subst Fits c.in-Ok-Some.field-0-is c.in-Ok-Some.ensures.fit) (subst Takes c.in-Ok-Some.field-0-is c.in-Ok-Some.ensures.back) c.in_ok-push-in-Ok-Some.ensures.items
+    one-more-clock c.args.goods c.args.bidders c.loop-clock.clock c.args.self.now.rest.now c.loop-clock.self.rest.now c.clock_row.new.self.rest.now c.loop-clock.rows.items c.push.new.self.items c.in-Some.row
+    c.loop-clock.invariant c.loop-clock-test.true (subst Fits c.in-Some.is c.in_ok-row.ensures.fit) (subst Takes c.in-Some.is c.in_ok-row.ensures.back) c.in_ok-push-in-Some.ensures.items
 
 pub returns-clause-back : goal.returns-clause-back
 returns-clause-back c = λ rows behind are e.
