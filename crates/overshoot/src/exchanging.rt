@@ -25,10 +25,8 @@ pub fn exchange(alloc: Global, goods: &Goods, demand: &Demand) -> Result<SetVerd
     requires { IsDemand goods.now demand.now }
     ensures { IfOk result (IsRight demand.now) }
 {
-    match marks_of(alloc, goods, demand) {
-        Ok(marks) => Ok(verdict_by(goods, demand, &marks)),
-        Err(_) => Err(NoMemory),
-    }
+    let marks = marks_of(alloc, goods, demand)?;
+    Ok(verdict_by(goods, demand, &marks))
 }
 
 /// Which bundles of the box the demand has.

@@ -78,14 +78,10 @@ fn explain_end(alloc: Global, terms: &Terms, clock: &Clock) -> Result<Explained,
     ensures { IfOk result (IsExplained clock.now.history) }
 {
     let look = clock.look();
-    let demands = match last_demands(alloc, terms, clock) {
-        Ok(demands) => demands,
-        Err(NoMemory) => return Err(NoMemory),
-    };
-    match assemble(alloc, &terms.goods, &terms.opening, &look.prices, &demands) {
-        Ok(Assembly::Award(_)) => Ok(Explained::Award),
-        Ok(Assembly::NoChoice) => explain_lack(alloc, terms, clock),
-        Err(NoMemory) => Err(NoMemory),
+    let demands = last_demands(alloc, terms, clock)?;
+    match assemble(alloc, &terms.goods, &terms.opening, &look.prices, &demands)? {
+        Assembly::Award(_) => Ok(Explained::Award),
+        Assembly::NoChoice => explain_lack(alloc, terms, clock),
     }
 }
 
@@ -151,10 +147,8 @@ fn last_broken(
     ensures { IfOk result (λ o. MatchOption o (HasExchange (last_demands clock.now.history bidder))
         (λ w. (w.bidder ≡ bidder) × IsFirstBroken (last_demands clock.now.history bidder) w.x w.y w.good)) }
 {
-    match last_exchange(alloc, terms, clock, bidder) {
-        Ok(verdict) => Ok(without_of(bidder, verdict)),
-        Err(NoMemory) => Err(NoMemory),
-    }
+    let verdict = last_exchange(alloc, terms, clock, bidder)?;
+    Ok(without_of(bidder, verdict))
 }
 
 /// The bidder with the triple, if its demand lacks the exchange property.
