@@ -36,10 +36,9 @@ pub(crate) fn clock_rows(
     let mut rows = Vec::new(alloc);
     for clock in clocks {
         let number = clock.number();
-        match clock_row(alloc, terms, clock) {
-            Ok(Some(row)) => rows.push(row)?,
-            Ok(None) => return Ok(Choices::NoneOf(number)),
-            Err(NoMemory) => return Err(NoMemory),
+        match clock_row(alloc, terms, clock)? {
+            Some(row) => rows.push(row)?,
+            None => return Ok(Choices::NoneOf(number)),
         }
     }
     Ok(Choices::All(Sequence::from_vec(rows)))
@@ -87,14 +86,13 @@ fn clock_row(alloc: Global, terms: &Terms, clock: &Clock) -> Result<Option<Clock
 {
     let look = clock.look();
     let demands = last_demands(alloc, terms, clock)?;
-    match assemble(alloc, &terms.goods, &terms.opening, &look.prices, &demands) {
-        Ok(Assembly::Award(choices)) => Ok(Some(ClockRow {
+    match assemble(alloc, &terms.goods, &terms.opening, &look.prices, &demands)? {
+        Assembly::Award(choices) => Ok(Some(ClockRow {
             steps: clock.steps(),
             prices: look.prices,
             choices,
         })),
-        Ok(Assembly::NoChoice) => Ok(None),
-        Err(NoMemory) => Err(NoMemory),
+        Assembly::NoChoice => Ok(None),
     }
 }
 

@@ -56,10 +56,8 @@ fn settle_exactly(alloc: Global, terms: &Terms, clocks: &[Clock]) -> Result<Sett
     if let Some(settlement) = open_clocks::before_the_end(clocks) {
         return Ok(settlement);
     }
-    match choosing::clock_rows(alloc, terms, clocks) {
-        Ok(choices) => settle_choices(alloc, terms, clocks, choices),
-        Err(NoMemory) => Err(NoMemory),
-    }
+    let choices = choosing::clock_rows(alloc, terms, clocks)?;
+    settle_choices(alloc, terms, clocks, choices)
 }
 
 /// What `settle` answers, where the row of each clock was found before.
@@ -77,10 +75,8 @@ pub fn settle_found(
     if let Some(settlement) = open_clocks::before_the_end(clocks) {
         return Ok(settlement);
     }
-    match choosing::found_rows(alloc, clocks, found) {
-        Ok(choices) => settle_choices(alloc, terms, clocks, choices),
-        Err(NoMemory) => Err(NoMemory),
-    }
+    let choices = choosing::found_rows(alloc, clocks, found)?;
+    settle_choices(alloc, terms, clocks, choices)
 }
 
 /// What clocks settle that have all ended, by what was chosen for each.
@@ -98,10 +94,10 @@ fn settle_choices(
 {
     match choices {
         Choices::NoneOf(clock) => Ok(Settlement::NoAward { clock }),
-        Choices::All(rows) => match outcome_of(alloc, terms, clocks, rows) {
-            Ok(outcome) => Ok(Settlement::Settled(outcome)),
-            Err(NoMemory) => Err(NoMemory),
-        },
+        Choices::All(rows) => {
+            let outcome = outcome_of(alloc, terms, clocks, rows)?;
+            Ok(Settlement::Settled(outcome))
+        }
     }
 }
 
@@ -120,15 +116,13 @@ fn outcome_of(
     let others = clocks.split_at(1).1;
     let row = &rows.as_slice()[0];
     let prices = row.prices;
-    match awarding::award_rows(alloc, all, others, &prices, &row.choices) {
-        Ok(awards) => Ok(Outcome {
-            prices,
-            opening: opening_of(terms),
-            rows: awards,
-            clocks: rows,
-        }),
-        Err(NoMemory) => Err(NoMemory),
-    }
+    let awards = awarding::award_rows(alloc, all, others, &prices, &row.choices)?;
+    Ok(Outcome {
+        prices,
+        opening: opening_of(terms),
+        rows: awards,
+        clocks: rows,
+    })
 }
 
 /// The opening prices, where the seller has named them.
