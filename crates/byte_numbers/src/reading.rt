@@ -28,12 +28,9 @@ pub fn short_number_of(bytes: &[u8]) -> u16
 pub fn short_numbers_of(alloc: Global, bytes: &[u8]) -> Result<Vec<u16>, AllocError>
     ensures { IfOk result (λ v. v.items ≡ short_numbers bytes.now) }
 {
-    let mut numbers = Vec::with_capacity(alloc, bytes.len() / 2)?;
-    let mut rest = bytes;
-    while let [high, low, others @ ..] = rest {
-        numbers.push(BigEndian::read_u16(&[*high, *low]))?;
-        rest = others;
-    }
+    let count = bytes.len() / 2;
+    let mut numbers = vec![in alloc; 0u16; count]?;
+    BigEndian::read_u16_into(&bytes[..2 * count], &mut numbers);
     Ok(numbers)
 }
 

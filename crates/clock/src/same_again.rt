@@ -42,15 +42,16 @@ impl Clock {
     }
 }
 
-/// The place of a bidder's report whose quantities these bytes spell.
+/// The place of a bidder's report, if these bytes spell its quantities. There is one at most.
 fn place_of(reports: &[Report], bidder: u8, quantities: &[u8]) -> Option<usize>
     ensures { IfSome result (λ place. (r : ReportValue) × (slice_get reports.now place ≡ Some r) × (r.bidder ≡ bidder)
         × (short_numbers quantities.now ≡ concat r.demand)) }
 {
     for place in 0..reports.len() {
         let report = &reports[place];
-        if report.bidder == bidder && are_short_numbers(report.demand.quantities(), quantities) {
-            return Some(place);
+        if report.bidder == bidder {
+            let same = are_short_numbers(report.demand.quantities(), quantities);
+            return if same { Some(place) } else { None };
         }
     }
     None

@@ -138,6 +138,10 @@ fn keep_least(table: &mut [u16; 64], rows: usize, halves: &Halves)
     requires fits { (row set : ℕ) → row < 8 → set < 8 → slice_index halves.now.low set + slice_index halves.now.high row < 2 ^ 16 }
     ensures { KeepsRows min rows halves.now.low halves.now.high table.old table.new }
 {
+    if rows == 1 {
+        keep_least_row(table, 0, &halves.low, halves.high[0]);
+        return;
+    }
     for row in 0..rows {
         keep_least_row(table, row, &halves.low, halves.high[row]);
     }
@@ -149,6 +153,10 @@ fn keep_greatest(table: &mut [u16; 64], rows: usize, halves: &Halves)
     requires fits { (row set : ℕ) → row < 8 → set < 8 → slice_index halves.now.low set + slice_index halves.now.high row < 2 ^ 16 }
     ensures { KeepsRows max rows halves.now.low halves.now.high table.old table.new }
 {
+    if rows == 1 {
+        keep_greatest_row(table, 0, &halves.low, halves.high[0]);
+        return;
+    }
     for row in 0..rows {
         keep_greatest_row(table, row, &halves.low, halves.high[row]);
     }
