@@ -76,6 +76,7 @@ each f elements = all_of (map (λ e. f (take e.0 elements) e.0 e.1) (enumerate_f
 abbrev pub good_number : ℕ → ℕ
 good_number place = min place (2 ^ 32 - 1)
 
+-- the same in one byte
 abbrev pub short_number : ℕ → ℕ
 short_number place = min place 255
 

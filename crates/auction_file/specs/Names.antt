@@ -7,6 +7,7 @@ use Rattle.std.specs.List.{list_all, AllByRecursion}
 abbrev pub is_name_byte : ℕ → Bool
 is_name_byte c = ((nat_le 97 c && nat_le c 122) || (nat_le 48 c && nat_le c 57)) || c == 45
 
+-- one to thirty-two such bytes
 abbrev pub is_name : List ℕ → Bool
 is_name bytes = (nat_le 1 (length bytes) && nat_le (length bytes) 32) && list_all is_name_byte bytes
 
@@ -14,9 +15,11 @@ is_name bytes = (nat_le 1 (length bytes) && nat_le (length bytes) 32) && list_al
 abbrev pub name_of : List ℕ → Option (List ℕ)
 name_of bytes = if is_name bytes then Some bytes else None
 
+-- a name in the cells, zeros after it
 abbrev pub padded : List ℕ → List ℕ
 padded bytes = bytes ++ replicate (32 - length bytes) 0
 
+-- the cells hold a name of so many bytes
 pub record IsNameIn (cells : List ℕ) (count : ℕ) : Type 0 where
   pub few : count ≤ 32
   pub count_is : length (take count cells) ≡ count

@@ -25,6 +25,7 @@ value_at key name table = ok_or (get_member name table) (fault.Missing key)
 abbrev pub integer_at : Key → List ℕ → Members → Result ℤ AuctionFault
 integer_at key name table = value_at key name table >>= (λ value. ok_or (as_integer value) (fault.WrongKind key))
 
+-- the string at a key
 abbrev pub string_at : Key → List ℕ → Members → Result (List ℕ) AuctionFault
 string_at key name table = value_at key name table >>= (λ value. ok_or (as_str value) (fault.WrongKind key))
 
@@ -32,6 +33,7 @@ string_at key name table = value_at key name table >>= (λ value. ok_or (as_str 
 abbrev pub array_of : Key → Data → Result (List Data) AuctionFault
 array_of key value = ok_or (elements_of value) (fault.WrongKind key)
 
+-- the elements of the array at a key
 abbrev pub array_at : Key → List ℕ → Members → Result (List Data) AuctionFault
 array_at key name table = value_at key name table >>= array_of key
 
@@ -44,6 +46,7 @@ abbrev pub refused_key : Option (List ℕ) → Result (Unit {0}) AuctionFault
 refused_key None = Ok tt
 refused_key (Some key) = Err (fault.UnknownKey key)
 
+-- the table has no key but the known ones
 abbrev pub known_keys : List (List ℕ) → Members → Result (Unit {0}) AuctionFault
 known_keys known table = refused_key (least_unknown known table)
 

@@ -9,16 +9,20 @@ use Rattle.settlement.specs.declared.outcome.AwardRow.{AwardRow}
 use Rattle.settlement.specs.declared.outcome.ClockRow.{ClockRow}
 use Rattle.settlement.specs.declared.outcome.Outcome.{Outcome}
 
+-- a number of units, of a bidder or of a clock
 abbrev pub count : ℕ → Data
 count n = number (unsigned n)
 
+-- what is owed, clinched or paid, which may be below 0
 abbrev pub amount : ℤ → Data
 amount z = number (of_integer z)
 
+-- the prices of the goods, or the quantities of a bundle
 abbrev pub counts : List ℕ → Items
 counts [] = no_items
 counts (n ∷ ns) = item (count n) (counts ns)
 
+-- a bidder: what it is awarded, its number, its credit, its debit and what it pays
 abbrev pub bidder_object : ℕ → AwardRow → Data
 bidder_object bidder row =
     object (member (codes "award") (array (counts row.award)) (member (codes "bidder") (count bidder)
@@ -29,6 +33,7 @@ abbrev pub bidder_objects : ℕ → List AwardRow → Items
 bidder_objects bidder [] = no_items
 bidder_objects bidder (row ∷ rows) = item (bidder_object bidder row) (bidder_objects (suc bidder) rows)
 
+-- what a member of a clock chooses
 abbrev pub choice_object : ℕ → List ℕ → Data
 choice_object bidder bundle = object (member (codes "bidder") (count bidder) (member (codes "bundle") (array (counts bundle)) no_members))
 
@@ -38,6 +43,7 @@ choice_objects [] bundles = no_items
 choice_objects (j ∷ js) [] = no_items
 choice_objects (j ∷ js) (bundle ∷ bundles) = item (choice_object j bundle) (choice_objects js bundles)
 
+-- a clock: what its members choose, its number, its prices and its steps
 abbrev pub clock_object : ℕ → ℕ → ClockRow → Data
 clock_object bidders clock row =
     object (member (codes "choices") (array (choice_objects (members bidders clock) row.choices)) (member (codes "clock") (count clock)

@@ -2,9 +2,11 @@
 use Rattle.std.specs.Prelude.{ℕ, List, ◌++◌, map, codes, decimal}
 use Rattle.std.specs.List.{concat, join_with_byte}
 
+-- the line of these words
 abbrev pub line : List (List ℕ) → List ℕ
 line words = join_with_byte 32 words ++ codes "\n"
 
+-- the text of these lines
 abbrev pub text_of : List (List (List ℕ)) → List ℕ
 text_of lines = concat (map line lines)
 

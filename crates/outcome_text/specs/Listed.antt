@@ -5,9 +5,11 @@ use Rattle.settlement.specs.declared.outcome.AwardRow.{AwardRow}
 use Rattle.settlement.specs.declared.outcome.ClockRow.{ClockRow}
 use Rattle.settlement.specs.declared.outcome.Outcome.{Outcome}
 
+-- the prices of the goods, or the quantities of a bundle
 abbrev pub naturals : List ℕ → List ℤ
 naturals ns = map pos ns
 
+-- those of a bidder: its number, its award, its debit, its credit and what it pays
 abbrev pub award_numbers : ℕ → AwardRow → List ℤ
 award_numbers bidder row = pos bidder ∷ naturals row.award ++ (row.debit ∷ row.credit ∷ row.pays ∷ [])
 
@@ -16,6 +18,7 @@ abbrev pub awards_numbers : ℕ → List AwardRow → List ℤ
 awards_numbers bidder [] = []
 awards_numbers bidder (row ∷ rows) = award_numbers bidder row ++ awards_numbers (suc bidder) rows
 
+-- those of what a member of a clock chooses: the numbers of both, and the bundle
 abbrev pub choice_numbers : ℕ → ℕ → List ℕ → List ℤ
 choice_numbers clock bidder bundle = pos clock ∷ pos bidder ∷ naturals bundle
 
@@ -25,6 +28,7 @@ choices_numbers clock [] bundles = []
 choices_numbers clock (j ∷ js) [] = []
 choices_numbers clock (j ∷ js) (bundle ∷ bundles) = choice_numbers clock j bundle ++ choices_numbers clock js bundles
 
+-- those of a clock: its number, its steps, its prices and what its members choose
 abbrev pub clock_numbers : ℕ → ℕ → ClockRow → List ℤ
 clock_numbers bidders clock row = pos clock ∷ pos row.steps ∷ naturals row.prices ++ choices_numbers clock (members bidders clock) row.choices
 

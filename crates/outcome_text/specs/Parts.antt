@@ -9,10 +9,12 @@ use Rattle.settlement.specs.declared.outcome.ClockRow.{ClockRow}
 use Rattle.settlement.specs.declared.outcome.Outcome.{Outcome}
 use Rattle.outcome_text.specs.Reading.{AreQuantities, ArePrices, IsAwardInRange, IsClockInRange, IsInRange}
 
+-- a quantity of two bytes for each good
 pub record IsBundleOf (goods : ℕ) (bundle : List ℕ) : Type 0 where
   pub fit : IsOf goods bundle
   pub in_range : AreQuantities bundle
 
+-- a price of four bytes for each good
 pub record ArePricesOf (goods : ℕ) (prices : List ℕ) : Type 0 where
   pub fit : IsOf goods prices
   pub in_range : ArePrices prices
@@ -27,22 +29,27 @@ pub record IsHead (h : Head) : Type 0 where
   pub bidders : IsRange 1 12 h.bidders
   pub opening : IsOpeningOf h.goods h.opening
 
+-- the row of a bidder: a bundle of these goods, and three amounts
 pub record IsAwardOf (goods : ℕ) (row : AwardRow) : Type 0 where
   pub fit : IsOf goods row.award
   pub in_range : IsAwardInRange row
 
+-- a row for each bidder
 pub record AreAwardsOf (goods bidders : ℕ) (rows : List AwardRow) : Type 0 where
   pub count : length rows ≡ bidders
   pub each : AllByRecursion (IsAwardOf goods) rows
 
+-- so many bundles of these goods
 pub record AreChoicesOf (goods count : ℕ) (choices : List (List ℕ)) : Type 0 where
   pub counted : length choices ≡ count
   pub each : AllByRecursion (IsBundleOf goods) choices
 
+-- the row of a clock of this number: a price for each good, and a bundle for each member
 pub record IsClockOf (goods bidders clock : ℕ) (row : ClockRow) : Type 0 where
   pub fit : IsRowOfClock goods bidders clock row
   pub in_range : IsClockInRange row
 
+-- a row for each clock, that of clock 0 first
 abbrev pub AreClocksOf : ℕ → ℕ → List ClockRow → Type 0
 AreClocksOf goods bidders rows = AllZip (IsClockOf goods bidders) (range_with_len 0 (bidders + 1)) rows
 

@@ -17,9 +17,11 @@ use Rattle.settlement.specs.declared.outcome.ClockRow.{ClockRow}
 use Rattle.settlement.specs.declared.outcome.Outcome.{Outcome}
 use Rattle.outcome_text.specs.Lines.{text_of, numerals}
 
+-- the first line
 abbrev pub head_words : ℕ → ℕ → List (List ℕ)
 head_words goods bidders = codes "settled" ∷ codes "goods" ∷ decimal goods ∷ codes "bidders" ∷ decimal bidders ∷ []
 
+-- the line of the prices
 abbrev pub price_words : List ℕ → List (List ℕ)
 price_words prices = codes "prices" ∷ numerals prices
 
@@ -34,6 +36,7 @@ award_words bidder award debit credit pays =
     codes "bidder" ∷ decimal bidder ∷ codes "award" ∷ numerals award ++
     (codes "debit" ∷ signed_decimal debit ∷ codes "credit" ∷ signed_decimal credit ∷ codes "pays" ∷ signed_decimal pays ∷ [])
 
+-- the same, by the row of the bidder
 abbrev pub bidder_words : ℕ → AwardRow → List (List ℕ)
 bidder_words bidder row = award_words bidder row.award row.debit row.credit row.pays
 
@@ -42,6 +45,7 @@ abbrev pub bidder_lines : ℕ → List AwardRow → List (List (List ℕ))
 bidder_lines bidder [] = []
 bidder_lines bidder (row ∷ rows) = bidder_words bidder row ∷ bidder_lines (suc bidder) rows
 
+-- the line of what a member of a clock chooses
 abbrev pub choice_words : ℕ → ℕ → List ℕ → List (List ℕ)
 choice_words clock member bundle = codes "choice" ∷ decimal clock ∷ decimal member ∷ numerals bundle
 
@@ -51,6 +55,7 @@ choice_lines clock [] bundles = []
 choice_lines clock (member ∷ members) [] = []
 choice_lines clock (member ∷ members) (bundle ∷ bundles) = choice_words clock member bundle ∷ choice_lines clock members bundles
 
+-- the line of a clock
 abbrev pub clock_words : ℕ → ClockRow → List (List ℕ)
 clock_words clock row = codes "clock" ∷ decimal clock ∷ codes "steps" ∷ decimal row.steps ∷ codes "prices" ∷ numerals row.prices
 
@@ -59,6 +64,7 @@ abbrev pub clock_lines : ℕ → ℕ → List ClockRow → List (List (List ℕ)
 clock_lines bidders clock [] = []
 clock_lines bidders clock (row ∷ rows) = clock_words clock row ∷ choice_lines clock (members bidders clock) row.choices ++ clock_lines bidders (suc clock) rows
 
+-- all lines of an outcome, in order
 abbrev pub outcome_lines : Outcome → List (List (List ℕ))
 outcome_lines o =
     head_words (length o.prices) (length o.rows) ∷ price_words o.prices ∷ opening_lines o.opening ++ (bidder_lines 1 o.rows ++ clock_lines (length o.rows) 0 o.clocks)

@@ -19,17 +19,20 @@ pub record IsAmount (z : ℤ) : Type 0 where
   pub low : neg_ℤ (pos (2 ^ 63)) ≤ℤ z
   pub high : z <ℤ pos (2 ^ 63)
 
+-- the numbers of a bidder are in range
 pub record IsAwardInRange (row : AwardRow) : Type 0 where
   pub award : AreQuantities row.award
   pub debit : IsAmount row.debit
   pub credit : IsAmount row.credit
   pub pays : IsAmount row.pays
 
+-- the numbers of a clock are in range
 pub record IsClockInRange (row : ClockRow) : Type 0 where
   pub steps : row.steps < 2 ^ 32
   pub prices : ArePrices row.prices
   pub choices : AllByRecursion AreQuantities row.choices
 
+-- all numbers of an outcome are in range
 pub record IsInRange (o : Outcome) : Type 0 where
   pub prices : ArePrices o.prices
   pub opening : IfSome o.opening ArePrices

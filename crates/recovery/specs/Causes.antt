@@ -81,6 +81,7 @@ FoundOther owner (scanned.Formed header places end) why = IsHeaderCause owner he
 FoundOther owner (scanned.Damaged header places number) why =
     ((number ≡ 0) × (why ≡ cause.Damaged)) ⊎ ((number ≢ 0) × IsHeaderCause owner header why)
 
+-- whose header a scan found: the owner's, or a broken one, which is record 0
 abbrev pub IfFoundOther : Owner → Scanned → Option Broken → Type 0
 IfFoundOther owner scan None = HasOwnHeader owner scan
 IfFoundOther owner scan (Some broken) = (broken.number ≡ 0) × FoundOther owner scan broken.cause

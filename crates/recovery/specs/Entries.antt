@@ -21,6 +21,7 @@ pub record IsReportOf (terms : Terms) (r : Report) : Type 0 where
   pub round : r.round < 2 ^ 32
   pub fits : IsDemand terms.goods r.demand
 
+-- each is a report that an entry may hold
 abbrev pub AreReportsOf : Terms → List Report → Type 0
 AreReportsOf terms reports = AllByRecursion (IsReportOf terms) reports
 

@@ -12,6 +12,7 @@ pub record Owner : Type 0 where
   pub clock : ℕ
   pub digest : List ℕ
 
+-- the owner of these terms, this clock and this digest
 abbrev pub owner_of : Terms → ℕ → List ℕ → Owner
 owner_of terms clock digest = record { terms = terms; clock = clock; digest = digest }
 

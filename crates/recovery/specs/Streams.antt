@@ -96,6 +96,7 @@ abbrev pub IsUndamaged : Scanned → Type 0
 IsUndamaged (scanned.Damaged header places number) = ⊥
 IsUndamaged scan = Unit {0}
 
+-- the reader has given the report of each record, and no record is broken
 pub record HasEnded (reader : ReportsOf) : Type 0 where
   pub unbroken : reader.broken ≡ None
   pub all : reader.given ≡ length (places_in reader.scan)

@@ -21,6 +21,7 @@ pub record OpensWith (opening bytes : List ℕ) : Type 0 where
   pub fit : AllByRecursion (λ price. price < 2 ^ 32) opening
   pub followed : IsFollowed (opening_bytes (Some opening)) bytes
 
+-- the opening prices that stand at the front of the bytes, or none where none stand there
 abbrev pub IsOpeningAt : Option (List ℕ) → List ℕ → Type 0
 IsOpeningAt None bytes = (opening : List ℕ) → OpensWith opening bytes → ⊥
 IsOpeningAt (Some opening) bytes = OpensWith opening bytes
@@ -30,6 +31,7 @@ pub record BeginsWith (h : Header) (bytes : List ℕ) : Type 0 where
   pub header : IsHeader h
   pub followed : IsFollowed (header_bytes h) bytes
 
+-- the header that stands at the front of the bytes, or none where none stands there
 abbrev pub IsHeaderAt : Option Header → List ℕ → Type 0
 IsHeaderAt None bytes = (h : Header) → BeginsWith h bytes → ⊥
 IsHeaderAt (Some h) bytes = BeginsWith h bytes
@@ -40,6 +42,7 @@ pub record HasHeader (h : Header) (file : List ℕ) : Type 0 where
   pub begins : take (first_gate h) file ≡ OPEN ∷ header_bytes h
   pub more : first_gate h + 1 ≤ length file
 
+-- what the front of the file says of its header
 abbrev pub IsFront : Front → List ℕ → Type 0
 IsFront Unformed file = IsUnformed file
 IsFront (Headless h) file = HasNoHeader file × (h ≡ unread_header file)

@@ -37,9 +37,11 @@ pub record AddsRecord {D : Type 0} (size : ℕ) (old new : JournalOf D) : Type 0
   pub places : new.places ≡ old.places ++ record { at = old.end + 5; length = size } ∷ []
   pub end : new.end ≡ old.end + 5 + size
 
+-- the bytes of the file at this place
 abbrev pub payload_at : List ℕ → Place → List ℕ
 payload_at file place = take place.length (drop place.at file)
 
+-- those at these places, in order
 abbrev pub payloads_at : List ℕ → List Place → List (List ℕ)
 payloads_at file places = map (payload_at file) places
 

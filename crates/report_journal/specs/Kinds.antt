@@ -11,12 +11,14 @@ pub data Kind : Type 0 where
   -- it is damaged in its header
   Headless : Kind
 
+-- what each kind of file is
 abbrev pub IsOfKind : Kind → List ℕ → Type 0
 IsOfKind Unformed file = IsUnformed file
 IsOfKind (Formed x) file = StandsFor x file
 IsOfKind (Damaged x) file = IsDamaged x file
 IsOfKind Headless file = HasNoHeader file
 
+-- the numbers are bytes
 abbrev pub AreBytes : List ℕ → Type 0
 AreBytes file = (i : ℕ) → slice_index file i < 2 ^ 8
 

@@ -6,15 +6,19 @@ use Rattle.report_journal.specs.declared.headers.Header.{Header}
 use Rattle.report_journal.specs.declared.spellings.TheConstants.{OPEN}
 use Rattle.report_journal.specs.Format.{Contents, IsHeader, header_bytes, body, front, Fits, StandsFor, IsUnformed}
 
+-- the contents with this header and no payload
 abbrev pub empty : Header → Contents
 empty header = record { header = header; payloads = [] }
 
+-- the contents with this payload after the others
 abbrev pub with_one_more : Contents → List ℕ → Contents
 with_one_more x payload = record { header = x.header; payloads = x.payloads ++ payload ∷ [] }
 
+-- the file stands for the contents, or for them with this payload
 abbrev pub IsBeforeOrAfter : Contents → List ℕ → List ℕ → Type 0
 IsBeforeOrAfter x payload file = StandsFor x file ⊎ StandsFor (with_one_more x payload) file
 
+-- the file is unformed, or stands for this header and no payload
 abbrev pub IsUnformedOrEmpty : Header → List ℕ → Type 0
 IsUnformedOrEmpty header file = IsUnformed file ⊎ StandsFor (empty header) file
 

@@ -76,6 +76,7 @@ IsInOrder (scanned.Damaged header places number) =
     ((number ≡ 0) × (places ≡ []) × (header.version ≡ 0) × (header.opening ≡ None))
     ⊎ ((number ≡ length places + 1) × IsHeader header × FollowFrom (first_gate header) places × (gate_after (first_gate header) places + 1 ≤ GREATEST_FILE))
 
+-- the scan found a formed journal with no broken record
 abbrev pub IsFormed : Scanned → Type 0
 IsFormed (Formed header places end) = Unit {0}
 IsFormed s = ⊥

@@ -12,6 +12,7 @@ use Rattle.toml.specs.Parse.{parse_document}
 unfoldable pub tree_of : List ℕ → Option Members
 tree_of bytes = if is_utf8 bytes then parse_document bytes else None
 
+-- the elements as a list
 abbrev pub elements : Items → List Data
 elements no_items = []
 elements (item value rest) = value ∷ elements rest

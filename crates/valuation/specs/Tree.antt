@@ -25,6 +25,7 @@ value_at key name table = ok_or (get_member name table) (fault.Missing key)
 abbrev pub integer_at : ValueKey → List ℕ → Members → Result ℤ ValuesFault
 integer_at key name table = value_at key name table >>= (λ value. ok_or (as_integer value) (fault.WrongKind key))
 
+-- the string at a key
 abbrev pub string_at : ValueKey → List ℕ → Members → Result (List ℕ) ValuesFault
 string_at key name table = value_at key name table >>= (λ value. ok_or (as_str value) (fault.WrongKind key))
 
@@ -32,6 +33,7 @@ string_at key name table = value_at key name table >>= (λ value. ok_or (as_str 
 abbrev pub array_of : ValueKey → Data → Result (List Data) ValuesFault
 array_of key value = ok_or (elements_of value) (fault.WrongKind key)
 
+-- the elements of the array at a key
 abbrev pub array_at : ValueKey → List ℕ → Members → Result (List Data) ValuesFault
 array_at key name table = value_at key name table >>= array_of key
 
@@ -39,6 +41,7 @@ array_at key name table = value_at key name table >>= array_of key
 abbrev pub integer_of : ValueKey → Data → Result ℤ ValuesFault
 integer_of key value = ok_or (as_integer value) (fault.WrongKind key)
 
+-- the integers of an array, and of an array of arrays
 abbrev pub integers_of : ValueKey → Data → Result (List ℤ) ValuesFault
 integers_of key value = array_of key value >>= each_from (λ _. integer_of key) 0
 
@@ -54,6 +57,7 @@ abbrev pub refused_key : Option (List ℕ) → Result (Unit {0}) ValuesFault
 refused_key None = Ok tt
 refused_key (Some key) = Err (fault.UnknownKey key)
 
+-- the table has no key but the known ones
 abbrev pub known_keys : List (List ℕ) → Members → Result (Unit {0}) ValuesFault
 known_keys known table = refused_key (least_unknown known table)
 

@@ -32,6 +32,7 @@ document_of bytes = ok_or (tree_of bytes) fault.NotToml
 abbrev pub long : (bidder needed found : ℕ) → Result (Unit {0}) ValuesFault
 long bidder needed found = check (found == needed) (fault.Length bidder found needed)
 
+-- there is a list for each good, as long as its supply
 abbrev pub all_long : {A : Type 0} (bidder : ℕ) (supply : List ℕ) → List (List A) → Result (Unit {0}) ValuesFault
 all_long bidder (s ∷ supply) (l ∷ lists) = long bidder s (length l) >>= (λ _. all_long bidder supply lists)
 all_long bidder supply lists = Ok tt
