@@ -54,7 +54,7 @@ way-none s o p ds can = by (first_choice s o p ds) refl
     by None e = refl
     by (Some xs) e = absurd (let f : true ≡ false = sym (ap is_some (first_choice-after s o p ds ∙ e)) ∙ can in cc)
 
-drop-at : {X : Type 0} (xs : List X) (i : ℕ) (x : X) → slice_get xs i ≡ Some x → drop i xs ≡ x ∷ drop (i + 1) xs
+pub drop-at : {X : Type 0} (xs : List X) (i : ℕ) (x : X) → slice_get xs i ≡ Some x → drop i xs ≡ x ∷ drop (i + 1) xs
 drop-at [] i x at = absurd (let f : None ≡ Some x = at in cc)
 drop-at (y ∷ xs) zero x at = let s : y ≡ x = cc in ap (λ z. z ∷ xs) s
 drop-at (y ∷ xs) (suc i) x at = drop-at xs i x at ∙ (let e : suc (i + 1) ≡ suc i + 1 = omega arith in ap (λ n. x ∷ drop n (y ∷ xs)) e)

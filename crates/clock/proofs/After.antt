@@ -42,11 +42,11 @@ take-before zero reports r up = refl
 take-before (suc n) [] r up = absurd (omega arith)
 take-before (suc n) (x ∷ reports) r up = ap (λ xs. x ∷ xs) (take-before n reports r (omega arith))
 
-take-whole : (reports : List Report) → take (length reports) reports ≡ reports
+pub take-whole : (reports : List Report) → take (length reports) reports ≡ reports
 take-whole [] = refl
 take-whole (x ∷ reports) = ap (λ xs. x ∷ xs) (take-whole reports)
 
-longer : (reports : List Report) (r : Report) → length reports ≤ length (reports ++ r ∷ [])
+pub longer : (reports : List Report) (r : Report) → length reports ≤ length (reports ++ r ∷ [])
 longer [] r = omega arith
 longer (x ∷ reports) r = let l = longer reports r in omega arith
 

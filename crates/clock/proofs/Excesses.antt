@@ -1,14 +1,14 @@
 -- The excesses of a round as they are added up, bidder by bidder, and the step set of their table.
-use Rattle.std.proofs.Common.{◌≡◌, ◌≢◌, ◌<◌, ◌≤◌, ℕ, zero, suc, ◌+◌, ◌*◌, ◌/◌, ◌%◌, ◌-◌, ◌^◌, nat_eq, cond, Bool, true, false, not, Some, None, List, [], ◌∷◌, length, sym, ◌∙◌, ap, arith, subst, ◌⊎◌, inl, inr}
+use Rattle.std.proofs.Common.{◌≡◌, ◌≢◌, ◌<◌, ◌≤◌, ℕ, ◌+◌, ◌*◌, ◌-◌, ◌^◌, nat_eq, cond, Bool, true, false, not, Some, None, List, [], ◌∷◌, length, sym, ◌∙◌, ap, arith, subst, ◌⊎◌, inl, inr}
 use Rattle.std.specs.Prelude.{filter, option_map, unwrap_or, find, replicate, ℤ, pos, negsuc, ◌+ℤ◌, ◌≤ℤ◌, fold, min, slice_index}
 use Rattle.std.proofs.lemmas.Int.{ints}
-use Rattle.std.proofs.Math.Nat.{mul-le-mul_left}
 use Rattle.std.specs.List.{AllByRecursion, range_with_len}
-use Rattle.lot_base.specs.Goods.{quantity_in, box_size, AtMost, IsSupply}
+use Rattle.lot_base.specs.Goods.{quantity_in, box_size, IsSupply}
 use Rattle.lot_base.specs.Demands.{least, IsDemand, IsTable}
 use Rattle.lot_base.specs.Economy.{total_units}
 use Rattle.lot_base.specs.Steps.{IsStepSet, excess, first_set, step_set}
 use Rattle.demand_set.specs.declared.reports.Report.{Report}
+use Rattle.demand_set.proofs.Sums.{quantity-within, units-few}
 use Rattle.lyapunov.specs.Excesses.{entry, IsSmall, HasRoom, IsAdded, IsExcessOf}
 use Rattle.credit_book.proofs.Totals.{zeros-at}
 use Rattle.lot_base.proofs.StepSet.{first_set-step_set, step_set-unique}
@@ -33,32 +33,6 @@ chosen-is supply demands ms table f set reads same is =
     step_set-unique (length supply) (excess supply demands ms) set (first_set (excess supply demands ms) (length supply))
     (step_set-agrees (length supply) f (excess supply demands ms) set (λ e below. reads e ∙ same e below) is)
     (first_set-step_set (length supply) (excess supply demands ms))
-
--- a bundle within a supply has at most its units of a set, and these are fewer than the box has bundles
-part : (d x s : ℕ) → x ≤ s → cond (nat_eq d 1) x 0 ≤ cond (nat_eq d 1) s 0
-part zero x s up = omega arith
-part (suc zero) x s up = up
-part (suc (suc d)) x s up = grind arith
-
-pub quantity-within : (x supply : List ℕ) (set : ℕ) → AtMost x supply → quantity_in x set ≤ quantity_in supply set
-quantity-within [] [] set h = omega arith
-quantity-within [] (s ∷ supply) set h = absurd h
-quantity-within (q ∷ x) [] set h = absurd h
-quantity-within (q ∷ x) (s ∷ supply) set h = let i = quantity-within x supply (set / 2) h.1 in let p = part (set % 2) q s h.0 in omega (arith, i, p)
-
-whole-part : (d s : ℕ) → cond (nat_eq d 1) s 0 ≤ s
-whole-part zero s = omega arith
-whole-part (suc zero) s = omega arith
-whole-part (suc (suc d)) s = grind arith
-
-pub units-few : (supply : List ℕ) (set : ℕ) → quantity_in supply set + 1 ≤ box_size supply
-units-few [] set = omega arith
-units-few (s ∷ supply) set =
-    let i = units-few supply (set / 2) in
-    let p = whole-part (set % 2) s in
-    let some : 1 ≤ box_size supply = omega (arith, i) in
-    let k : s * 1 ≤ s * box_size supply = mul-le-mul_left s some in
-    omega (arith, i, p, k)
 
 least-start : (f : List ℕ → ℕ) (a : ℕ) (xs : List (List ℕ)) → fold (λ b y. min b (f y)) a xs ≤ a
 least-start f a [] = omega arith

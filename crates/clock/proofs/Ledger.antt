@@ -63,7 +63,7 @@ member-total bidders clock b f few =
     kept-total (is_member_of bidders clock) (λ j. not (nat_eq j b)) f (range_with_len 1 12)
     ∙ ap (λ js. total_units f (filter (λ j. not (nat_eq j b)) js)) (range-members bidders clock 1 bidders 12 (omega arith) (omega arith) few)
 
-same-total : (f g : ℕ → ℕ) (js : List ℕ) → ((j : ℕ) → f j ≡ g j) → total_units f js ≡ total_units g js
+pub same-total : (f g : ℕ → ℕ) (js : List ℕ) → ((j : ℕ) → f j ≡ g j) → total_units f js ≡ total_units g js
 same-total f g [] same = refl
 same-total f g (j ∷ js) same = λ i. same j i + same-total f g js same i
 
@@ -84,12 +84,12 @@ adds-step goods demands bidders clock set tables before after few inside are add
 abbrev no_table : Option LeastTable
 no_table = None
 
-none-at : (n j : ℕ) → slice_index_or (replicate n no_table) j no_table ≡ no_table
+pub none-at : (n j : ℕ) → slice_index_or (replicate n no_table) j no_table ≡ no_table
 none-at zero j = refl
 none-at (suc n) zero = refl
 none-at (suc n) (suc j) = none-at n j
 
-nobody : (clock j : ℕ) → is_member_of 0 clock j ≡ false
+pub nobody : (clock j : ℕ) → is_member_of 0 clock j ≡ false
 nobody clock zero = refl
 nobody clock (suc j) = let far : nat_le (suc j) 0 ≡ false = grind (arith, nat_tests) in by (nat_le 1 (suc j)) far
   where
@@ -101,17 +101,17 @@ pub tables-first : (goods : List ℕ) (demands : ℕ → List (List ℕ)) (clock
 tables-first goods demands clock tables e j set inside =
     ap (λ ts. least_in (slice_index_or ts j no_table) set) e ∙ ap (λ o. least_in o set) (none-at 13 j) ∙ sym (ap (λ b. cond b (least (demands j) set) 0) (nobody clock j))
 
-further : (step clock j : ℕ) → j ≢ step + 1 → is_member_of (step + 1) clock j ≡ is_member_of step clock j
+pub further : (step clock j : ℕ) → j ≢ step + 1 → is_member_of (step + 1) clock j ≡ is_member_of step clock j
 further step clock j other = let e : nat_le j (step + 1) ≡ nat_le j step = grind (arith, nat_tests) in λ i. nat_le 1 j && (e i && not (nat_eq j clock))
 
-here : (step clock : ℕ) → step + 1 ≢ clock → is_member_of (step + 1) clock (step + 1) ≡ true
+pub here : (step clock : ℕ) → step + 1 ≢ clock → is_member_of (step + 1) clock (step + 1) ≡ true
 here step clock other =
     let a : nat_le 1 (step + 1) ≡ true = grind (arith, nat_tests) in
     let b : nat_le (step + 1) (step + 1) ≡ true = grind (arith, nat_tests) in
     let d : nat_eq (step + 1) clock ≡ false = grind (arith, nat_tests) in
     λ i. a i && (b i && not (d i))
 
-left-out : (step clock j : ℕ) → step + 1 ≡ clock → is_member_of (step + 1) clock j ≡ is_member_of step clock j
+pub left-out : (step clock j : ℕ) → step + 1 ≡ clock → is_member_of (step + 1) clock j ≡ is_member_of step clock j
 left-out step clock j same = by (compare-or j (step + 1))
   where
     at-clock : j ≡ step + 1 → is_member_of (step + 1) clock j ≡ is_member_of step clock j

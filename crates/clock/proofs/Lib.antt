@@ -30,3 +30,4 @@ pub mod SameTables
 pub mod Counting
 pub mod OnlyOnce
 pub mod LatestPlaces
+pub mod LastDemands

@@ -11,10 +11,10 @@ use Rattle.clock.proofs.Append.{takes-at}
 use Rattle.clock.proofs.Judges.{judgement-is}
 
 -- who is taken has no report in its round before
-none-before : (c : ClockHistory) (r : Report) → judgement_of c r ≡ Take → demand_in c.reports r.round r.bidder ≡ None
+pub none-before : (c : ClockHistory) (r : Report) → judgement_of c r ≡ Take → demand_in c.reports r.round r.bidder ≡ None
 none-before c r take = (subst (IsJudgement c r) take (judgement-is c r)).1
 
-named : (round bidder : ℕ) (r : Report) → r.round ≡ round → r.bidder ≡ bidder → is_named round bidder r ≡ true
+pub named : (round bidder : ℕ) (r : Report) → r.round ≡ round → r.bidder ≡ bidder → is_named round bidder r ≡ true
 named round bidder r e f =
     let a : nat_eq r.round round ≡ true = grind (arith, nat_tests) in
     let b : nat_eq r.bidder bidder ≡ true = grind (arith, nat_tests) in

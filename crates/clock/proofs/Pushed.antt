@@ -17,11 +17,12 @@ use Rattle.clock.specs.Reports.{ClockHistory, is_named, demand_in, demands_in, m
 use Rattle.clock.specs.Standing.{steps_of, phase_of}
 use Rattle.clock.specs.Judging.{judgement_of, repeat_of, repeated, is_member, IsLegal}
 use Rattle.demand_set.specs.Same.{same_demand}
+use Rattle.demand_set.proofs.Sums.{units-few}
 use Rattle.clock.specs.Kept.{HasStanding, KeepsRound, missing_count}
 use Rattle.clock.proofs.Append.{find-some, find-none, take-says}
 use Rattle.clock.proofs.Present.{taken-now}
 use Rattle.clock.proofs.After.{kept-path}
-use Rattle.clock.proofs.Excesses.{units-few, least-few, found-fits}
+use Rattle.clock.proofs.Excesses.{least-few, found-fits}
 use Rattle.clock.proofs.Path.{compare-or}
 use Rattle.clock.proofs.Totals.{total-one, total-most, members-few}
 
@@ -45,7 +46,7 @@ is-new c r current steps phase prices account k take =
     let now = taken-now c steps (steps_of c + 1) (phase_of c) r (kept-path c current steps phase prices account k) (omega (arith, k.steps_are)) take in
     record { member = says.0; round = now; absent = ap (λ t. demand_in c.reports t r.bidder) (sym now) ∙ none-taken r.round r.demand (demand_in c.reports r.round r.bidder) says.2 }
 
-none-found : (o : Option Report) → option_map (λ (r : Report). r.demand) o ≡ None → o ≡ None
+pub none-found : (o : Option Report) → option_map (λ (r : Report). r.demand) o ≡ None → o ≡ None
 none-found None e = refl
 none-found (Some r) e = absurd (let f : Some r.demand ≡ None = e in cc)
 

@@ -1,5 +1,5 @@
 -- Rounds of the same demands have the same step set.
-use Rattle.std.proofs.Common.{◌≡◌, ℕ, ◌+◌, ◌-◌, Bool, true, false, not, ◌&&◌, nat_eq, cond, List, [], ◌∷◌, ◌++◌, append_assoc, Option, Some, None, is_some, is_none, refl, sym, ◌∙◌, ap, arith}
+use Rattle.std.proofs.Common.{◌≡◌, ℕ, ◌+◌, ◌-◌, Bool, true, false, not, ◌&&◌, nat_eq, cond, List, [], ◌∷◌, ◌++◌, append_assoc, Some, None, is_some, is_none, refl, sym, ◌∙◌, ap, arith}
 use Rattle.std.specs.Prelude.{map, find, unwrap_or, option_map}
 use Rattle.std.specs.List.{AllByRecursion}
 use Rattle.std.proofs.lemmas.Bool.Decides.{nat_tests}
@@ -11,6 +11,7 @@ use Rattle.clock.specs.Standing.{step_set_after, leads_on, is_full_after, good_a
 use Rattle.clock.specs.Repeats.{IsIdle, again_by, with_round}
 use Rattle.clock.proofs.Path.{has_steps}
 use Rattle.clock.proofs.Repeated.{step-same}
+use Rattle.clock.proofs.Pushed.{none-found}
 
 pub sets-same : (c : ClockHistory) (m n : ℕ) → AllByRecursion (λ j. demands_in c.reports (m + 1) j ≡ demands_in c.reports (n + 1) j) (members_of c) → step_set_after c m ≡ step_set_after c n
 sets-same c m n all = step-same c.terms.goods (demands_in c.reports (m + 1)) (demands_in c.reports (n + 1)) (members_of c) all
@@ -23,10 +24,6 @@ find-behind test (r ∷ before) after none = by (test r) refl (find-behind test 
     by : (b : Bool) → test r ≡ b → (find test before ≡ None → find test (before ++ after) ≡ find test after) → find test (r ∷ before ++ after) ≡ find test after
     by true e rest = absurd (let f : Some r ≡ None = sym (ap (λ b. cond b (Some r) (find test before)) e) ∙ none in cc)
     by false e rest = ap (λ b. cond b (Some r) (find test (before ++ after))) e ∙ rest (sym (ap (λ b. cond b (Some r) (find test before)) e) ∙ none)
-
-none-found : (o : Option Report) → option_map (λ (r : Report). r.demand) o ≡ None → o ≡ None
-none-found None e = refl
-none-found (Some r) e = absurd (let f : Some r.demand ≡ None = e in cc)
 
 found-at : (c : ClockHistory) (told left : List ℕ) (j : ℕ) → find (is_named (last_round c) j) (map (again_by c) (told ++ j ∷ left)) ≡ Some (again_by c j)
 found-at c [] left j =

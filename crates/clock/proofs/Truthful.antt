@@ -61,7 +61,7 @@ members-true u c n up all (j ∷ ms) full =
     let h = both (is_some (demand_in c.reports (n + 1) j)) (is_full ms c.reports (n + 1)) full in
     (found-true u c n j up c.reports all h.0, members-true u c n up all ms h.1)
 
-full-round : (c : ClockHistory) (n : ℕ) → leads_on c n ≡ true → is_full_after c n ≡ true
+pub full-round : (c : ClockHistory) (n : ℕ) → leads_on c n ≡ true → is_full_after c n ≡ true
 full-round c n e = (both (is_full_after c n) (not (nat_eq (step_set_after c n) 0) && is_none (good_at_ceiling c n)) e).0
 
 some-step : (c : ClockHistory) (n : ℕ) → leads_on c n ≡ true → step_set_after c n ≢ 0

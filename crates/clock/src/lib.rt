@@ -4,6 +4,7 @@
 pub mod clocks;
 pub mod judging;
 mod kept_quantities;
+pub mod last_round;
 pub mod laws;
 mod next_step;
 mod packing;
@@ -14,5 +15,6 @@ pub mod same_again;
 
 pub use clocks::{Clock, Look, NotApplied};
 pub use judging::{Judgement, Offered};
+pub use last_round::last_demands;
 pub use replaying::ReplayFault;
 pub use rounds::most_reports;

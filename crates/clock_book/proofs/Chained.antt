@@ -6,19 +6,15 @@ use Rattle.std.specs.List.{AllByRecursion}
 use Rattle.std.proofs.lemmas.List.{take_at, drop_at, get_or_at, append-nil}
 use Rattle.report_journal.specs.declared.headers.Header.{Header}
 use Rattle.report_journal.specs.declared.spellings.TheConstants.{OPEN}
-use Rattle.report_journal.specs.Format.{Contents, header_bytes, body, records, front, IsPayload, StandsFor, IsDamaged}
+use Rattle.report_journal.specs.Format.{Contents, header_bytes, records, front, IsPayload, StandsFor, IsDamaged}
 use Rattle.report_journal.proofs.Chains.{IsRecord, IsEnd, chain_of}
 use Rattle.recovery.specs.Journaled.{BeginsWith}
+use Rattle.recovery.proofs.Beginning.{records-append}
 
 -- the first list begins the second one
 pub record IsPrefix {X : Type 0} (xs ys : List X) : Type 0 where
   pub more : List X
   pub is : ys ≡ xs ++ more
-
-pub records-append : (ps qs : List (List ℕ)) → records (ps ++ qs) ≡ records ps ++ records qs
-records-append [] qs = refl
-records-append (p ∷ ps) qs =
-    ap (λ (l : List ℕ). OPEN ∷ body p ++ l) (records-append ps qs) ∙ ap (λ (l : List ℕ). OPEN ∷ l) (sym (append_assoc (body p) (records ps) (records qs)))
 
 -- of two lists of records at the front of the same bytes
 records-either : (ps qs : List (List ℕ)) (x y : List ℕ) → AllByRecursion IsPayload ps → AllByRecursion IsPayload qs → records ps ++ x ≡ records qs ++ y → IsPrefix ps qs ⊎ IsPrefix qs ps

@@ -2,9 +2,10 @@
 use Rattle.std.proofs.Common.{◌≡◌, ℕ, List, [], ◌∷◌, ◌++◌, length, map, refl, sym, ◌∙◌, ap, subst, arith, append_assoc, length-append}
 use Rattle.lot_base.specs.declared.auction_terms.Terms.{Terms}
 use Rattle.demand_set.specs.declared.reports.Report.{Report}
-use Rattle.clock.specs.Reports.{ClockHistory, with_report}
+use Rattle.clock.specs.Reports.{ClockHistory}
 use Rattle.clock.specs.Judging.{TakesAll, judgement_of}
 use Rattle.clock.specs.declared.judging.Judgement.TheVariants.{Take}
+use Rattle.clock.proofs.Append.{takes-at}
 use Rattle.recovery.specs.Entries.{payload_of, AreReportsOf, SpellsNone}
 use Rattle.recovery.proofs.Spelling.{one-report}
 use Rattle.clock_book.proofs.Chained.{IsPrefix}
@@ -50,16 +51,6 @@ module _ (terms : Terms) where
   among [] qs p more are same none = let n = ap length same in omega (arith, n, length-append (qs ++ p ∷ []) more, length-append qs (p ∷ []))
   among (y ∷ ys) [] p more are same none = none y (record { report = are.0; is = (let e : p ≡ payload y = cc same in e) })
   among (y ∷ ys) (q ∷ qs) p more are same none = among ys qs p more are.1 (cc same) none
-
--- in a list of reports that are all taken, each is taken after those before it
-pub takes-at : (c : ClockHistory) (before : List Report) (r : Report) (more : List Report) → TakesAll c (before ++ r ∷ more) → judgement_of (record c { reports = c.reports ++ before }) r ≡ Take
-takes-at c [] r more all = ap (λ reports. judgement_of (record c { reports = reports }) r) (append-none c.reports) ∙ all.0
-  where
-    append-none : (xs : List Report) → xs ++ [] ≡ xs
-    append-none [] = refl
-    append-none (x ∷ xs) = ap (λ l. x ∷ l) (append-none xs)
-takes-at c (b ∷ before) r more all =
-    ap (λ reports. judgement_of (record c { reports = reports }) r) (sym (append_assoc c.reports (b ∷ []) before)) ∙ takes-at (with_report c b) before r more all.1
 
 pub takes-within : (c : ClockHistory) (ys before : List Report) (r : Report) (more : List Report) → TakesAll (record c { reports = [] }) ys → ys ≡ (before ++ r ∷ []) ++ more → judgement_of (record c { reports = before }) r ≡ Take
 takes-within c ys before r more all same =

@@ -10,8 +10,8 @@ use Rattle.lot_base.specs.declared.limits.TheConstants.{GREATEST_PAYLOAD, GREATE
 use Rattle.lot_base.specs.declared.auction_terms.Terms.{Terms}
 use Rattle.lot_base.proofs.Order.{box_size-some}
 use Rattle.demand_set.specs.declared.reports.Report.{Report}
-use Rattle.demand_set.proofs.Faults.{AfterFirst, are-good}
-use Rattle.demand_set.proofs.Joined.{faultless}
+use Rattle.demand_set.proofs.Faults.{are-good}
+use Rattle.demand_set.proofs.Joined.{faultless, after-nothing}
 use Rattle.report_wire.proofs.Spelling.{length-pairs}
 use Rattle.report_journal.specs.Format.{Contents, header_bytes, records, front}
 use Rattle.report_journal.specs.Puts.{with_one_more}
@@ -62,11 +62,6 @@ quantities-front owner reports =
     let e = quantities-records (length owner.terms.goods) reports in
     let a = length-append (header_bytes (header_of owner)) (records (map (payload_of (length owner.terms.goods)) reports)) in
     omega (arith, e, a)
-
--- at most one of each good in each bundle of the box
-after-nothing : (bundles : List (List ℕ)) → AfterFirst None bundles
-after-nothing [] = tt
-after-nothing (x ∷ bundles) = refl
 
 demand-box : (supply : List ℕ) (bundles : List (List ℕ)) → IsDemand supply bundles → length (concat bundles) ≤ length supply * box_size supply
 demand-box supply bundles is =

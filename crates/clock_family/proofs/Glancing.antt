@@ -1,15 +1,13 @@
 -- What is shown of a clock after some reports is shown of it after more of them, where the number that is told without a turn is the same.
-use Rattle.std.proofs.Common.{◌≡◌, ◌<◌, ◌≤◌, ℕ, ◌+◌, ◌*◌, Bool, true, false, ◌&&◌, nat_eq, List, [], ◌∷◌, ◌++◌, Option, Some, None, is_some, length, refl, sym, ◌∙◌, ap, subst, arith, append_assoc, append-nil}
-use Rattle.std.specs.Prelude.{find, option_map}
-use Rattle.lot_base.proofs.Within.{both}
+use Rattle.std.proofs.Common.{◌≡◌, ◌<◌, ◌≤◌, ℕ, ◌+◌, ◌*◌, Bool, true, false, nat_eq, List, [], ◌∷◌, ◌++◌, Option, Some, length, refl, sym, ◌∙◌, ap, subst, arith, append_assoc, append-nil}
 use Rattle.lot_base.specs.declared.auction_terms.Terms.{Terms}
 use Rattle.lot_base.specs.declared.phases.Phase.{Phase}
 use Rattle.lot_base.specs.declared.phases.Phase.TheVariants.{Running, Ended, Halted}
 use Rattle.demand_set.specs.declared.reports.Report.{Report}
-use Rattle.clock.specs.Reports.{ClockHistory, members_of, with_report, is_named, demand_in, is_full}
+use Rattle.clock.specs.Reports.{ClockHistory, members_of, with_report}
 use Rattle.clock.specs.Standing.{leads_on, is_full_after, step_set_after, good_at_ceiling, good_from, prices_after, prices_of, phase_by, phase_after, phase_of, steps_of}
 use Rattle.clock.specs.declared.clocks.Look.{Look}
-use Rattle.clock.proofs.Append.{find-some, step-stays, prices-stay, leads_on-stays}
+use Rattle.clock.proofs.Append.{step-stays, prices-stay, leads_on-stays, full-stays}
 use Rattle.clock.proofs.Path.{has_steps}
 use Rattle.recovery.specs.Journaled.{Owner}
 use Rattle.clock_book.specs.declared.entries.Entry.{Entry}
@@ -23,21 +21,6 @@ use Rattle.turn_desk.specs.Passes.{Known, PassGlances, after_giving}
 use Rattle.clock_family.specs.Turns.{Shows, IsOf, PassLooks, clock_in}
 use Rattle.clock_family.specs.Glances.{stopped, gauge_by, gauge_in, IsShownTo, SeesOn}
 use Rattle.clock_family.proofs.Offering.{same-some}
-
--- a round that is full stays full
-some-stays : (reports : List Report) (r : Report) (round j : ℕ) → is_some (demand_in reports round j) ≡ true → is_some (demand_in (reports ++ r ∷ []) round j) ≡ true
-some-stays reports r round j e = by (find (is_named round j) reports) refl e
-  where
-    by : (o : Option Report) → find (is_named round j) reports ≡ o → is_some (option_map (λ (x : Report). x.demand) o) ≡ true → is_some (demand_in (reports ++ r ∷ []) round j) ≡ true
-    by None f e = absurd (let g : false ≡ true = e in cc)
-    by (Some v) f e = ap (λ o. is_some (option_map (λ (x : Report). x.demand) o)) (find-some (is_named round j) reports r v f)
-
-full-stays : (ms : List ℕ) (reports : List Report) (r : Report) (round : ℕ) → is_full ms reports round ≡ true → is_full ms (reports ++ r ∷ []) round ≡ true
-full-stays [] reports r round e = refl
-full-stays (j ∷ ms) reports r round e =
-    let h = both (is_some (demand_in reports round j)) (is_full ms reports round) e in
-    let a = some-stays reports r round j h.0 in let b = full-stays ms reports r round h.1 in
-    λ i. a i && b i
 
 -- only a full round is the last
 full-by : (full empty : Bool) (good : Option ℕ) → stopped (phase_by full empty good) ≡ 1 → full ≡ true

@@ -11,8 +11,9 @@ use Rattle.std.proofs.lemmas.Fmt.{decimal_injective}
 use Rattle.lot_base.specs.Goods.{IsRange, IsSupply, box_size}
 use Rattle.lot_base.specs.Limits.{supply_of, supply_with}
 use Rattle.lot_base.specs.declared.supply.GoodsFault.TheVariants.{NoGoods, TooManyGoods, BoxTooLarge}
+use Rattle.lot_base.proofs.Within.{both}
 use Rattle.command_line.specs.Words.{AreNumbers, comma_list}
-use Rattle.command_line.proofs.Decimals.{both, digit-range, decimal-digits}
+use Rattle.command_line.proofs.Decimals.{digit-range, decimal-digits}
 
 -- the parts of a text between its commas
 abbrev pub parts : List ℕ → List (List ℕ)

@@ -8,14 +8,11 @@ use Rattle.std.specs.Result.{OkIff}
 use Rattle.std.specs.Str.Parse.{ParsesUnsigned, digits_value}
 use Rattle.std.proofs.lemmas.Str.Parse.{IsDigitsTest, IsNumeralModel, numerals_by_value, parse_digits}
 use Rattle.std.proofs.lemmas.Fmt.{decimal-digits_value, digits_decimal, decimal_nonempty, first_decimal, parse-decimal, decimal_digit}
+use Rattle.lot_base.proofs.Within.{both}
 use Rattle.command_line.specs.Numerals.{is_empty, is_numeral}
 
 abbrev AllDigits : List ℕ → Type 0
 AllDigits ds = list_all is_ascii_digit ds ≡ true
-
-pub both : (a b : Bool) → (a && b) ≡ true → (a ≡ true) × (b ≡ true)
-both true b e = (refl, e)
-both false b e = absurd (let f : false ≡ true = e in cc)
 
 pub digit-range : (c : ℕ) → is_ascii_digit c ≡ true → IsInRange 48 57 c
 digit-range c e = grind (arith, nat_tests)

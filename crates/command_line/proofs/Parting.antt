@@ -6,8 +6,8 @@ use Rattle.std.proofs.lemmas.Bool.Decides.{nat_tests}
 use Rattle.std.proofs.lemmas.List.{take_at, take_more, take-append-drop, map-append}
 use Rattle.std.proofs.lemmas.List.Elements.{filter-append}
 use Rattle.std.proofs.lemmas.Slice.Eq.{bytes_eq-Decides}
+use Rattle.lot_base.proofs.Within.{both}
 use Rattle.command_line.specs.Arguments.{AreArguments, begins, flags_of, is_among, is_argument, is_option, joined, others_in, plain_in, takes, valued_of, with_value}
-use Rattle.command_line.proofs.Decimals.{both}
 use Rattle.command_line.specs.Words.{IsPlainWord, is_plain, words_of}
 
 -- a plain word by either test

@@ -6,12 +6,13 @@ use Rattle.std.specs.Char.{is_ascii_digit}
 use Rattle.std.specs.List.{AllByRecursion, list_all}
 use Rattle.std.proofs.lemmas.Fmt.{decimal_nonempty}
 use Rattle.std.proofs.lemmas.List.Elements.{All-nil, All-cons}
+use Rattle.lot_base.proofs.Within.{both}
 use Rattle.command_line.specs.Arguments.{AreArguments, flags_of, is_argument, joined, others_in, plain_in, valued_of}
 use Rattle.command_line.specs.Commands.{Bid, Check, Command, Explain, Float, Fold, Judge, Make, Migrate, Serve, Settle, Standing, Trial, IsJoined, IsName, IsNoCommand, IsParted, IsReady, MayBeCommand, Spells}
 use Rattle.command_line.specs.Positionals.{texts}
 use Rattle.command_line.specs.Words.{AreNumbers, IsPlainWord, comma_list}
 use Rattle.command_line.proofs.Commas.{small-numbers, supply-numbers}
-use Rattle.command_line.proofs.Decimals.{both, decimal-digits, digit-range}
+use Rattle.command_line.proofs.Decimals.{decimal-digits, digit-range}
 use Rattle.command_line.proofs.OptionWords.{number-range}
 use Rattle.command_line.proofs.Parting.{no-option, plain-known}
 

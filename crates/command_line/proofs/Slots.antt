@@ -1,5 +1,5 @@
 -- What building makes of positional arguments, and how they are looked up.
-use Rattle.std.proofs.Common.{◌≡◌, ◌≤◌, ◌+◌, ◌++◌, ℕ, suc, Bool, true, false, not, ◌&&◌, ◌||◌, cond, nat_eq, List, [], ◌∷◌, length, map, min, Some, None, refl, ap, ◌∙◌, arith, append-nil, append_assoc, subst}
+use Rattle.std.proofs.Common.{◌≡◌, ◌≤◌, ◌+◌, ◌++◌, ℕ, suc, Bool, true, false, not, ◌||◌, cond, nat_eq, List, [], ◌∷◌, length, map, min, Some, None, refl, ap, ◌∙◌, arith, append-nil, append_assoc, subst}
 use Rattle.std.specs.Prelude.{find}
 use Rattle.std.specs.List.{list_any}
 use Rattle.std.specs.Option.{option_map_or, option_or}
@@ -7,6 +7,7 @@ use Rattle.std.specs.Str.{bytes_eq}
 use Rattle.std.proofs.lemmas.Bool.Decides.{nat_tests}
 use Rattle.std.proofs.lemmas.List.Folds.{find-append}
 use Rattle.std.proofs.lemmas.Slice.Eq.{bytes_eq-Decides}
+use Rattle.lot_base.proofs.Within.{both}
 use Rattle.clap.specs.Lexer.{usize_max}
 use Rattle.clap.specs.Walk.{Rule, Text, arg_by_id, arg_by_index}
 use Rattle.clap.specs.Simple.{filled, filled_from, with_index}
@@ -25,10 +26,6 @@ filled-slots i [] few = refl
 filled-slots i (id ∷ ids) few =
     let next : min (i + 1) usize_max ≡ suc i = omega arith in
     ap (λ k. slot i id ∷ filled_from k (map positional ids)) next ∙ ap (λ rest. slot i id ∷ rest) (filled-slots (suc i) ids (omega arith))
-
-pub both : (a b : Bool) → (a && b) ≡ true → (a ≡ true) × (b ≡ true)
-both true b e = (refl, e)
-both false b e = absurd (let f : false ≡ true = e in cc)
 
 pub not-true : (b : Bool) → not b ≡ true → b ≡ false
 not-true true e = absurd (let f : false ≡ true = e in cc)

@@ -8,6 +8,7 @@ use Rattle.std.specs.List.{list_all, list_any, AllByRecursion}
 use Rattle.std.specs.Option.{option_map_or, option_or}
 use Rattle.std.specs.Str.{bytes_eq}
 use Rattle.std.proofs.lemmas.List.Folds.{find-append}
+use Rattle.lot_base.proofs.Within.{both}
 use Rattle.clap.specs.Lexer.{usize_max}
 use Rattle.clap.specs.Walk.{Row, Rule, Text, finished, first_of, has_row, is_early_multiple, nothing_held, rows_after, rows_of, settled, walk, with_default}
 use Rattle.clap.specs.Takes.{default_passes, is_given, is_valid, takes, built_takes, level_passes, settle_passes}
@@ -23,7 +24,7 @@ use Rattle.clap.proofs.FaultLemmas.{leaf_fault}
 use Rattle.clap.proofs.WalkLemmas.{first_value-rows}
 use Rattle.command_line.specs.Words.{IsPlainWord}
 use Rattle.command_line.specs.Positionals.{AreNamed, positional, positional_app, are_distinct, texts}
-use Rattle.command_line.proofs.Slots.{slots, filled-slots, serves, both, not-true, neither, same-id}
+use Rattle.command_line.proofs.Slots.{slots, filled-slots, serves, not-true, neither, same-id}
 use Rattle.command_line.proofs.Walking.{ready, at, row, rows_of_words, AreNew, Holds, Taken, taken, stray, new-more, or-else}
 
 -- defaults add nothing

@@ -6,6 +6,7 @@ use Rattle.std.specs.Option.{option_map_or}
 use Rattle.std.specs.Str.{bytes_eq}
 use Rattle.std.proofs.lemmas.Bool.Decides.{nat_tests}
 use Rattle.std.proofs.lemmas.List.Folds.{list_any-append}
+use Rattle.lot_base.proofs.Within.{both}
 use Rattle.clap.specs.Lexer.{usize_max, short_of, short_of_rest}
 use Rattle.clap.specs.Walk.{Held, Walk, Row, Rule, Text, Step, value, idle, arg_by_id, arg_by_index, at_row, has_row, is_pending, more_values, pushed, settled, settled_rows, to_positional, after_step, used, used_by_id, walked, without, word_met, with_values}
 use Rattle.clap.specs.Takes.{positional_passes, settle_passes, step_passes, turn_passes, use_passes, word_passes, walk_passes}
@@ -18,7 +19,7 @@ use Rattle.clap.specs.declared.builder.value_parser.ValueParser.TheVariants as v
 use Rattle.clap.specs.declared.parser.matches.ValueSource.TheVariants.{CommandLine}
 use Rattle.command_line.specs.Words.{IsPlainWord}
 use Rattle.command_line.specs.Positionals.{are_distinct}
-use Rattle.command_line.proofs.Slots.{slot, Serves, both, neither, not-true}
+use Rattle.command_line.proofs.Slots.{slot, Serves, neither, not-true}
 
 -- the command when it is built
 abbrev pub ready : Text → List Rule → Shape

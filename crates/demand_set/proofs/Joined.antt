@@ -50,7 +50,7 @@ faultless supply place before (x ∷ bundles) later up within =
     let next = ascending-later x bundles up in
     fault-later supply place before x bundles (at_most-within supply x within.0) later ∙ faultless supply (place + 1) (Some x) bundles next.0 next.1 within.1
 
-after-nothing : (bundles : List (List ℕ)) → AfterFirst None bundles
+pub after-nothing : (bundles : List (List ℕ)) → AfterFirst None bundles
 after-nothing [] = tt
 after-nothing (x ∷ bundles) = refl
 
@@ -63,7 +63,7 @@ demand_of-demand supply goods bundles is size =
     let f : fault_from supply 0 None bundles ≡ None = faultless supply 0 None bundles (after-nothing bundles) is.ascending is.in_box in
     λ i. cond (a i) (cond (b i) (Err Empty) (unless (f i) bundles)) (Err (WrongGoods goods))
 
-at_most-length : (x supply : List ℕ) → AtMost x supply → length x ≡ length supply
+pub at_most-length : (x supply : List ℕ) → AtMost x supply → length x ≡ length supply
 at_most-length [] [] within = refl
 at_most-length [] (s ∷ supply) within = absurd within
 at_most-length (q ∷ x) [] within = absurd within

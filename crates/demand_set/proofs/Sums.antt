@@ -68,7 +68,7 @@ pub are-halves : (x low high : List ℕ) → length x ≤ 6 → AreSumsOf (get_o
 are-halves x low high few l h = λ row set up below. (λ i. l set below i + h row up i) ∙ halves-sum x row set few below
 
 -- a bundle within a supply has at most its units of a set, and these are fewer than the box has bundles
-part : (d x s : ℕ) → x ≤ s → cond (nat_eq d 1) x 0 ≤ cond (nat_eq d 1) s 0
+pub part : (d x s : ℕ) → x ≤ s → cond (nat_eq d 1) x 0 ≤ cond (nat_eq d 1) s 0
 part zero x s up = omega arith
 part (suc zero) x s up = up
 part (suc (suc d)) x s up = grind arith
@@ -79,7 +79,7 @@ quantity-within [] (s ∷ supply) set h = absurd h
 quantity-within (q ∷ x) [] set h = absurd h
 quantity-within (q ∷ x) (s ∷ supply) set h = let i = quantity-within x supply (set / 2) h.1 in let p = part (set % 2) q s h.0 in omega (arith, i, p)
 
-whole-part : (d s : ℕ) → cond (nat_eq d 1) s 0 ≤ s
+pub whole-part : (d s : ℕ) → cond (nat_eq d 1) s 0 ≤ s
 whole-part zero s = omega arith
 whole-part (suc zero) s = omega arith
 whole-part (suc (suc d)) s = grind arith

@@ -1,21 +1,13 @@
 -- Each report of a legal history is what its bidder demands in its round.
-use Rattle.std.proofs.Common.{◌≡◌, ℕ, ◌&&◌, Bool, true, false, nat_eq, cond, List, [], ◌∷◌, ◌++◌, Some, None, arith, refl, ◌∙◌, ap, subst}
+use Rattle.std.proofs.Common.{◌≡◌, ℕ, Bool, true, false, cond, List, [], ◌∷◌, ◌++◌, Some, None, refl, ◌∙◌, ap, subst}
 use Rattle.std.specs.Prelude.{find, option_map}
-use Rattle.std.proofs.lemmas.Bool.Decides.{nat_tests}
 use Rattle.demand_set.specs.declared.reports.Report.{Report}
 use Rattle.clock.specs.declared.judging.Judgement.TheVariants.{Take}
 use Rattle.clock.specs.Reports.{ClockHistory, demand_in, is_named}
-use Rattle.clock.specs.Judging.{IsJudgement, IsLegal, TakesAll, judgement_of}
-use Rattle.clock.proofs.Judges.{judgement-is}
-use Rattle.clock_book.proofs.Sequences.{takes-at}
+use Rattle.clock.specs.Judging.{IsLegal, TakesAll, judgement_of}
+use Rattle.clock.proofs.OnlyOnce.{named, none-before}
+use Rattle.clock.proofs.Append.{takes-at}
 use Rattle.house_lives.proofs.Members.{In, split-at}
-
--- who is taken has no report in its round before
-none-before : (c : ClockHistory) (r : Report) → judgement_of c r ≡ Take → demand_in c.reports r.round r.bidder ≡ None
-none-before c r take = (subst (IsJudgement c r) take (judgement-is c r)).1
-
-named : (round bidder : ℕ) (r : Report) → r.round ≡ round → r.bidder ≡ bidder → is_named round bidder r ≡ true
-named round bidder r e f = let a : nat_eq r.round round ≡ true = grind (arith, nat_tests) in let b : nat_eq r.bidder bidder ≡ true = grind (arith, nat_tests) in λ i. a i && b i
 
 -- after reports without one, the first is found
 found-behind : (round bidder : ℕ) (xs ys : List Report) (r : Report) → demand_in xs round bidder ≡ None → is_named round bidder r ≡ true → demand_in (xs ++ r ∷ ys) round bidder ≡ Some r.demand

@@ -1,9 +1,8 @@
 -- The lines that explain clocks, one after another.
-use Rattle.std.proofs.Common.{◌≡◌, ◌∙◌, ◌<◌, ◌+◌, ◌++◌, ℕ, zero, suc, List, [], ◌∷◌, length, take, get_or, Ok, Err, arith, sym, ap, subst, append_assoc, append-nil}
+use Rattle.std.proofs.Common.{◌≡◌, ◌∙◌, ◌<◌, ◌+◌, ◌++◌, ℕ, List, [], ◌∷◌, length, take, get_or, Ok, Err, sym, ap, subst, append_assoc, append-nil}
 use Rattle.std.specs.Prelude.{IfOk, Result, codes, decimal}
 use Rattle.std.specs.List.{AllByRecursion, AllZip}
 use Rattle.std.proofs.lemmas.List.{map-append, take_more}
-use Rattle.lot_base.specs.declared.auction_terms.Terms.{Terms}
 use Rattle.lot_base.specs.declared.supply.GoodSet.{GoodSet}
 use Rattle.clock.specs.Explained.{Explains}
 use Rattle.clock.specs.Reports.{ClockHistory, ClockOf, histories}
@@ -52,12 +51,6 @@ text-more cs n k text line-text whole inside same is it added =
 
 pub no-text : (text : List ℕ) → text ≡ [] → IsExplainedText [] text
 no-text text none = record { ends = []; explained = tt; truthful = λ u all. tt; text_is = none }
-
--- a clock of those that are on these terms
-pub terms-at : (terms : Terms) (clocks : List ClockOf) (n : ℕ) (k : ClockOf) → AllByRecursion (λ (c : ClockHistory). c.terms ≡ terms) (histories clocks) → n < length clocks → k ≡ get_or clocks n k → k.history.terms ≡ terms
-terms-at terms [] n k all inside is = absurd (omega arith)
-terms-at terms (c ∷ cs) zero k all inside is = ap (λ (x : ClockOf). x.history.terms) is ∙ all.0
-terms-at terms (c ∷ cs) (suc n) k all inside is = terms-at terms cs n k all.1 (omega arith) is
 
 -- the lines as they are written
 

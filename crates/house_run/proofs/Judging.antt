@@ -5,6 +5,7 @@ use Rattle.std.specs.Fmt.{signed_decimal}
 use Rattle.std.specs.List.{AllByRecursion, range_with_len}
 use Rattle.std.proofs.lemmas.List.{get_or_default, length-append, length-map, map-append, take_more}
 use Rattle.clock.specs.Reports.{ClockHistory}
+use Rattle.award_assembly.proofs.Walking.{drop-at}
 use Rattle.rationale.specs.Links.{IsChain, IsNegativeCycle}
 use Rattle.rationale.specs.Observations.{Observation}
 use Rattle.rationale.specs.declared.links.Link.{Link}
@@ -28,11 +29,6 @@ value-line x u a b c is-a is-b is-c =
     ∙ value-parts (codes "value") (spaced (numerals x)) (signed_decimal u) (codes "\n")
     ∙ ap (λ t. (codes "value" ++ t) ++ codes "\n") (sym (spaced-append (numerals x) (signed_decimal u ∷ [])))
     ∙ sym (line-spaced (codes "value") (numerals x ++ (signed_decimal u ∷ [])))
-
-drop-at : {X : Type 0} (xs : List X) (i : ℕ) (x : X) → slice_get xs i ≡ Some x → drop i xs ≡ x ∷ drop (i + 1) xs
-drop-at [] i x at = absurd (let f : None ≡ Some x = at in cc)
-drop-at (y ∷ xs) zero x at = (let e : y ≡ x = (let f : Some y ≡ Some x = at in cc) in ap (λ z. z ∷ xs) e)
-drop-at (y ∷ xs) (suc i) x at = (let e : suc i + 1 ≡ suc (i + 1) = omega arith in drop-at xs i x at ∙ ap (λ k. x ∷ drop k (y ∷ xs)) (sym e))
 
 drop-or : {X : Type 0} (xs : List X) (i : ℕ) (x d : X) → i < length xs → x ≡ get_or xs i d → drop i xs ≡ x ∷ drop (i + 1) xs
 drop-or [] i x d below is = absurd (omega arith)

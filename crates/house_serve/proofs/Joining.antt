@@ -8,6 +8,7 @@ use Rattle.std.proofs.lemmas.Option.{slice_get_within}
 use mathlib.Core.Option.{some, some-injective, some-ne-none}
 use lib.ListN.{get_elem?}
 use Rattle.demand_set.specs.declared.reports.Report.{Report}
+use Rattle.report_wire.proofs.Streams.{all-append}
 use Rattle.clock_book.specs.DeskHistories.{IsInDoubt}
 use Rattle.clock_book.specs.declared.entries.Entry.{Entry}
 use Rattle.clock_book.specs.declared.entries.Entry.TheVariants as entry
@@ -18,7 +19,7 @@ use Rattle.turn_desk.proofs.Totals.{between_in}
 use Rattle.clock_family.specs.Houses.{HousePassOf, still, column}
 use Rattle.session.specs.Turns.{Turn}
 use Rattle.house_serve.specs.Houses.{DoorRun, turns_of, seen_of, mark_place, mark_places, taken_place, taken_places, times, IsHeld, Joins}
-use Rattle.house_serve.proofs.Leading.{own_of, marks_own, offers_own, IsBehind, AreBehind, all-append, Leads, Led, led, seen_at, own_at}
+use Rattle.house_serve.proofs.Leading.{own_of, marks_own, offers_own, IsBehind, AreBehind, Leads, Led, led, seen_at, own_at}
 
 all-map : {A : Type 0} (P Q : A → Type 0) (xs : List A) → ((x : A) → P x → Q x) → AllByRecursion P xs → AllByRecursion Q xs
 all-map P Q [] f h = tt

@@ -14,6 +14,7 @@ use Rattle.clock.specs.declared.judging.Judgement.TheVariants as judged
 use Rattle.clock.specs.declared.judging.Offered.{Offered}
 use Rattle.clock.specs.declared.judging.Offered.TheVariants as said
 use Rattle.clock.proofs.Judges.{judgement-is}
+use Rattle.report_wire.proofs.Streams.{all-append}
 use Rattle.clock_book.specs.DeskHistories.{reports_in, IsInDoubt}
 use Rattle.clock_book.specs.Past.{owner_in}
 use Rattle.clock_book.specs.declared.entries.Entry.{Entry}
@@ -64,10 +65,6 @@ abbrev IsPlain : Entry → Type 0
 IsPlain (entry.Offered r) = Unit {0}
 IsPlain (entry.Counted r) = ⊥
 IsPlain (entry.Mark r) = Unit {0}
-
-pub all-append : {A : Type 0} (P : A → Type 0) (xs ys : List A) → AllByRecursion P xs → AllByRecursion P ys → AllByRecursion P (xs ++ ys)
-all-append P [] ys px py = py
-all-append P (x ∷ xs) ys px py = (px.0, all-append P xs ys px.1 py)
 
 -- what was asked in a turn, if anything was, leads a pass on
 abbrev pub LeadsBy : Option Asked → HousePassOf → HousePassOf → Type 0

@@ -12,11 +12,11 @@ use Rattle.clock.specs.Reports.{ClockHistory}
 use Rattle.clock.specs.Judging.{IsLegal, TakesAll, judgement_of}
 use Rattle.clock.specs.declared.judging.Judgement.TheVariants.{Take}
 use Rattle.clock.specs.declared.judging.Offered.{Offered}
+use Rattle.clock.proofs.Append.{takes-at}
 use Rattle.recovery.specs.Journaled.{Owner, StandsForReports}
 use Rattle.clock_book.specs.Past.{IsEither}
 use Rattle.clock_book.specs.Books.{BookOf, BookState}
 use Rattle.clock_book.specs.Offers.{IsMended, IsOffer, Answers, with_pending}
-use Rattle.clock_book.proofs.Sequences.{takes-at}
 use Rattle.migration.specs.Moving.{StandsForFront}
 use Rattle.migration.specs.Targets.{HasFirst}
 use Rattle.migration.proofs.Lists.{all-at, split-at, take-next}

@@ -2,10 +2,11 @@
 use Rattle.std.proofs.Common.{◌≡◌, ◌<◌, ◌+◌, ◌++◌, ℕ, suc, ℤ, List, [], ◌∷◌, length, get_or, take, drop, Option, Some, None, sym, ap, ◌∙◌, subst, refl, arith, append_assoc}
 use Rattle.std.specs.List.{AllByRecursion}
 use Rattle.std.proofs.lemmas.List.{length-append, drop_more, take_more}
+use Rattle.clock.proofs.Append.{all-push}
 use Rattle.settlement.specs.declared.outcome.AwardRow.{AwardRow}
 use Rattle.outcome_text.specs.Listed.{award_numbers, awards_numbers, choice_numbers, choices_numbers}
 use Rattle.outcome_text.specs.Parts.{IsBundleOf, IsAwardOf, AreAwardsOf, AreChoicesOf}
-use Rattle.outcome_text.proofs.Cells.{all-push, all-at}
+use Rattle.outcome_text.proofs.Cells.{all-at}
 
 -- What was made so far fits, and it is what stood in front.
 pub record AreAwardsTaken (goods bidders i : ℕ) (old rest : List ℤ) (made : List AwardRow) : Type 0 where

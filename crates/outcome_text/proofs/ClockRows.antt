@@ -9,6 +9,7 @@ use Rattle.clock.specs.Reports.{members}
 use Rattle.settlement.specs.declared.outcome.ClockRow.{ClockRow}
 use Rattle.outcome_text.specs.Listed.{naturals, choices_numbers, clock_numbers, clocks_numbers}
 use Rattle.settlement.specs.Shapes.{IsOf}
+use Rattle.settlement.proofs.Zips.{zip-push}
 use Rattle.outcome_text.specs.Reading.{AreQuantities}
 use Rattle.outcome_text.specs.Parts.{IsBundleOf, ArePricesOf, AreChoicesOf, IsClockOf, AreClocksOf}
 
@@ -43,12 +44,6 @@ pub count-others : (bidders clock : ℕ) → 1 ≤ clock → clock ≤ bidders �
 count-others bidders clock low high = others-with 1 bidders clock low (omega arith)
 
 -- ---- rows of clocks
-
-zip-push : {A B : Type 0} (R : A → B → Type 0) (xs : List A) (ys : List B) (x : A) (y : B) → AllZip R xs ys → R x y → AllZip R (xs ++ x ∷ []) (ys ++ y ∷ [])
-zip-push R [] [] x y all r = (r, tt)
-zip-push R [] (b ∷ ys) x y all r = absurd all
-zip-push R (a ∷ xs) [] x y all r = absurd all
-zip-push R (a ∷ xs) (b ∷ ys) x y all r = (all.0, zip-push R xs ys x y all.1 r)
 
 range-push : (a n : ℕ) → range_with_len a (n + 1) ≡ range_with_len a n ++ (a + n) ∷ []
 range-push a zero = let e : a ≡ a + 0 = omega arith in ap (λ k. k ∷ []) e

@@ -12,6 +12,7 @@ use Rattle.std.specs.Int.Signed.{mag}
 use Rattle.std.proofs.lemmas.Fmt.{parse-signed_decimal, IsAscii-from_digits}
 use Rattle.std.proofs.lemmas.Str.{IsUtf8-from_ascii}
 use Rattle.std.proofs.lemmas.Str.Ascii.{IsAscii-nil, IsAscii-cons}
+use Rattle.lot_base.proofs.Within.{both}
 use Rattle.outcome_text.specs.Numbers.{fits, is_number, number_in}
 
 digits : IsNumeralModel (λ ds. all_ascii_digits ds ≡ true) (digits_value 10)
@@ -24,10 +25,6 @@ fits-true (negsuc n) f = grind (arith, nat_tests)
 fits-from : (z : ℤ) → fits z ≡ true → FitsSigned w64 z
 fits-from (pos n) e = grind (arith, nat_tests)
 fits-from (negsuc n) e = grind (arith, nat_tests)
-
-both : (a b : Bool) → (a && b) ≡ true → (a ≡ true) × (b ≡ true)
-both true b e = (refl, e)
-both false b e = absurd (false≢true e)
 
 -- what `parse` asks of a word
 abbrev Reads : List ℕ → Type 0

@@ -20,7 +20,7 @@ use Rattle.clock.specs.Judging.{IsLegal}
 use Rattle.clock.proofs.Excesses.{found-fits}
 use Rattle.clock.proofs.Truthful.{ended-by}
 use Rattle.lot_base.proofs.Within.{both}
-use Rattle.overshoot.proofs.Members.{full-ended}
+use Rattle.clock.proofs.LastDemands.{full-ended}
 use Rattle.overshoot.proofs.Bridge.{choice-exists, none-overshoots}
 
 -- a clock that has ended has an empty step set in its last round

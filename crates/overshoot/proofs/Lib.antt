@@ -1,6 +1,5 @@
 pub mod Awards
 pub mod Bridge
-pub mod Members
 pub mod Most
 pub mod Moves
 pub mod One

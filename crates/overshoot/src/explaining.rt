@@ -10,10 +10,9 @@ ghost use Rattle.overshoot.specs.Exchange.{HasExchange, IsFirstBroken};
 ghost use Rattle.overshoot.specs.Scanned.{IsRight};
 
 use crate::exchanging::{SetVerdict, exchange};
-use crate::last_round::last_demands;
 use crate::shortfalls::greatest;
 use award_assembly::{Assembly, assemble};
-use clock::Clock;
+use clock::{Clock, last_demands};
 use lot_base::{Bundle, GoodSet, NoMemory, Phase, Terms};
 use std::alloc::Global;
 

@@ -3,11 +3,9 @@
 
 pub mod exchanging;
 pub mod explaining;
-pub mod last_round;
 pub mod laws;
 pub mod shortfalls;
 
 pub use exchanging::{SetVerdict, exchange};
 pub use explaining::{Explained, explain};
-pub use last_round::last_demands;
 pub use shortfalls::{greatest, most_short};

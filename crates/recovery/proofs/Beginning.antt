@@ -61,7 +61,7 @@ has-header x file begins =
       more = omega (arith, ap length split, length-append head more, length-append (records x.payloads) (begins.byte ∷ begins.rest), size);
     }
 
-records-append : (ps qs : List (List ℕ)) → records (ps ++ qs) ≡ records ps ++ records qs
+pub records-append : (ps qs : List (List ℕ)) → records (ps ++ qs) ≡ records ps ++ records qs
 records-append [] qs = refl
 records-append (p ∷ ps) qs =
     ap (λ (l : List ℕ). OPEN ∷ body p ++ l) (records-append ps qs) ∙ ap (λ (l : List ℕ). OPEN ∷ l) (sym (append_assoc (body p) (records ps) (records qs)))

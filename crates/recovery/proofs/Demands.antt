@@ -1,5 +1,5 @@
 -- What a demand of a supply is as a list of numbers: it has few bundles, each of as many goods as the supply, and small quantities.
-use Rattle.std.proofs.Common.{◌≡◌, ◌<◌, ◌≤◌, ◌^◌, ℕ, zero, suc, ◌+◌, ◌*◌, Bool, true, false, nat_eq, cond, List, [], ◌∷◌, ◌++◌, length, take, drop, Option, Some, None, Ok, Err, refl, ◌∙◌, ap, arith, length-drop, take-append-drop}
+use Rattle.std.proofs.Common.{◌≡◌, ◌<◌, ◌≤◌, ◌^◌, ℕ, zero, suc, ◌+◌, ◌*◌, Bool, true, false, nat_eq, cond, List, [], ◌∷◌, ◌++◌, length, take, drop, Option, Some, None, Ok, Err, refl, sym, ◌∙◌, ap, arith, length-drop, take-append-drop}
 use Rattle.std.specs.List.{AllByRecursion, concat}
 use Rattle.std.proofs.Math.Nat.{mul-le-mul, mul-le-mul_left}
 use Rattle.std.proofs.lemmas.Bool.Decides.{nat_tests}
@@ -9,17 +9,11 @@ use Rattle.lot_base.proofs.Order.{box_size-some}
 use Rattle.demand_set.specs.Reading.{groups, fault_from, unless, demand_of}
 use Rattle.demand_set.specs.declared.reading.DemandFault.{DemandFault}
 use Rattle.demand_set.specs.declared.reading.DemandFault.TheVariants.{Empty, WrongGoods}
-use Rattle.demand_set.proofs.Faults.{AfterFirst, are-good}
-use Rattle.demand_set.proofs.Joined.{faultless, length-concat}
+use Rattle.demand_set.proofs.Faults.{are-good}
+use Rattle.demand_set.proofs.Joined.{faultless, length-concat, after-nothing, at_most-length}
 use Rattle.report_wire.specs.Entries.{IsWhole}
 use Rattle.recovery.specs.Entries.{AreSmall}
 use Rattle.recovery.proofs.Lists.{all-concat}
-
-at_most-length : (x supply : List ℕ) → AtMost x supply → length x ≡ length supply
-at_most-length [] [] within = refl
-at_most-length [] (s ∷ supply) within = absurd within
-at_most-length (q ∷ x) [] within = absurd within
-at_most-length (q ∷ x) (s ∷ supply) within = ap (λ n. suc n) (at_most-length x supply within.1)
 
 lengths : (supply : List ℕ) (bundles : List (List ℕ)) → AllByRecursion (λ x. AtMost x supply) bundles → AllByRecursion (λ x. length x ≡ length supply) bundles
 lengths supply [] within = tt
@@ -27,10 +21,6 @@ lengths supply (x ∷ bundles) within = (at_most-length x supply within.0, lengt
 
 pub one-length : (supply : List ℕ) (bundles : List (List ℕ)) → IsDemand supply bundles → AllByRecursion (λ x. length x ≡ length supply) bundles
 one-length supply bundles is = lengths supply bundles is.in_box
-
-after-nothing : (bundles : List (List ℕ)) → AfterFirst None bundles
-after-nothing [] = tt
-after-nothing (x ∷ bundles) = refl
 
 pub few-bundles : (supply : List ℕ) (bundles : List (List ℕ)) → IsSupply supply → IsDemand supply bundles → length bundles ≤ 2048
 few-bundles supply bundles sold is =
@@ -82,19 +72,26 @@ concat-groups (suc n) goods numbers e =
     let left : length (drop goods numbers) ≡ n * goods = omega (arith, length-drop goods numbers, e) in
     ap (λ rest. take goods numbers ++ rest) (concat-groups n goods (drop goods numbers) left) ∙ take-append-drop goods numbers
 
-unless-ok : (o : Option DemandFault) (bundles found : List (List ℕ)) → unless o bundles ≡ Ok found → bundles ≡ found
+pub unless-ok : (o : Option DemandFault) (bundles found : List (List ℕ)) → unless o bundles ≡ Ok found → bundles ≡ found
 unless-ok None bundles found e = cc
 unless-ok (Some f) bundles found e = absurd (cc)
 
--- what was read as a demand: the bundles of as many goods as are sold
+-- what was read as a demand: bundles of as many goods as are sold, at least one, without a fault
 pub record IsFound (supply : List ℕ) (goods : ℕ) (bundles found : List (List ℕ)) : Type 0 where
   pub goods_are : goods ≡ length supply
+  pub some : 1 ≤ length bundles
+  pub without_fault : Ok found ≡ unless (fault_from supply 0 None bundles) bundles
   pub same : bundles ≡ found
 
 pub found-by : (supply : List ℕ) (goods : ℕ) (bundles found : List (List ℕ)) → demand_of supply goods bundles ≡ Ok found → IsFound supply goods bundles found
-found-by supply goods bundles found e = by (nat_eq goods (length supply)) (nat_eq (length bundles) 0) refl e
+found-by supply goods bundles found e = by (nat_eq goods (length supply)) (nat_eq (length bundles) 0) refl refl e
   where
-    by : (a b : Bool) → nat_eq goods (length supply) ≡ a → cond a (cond b (Err Empty) (unless (fault_from supply 0 None bundles) bundles)) (Err (WrongGoods goods)) ≡ Ok found → IsFound supply goods bundles found
-    by true false p e = record { goods_are = grind (arith, nat_tests); same = unless-ok (fault_from supply 0 None bundles) bundles found e }
-    by true true p e = absurd (let f : Err Empty ≡ Ok found = e in cc)
-    by false b p e = absurd (let f : Err (WrongGoods goods) ≡ Ok found = e in cc)
+    by : (a b : Bool) → nat_eq goods (length supply) ≡ a → nat_eq (length bundles) 0 ≡ b → cond a (cond b (Err Empty) (unless (fault_from supply 0 None bundles) bundles)) (Err (WrongGoods goods)) ≡ Ok found → IsFound supply goods bundles found
+    by true false p q e = record {
+      goods_are = grind (arith, nat_tests);
+      some = grind (arith, nat_tests);
+      without_fault = sym e;
+      same = unless-ok (fault_from supply 0 None bundles) bundles found e;
+    }
+    by true true p q e = absurd (let f : Err Empty ≡ Ok found = e in cc)
+    by false b p q e = absurd (let f : Err (WrongGoods goods) ≡ Ok found = e in cc)

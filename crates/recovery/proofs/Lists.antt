@@ -1,11 +1,8 @@
 -- What is said of each element of a list.
 use Rattle.std.proofs.Common.{◌<◌, ◌^◌, ℕ, suc, List, [], ◌∷◌, ◌++◌, get_or}
 use Rattle.std.specs.List.{AllByRecursion, concat}
+use Rattle.report_wire.proofs.Streams.{all-append}
 use Rattle.recovery.specs.Entries.{AreSmall}
-
-pub all-append : {X : Type 0} (P : X → Type 0) (xs ys : List X) → AllByRecursion P xs → AllByRecursion P ys → AllByRecursion P (xs ++ ys)
-all-append P [] ys all more = more
-all-append P (x ∷ xs) ys all more = (all.0, all-append P xs ys all.1 more)
 
 pub all-push : {X : Type 0} (P : X → Type 0) (xs : List X) (x : X) → AllByRecursion P xs → P x → AllByRecursion P (xs ++ x ∷ [])
 all-push P [] x all here = (here, tt)

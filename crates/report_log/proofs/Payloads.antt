@@ -10,6 +10,7 @@ use Rattle.std.proofs.lemmas.Bool.Decides.{nat_tests}
 use Rattle.std.proofs.lemmas.List.{length-take-le}
 use Rattle.lot_base.proofs.Within.{both}
 use Rattle.report_wire.specs.Payloads.{is_report_payload}
+use Rattle.report_wire.proofs.Spelling.{parts}
 use Rattle.report_log.specs.Entries.{SpelledReport, spelled_in}
 use Rattle.report_log.specs.Logs.{AreBytes}
 
@@ -37,18 +38,6 @@ pub record IsWritten (bytes : List ℕ) (s : SpelledReport) : Type 0 where
   pub count : ℕ
   pub whole : length s.quantities ≡ count * s.goods
   pub is : bytes ≡ payload s.bidder s.round s.goods count (flat_map (big_bytes 2) s.quantities)
-
--- bytes in parts
-parts : (bytes : List ℕ) → 8 ≤ length bytes → bytes ≡ get_or bytes 0 0 ∷ take 4 (drop 1 bytes) ++ get_or bytes 5 0 ∷ take 2 (drop 6 bytes) ++ drop 8 bytes
-parts (b ∷ r ∷ s ∷ t ∷ u ∷ g ∷ m ∷ n ∷ body) long = refl
-parts [] long = absurd (omega arith)
-parts (b ∷ []) long = absurd (omega arith)
-parts (b ∷ r ∷ []) long = absurd (omega arith)
-parts (b ∷ r ∷ s ∷ []) long = absurd (omega arith)
-parts (b ∷ r ∷ s ∷ t ∷ []) long = absurd (omega arith)
-parts (b ∷ r ∷ s ∷ t ∷ u ∷ []) long = absurd (omega arith)
-parts (b ∷ r ∷ s ∷ t ∷ u ∷ g ∷ []) long = absurd (omega arith)
-parts (b ∷ r ∷ s ∷ t ∷ u ∷ g ∷ m ∷ []) long = absurd (omega arith)
 
 passed : (fits : Bool) (s t : SpelledReport) → cond fits (Some t) None ≡ Some s → (fits ≡ true) × (t ≡ s)
 passed true s t e = (refl, let f : Some t ≡ Some s = e in cc)

@@ -18,12 +18,12 @@ use Rattle.clock.specs.Reports.{ClockHistory}
 use Rattle.clock.specs.Judging.{judgement_of}
 use Rattle.clock.specs.declared.judging.Judgement.{Judgement}
 use Rattle.clock.specs.declared.judging.Judgement.TheVariants.{Take, Again, NotMember, Early, Conflict, Over, NoRound}
+use Rattle.recovery.proofs.Demands.{IsFound, found-by}
 use Rattle.report_log.specs.Entries.{SpelledReport, spelled_in, taken, judged_in, report_in, payload_in, entry_in}
 use Rattle.report_log.specs.Logs.{AreBytes, entry_of}
 use Rattle.report_log.proofs.PlainPayloads.{payload-plain, plain_payload, quantity_bytes}
 use Rattle.report_log.proofs.Quantities.{bytes-groups}
 use Rattle.report_log.proofs.Payloads.{payload, IsWritten, spelled-written}
-use Rattle.report_log.proofs.Faultless.{IsFound, found-by}
 
 behind : {X : Type 0} (b : Bool) (o : Option X) (x : X) → cond b None o ≡ Some x → (b ≡ false) × (o ≡ Some x)
 behind true o x e = absurd (let f : None ≡ Some x = e in cc)

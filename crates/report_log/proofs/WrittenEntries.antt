@@ -13,12 +13,13 @@ use Rattle.demand_set.specs.Reading.{demand_of, bundles_of, groups}
 use Rattle.clock.specs.Reports.{ClockHistory}
 use Rattle.clock.specs.Judging.{judgement_of}
 use Rattle.clock.specs.declared.judging.Judgement.TheVariants.{Take}
+use Rattle.recovery.proofs.Demands.{few-bundles, one-length}
 use Rattle.report_log.specs.Entries.{SpelledReport, spelled_in, taken, judged_in, report_in, payload_in, entry_in}
 use Rattle.report_log.specs.Logs.{entry_of}
 use Rattle.report_log.proofs.PlainPayloads.{payload-plain, plain_payload, quantity_bytes}
 use Rattle.report_log.proofs.Quantities.{groups-quantities, length-quantities}
 use Rattle.report_log.proofs.Payloads.{payload-spelled}
-use Rattle.report_log.proofs.Faultless.{demand-found, few-bundles, one-length, small-quantities}
+use Rattle.report_log.proofs.Faultless.{demand-found, small-quantities}
 use Rattle.report_log.proofs.LastRound.{in-round, small-round}
 
 -- an entry of this payload

@@ -55,7 +55,7 @@ whole_is_formed first round goods quantities is small =
     turned : (a b : ℕ) → a * b ≡ b * a
     turned a b = grind arith
 
-parts : (bytes : List ℕ) → 8 ≤ length bytes → bytes ≡ get_or bytes 0 0 ∷ take 4 (drop 1 bytes) ++ get_or bytes 5 0 ∷ take 2 (drop 6 bytes) ++ drop 8 bytes
+pub parts : (bytes : List ℕ) → 8 ≤ length bytes → bytes ≡ get_or bytes 0 0 ∷ take 4 (drop 1 bytes) ++ get_or bytes 5 0 ∷ take 2 (drop 6 bytes) ++ drop 8 bytes
 parts (b ∷ r ∷ s ∷ t ∷ u ∷ g ∷ m ∷ n ∷ body) long = refl
 parts [] long = absurd (omega arith)
 parts (b ∷ []) long = absurd (omega arith)

@@ -1,7 +1,8 @@
 //! Laws of frames that are not about one call.
 ghost use Rattle.std.specs.Prelude.{◌≡◌, ◌≤◌, ◌<◌, ◌^◌, ◌⊎◌, ◌++◌, [], ◌∷◌, ℕ, List, Option, None, length};
 ghost use Rattle.report_wire.specs.declared.kinds.TheConstants.{HELLO, LOOK, REPORT, QUIT, WELCOME, PRICE, TAKEN, AGAIN, REFUSED, BYE};
-ghost use Rattle.report_wire.specs.declared.refusals.TheConstants.{NO_HELLO, BAD_TOKEN, UNKNOWN_CLOCK, NOT_MEMBER, BAD_DEMAND, EARLY, CONFLICT, OVER, FULL, DISK_FAULT, NO_MEMORY, NO_ROUND, SECOND_HELLO, TOO_LONG, UNKNOWN_KIND, BAD_PAYLOAD};
+ghost use Rattle.report_wire.specs.declared.refusals.TheConstants.{NO_HELLO, BAD_TOKEN, UNKNOWN_CLOCK, NOT_MEMBER, BAD_DEMAND, EARLY, CONFLICT, OVER};
+ghost use Rattle.report_wire.specs.declared.refusals.TheConstants.{FULL, DISK_FAULT, NO_MEMORY, NO_ROUND, SECOND_HELLO, TOO_LONG, UNKNOWN_KIND, BAD_PAYLOAD};
 ghost use Rattle.report_wire.specs.declared.refusals.TheConstants.{EMPTY, NOT_ASCENDING, OUTSIDE_SUPPLY, WRONG_GOODS};
 ghost use Rattle.report_wire.specs.Frames.{Direction, Sent, IsSent, IsPartial, Reads, spelled};
 ghost use Rattle.report_wire.specs.Reading.{needs_of};

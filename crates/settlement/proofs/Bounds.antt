@@ -33,20 +33,20 @@ choice-from c terms prices demands answer same p d e =
 pub choice-count : (c : ClockHistory) (xs : List (List ℕ)) → choice_of c ≡ Some xs → length xs ≡ length (members_of c)
 choice-count c xs e = count-choice _ xs (choice-clears c xs e).chosen ∙ length-map (members_of c) (last_demands c)
 
-cost-left : (p x y : List ℕ) → cost p x ≤ cost p (plus x y)
+pub cost-left : (p x y : List ℕ) → cost p x ≤ cost p (plus x y)
 cost-left [] x y = omega arith
 cost-left (p ∷ ps) [] y = omega arith
 cost-left (p ∷ ps) (x ∷ xs) [] = omega arith
 cost-left (p ∷ ps) (x ∷ xs) (y ∷ ys) = let r = cost-left ps xs ys in let m : p * x ≤ p * (x + y) = mul-le-mul_left p (omega arith) in omega arith
 
-cost-right : (p x y : List ℕ) → cost p y ≤ cost p (plus x y)
+pub cost-right : (p x y : List ℕ) → cost p y ≤ cost p (plus x y)
 cost-right [] x y = omega arith
 cost-right (p ∷ ps) [] y = omega arith
 cost-right (p ∷ ps) (x ∷ xs) [] = omega arith
 cost-right (p ∷ ps) (x ∷ xs) (y ∷ ys) = let r = cost-right ps xs ys in let m : p * y ≤ p * (x + y) = mul-le-mul_left p (omega arith) in omega arith
 
 -- each bundle costs at most what all of them cost
-each-cost : (p s : List ℕ) (xs : List (List ℕ)) (limit : ℕ) → cost p (sum_of s xs) < limit → AllByRecursion (λ x. cost p x < limit) xs
+pub each-cost : (p s : List ℕ) (xs : List (List ℕ)) (limit : ℕ) → cost p (sum_of s xs) < limit → AllByRecursion (λ x. cost p x < limit) xs
 each-cost p s [] limit h = tt
 each-cost p s (x ∷ xs) limit h =
     let a = cost-left p x (sum_of s xs) in
@@ -54,7 +54,7 @@ each-cost p s (x ∷ xs) limit h =
     (omega arith, each-cost p s xs limit (omega arith))
 
 -- a total that clears has at most as much of each good as a box that small has
-sum-up : (o p t s : List ℕ) → Clears o p t s → box_size s ≤ 2048 → AllUpTo 2047 t
+pub sum-up : (o p t s : List ℕ) → Clears o p t s → box_size s ≤ 2048 → AllUpTo 2047 t
 sum-up [] [] [] [] h small = tt
 sum-up (o ∷ os) (p ∷ ps) (t ∷ ts) (s ∷ ss) h small =
     let k = box_size-some ss in
@@ -64,7 +64,7 @@ sum-up (o ∷ os) (p ∷ ps) (t ∷ ts) (s ∷ ss) h small =
     (omega arith, sum-up os ps ts ss h.2 (omega arith))
 sum-up _ _ _ _ h small = absurd h
 
-cost-up : (a b : ℕ) (p t : List ℕ) → AllUpTo a p → AllUpTo b t → cost p t ≤ length p * (a * b)
+pub cost-up : (a b : ℕ) (p t : List ℕ) → AllUpTo a p → AllUpTo b t → cost p t ≤ length p * (a * b)
 cost-up a b [] t up low = omega arith
 cost-up a b (p ∷ ps) [] up low = omega arith
 cost-up a b (p ∷ ps) (t ∷ ts) up low =
@@ -73,7 +73,7 @@ cost-up a b (p ∷ ps) (t ∷ ts) up low =
     let n : p * b ≤ a * b = mul-le-mul_right b up.0 in
     omega arith
 
-few-goods : (k a : ℕ) → k ≤ 6 → a ≤ 10000 → k * (a * 2047) < 2 ^ 51
+pub few-goods : (k a : ℕ) → k ≤ 6 → a ≤ 10000 → k * (a * 2047) < 2 ^ 51
 few-goods k a few low =
     let m : k * (a * 2047) ≤ 6 * (a * 2047) = mul-le-mul_right (a * 2047) few in
     omega arith

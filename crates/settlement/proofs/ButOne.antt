@@ -1,5 +1,5 @@
 -- A clock of which the reports of all members but one are true: what the others demand, and what their account is.
-use Rattle.std.proofs.Common.{◌≡◌, ◌≢◌, ◌≤◌, ℕ, zero, suc, ◌+◌, ◌/◌, ◌%◌, Bool, true, false, not, ◌&&◌, nat_eq, cond, List, [], ◌∷◌, Some, is_some, is_none, refl, sym, ◌∙◌, ap, arith}
+use Rattle.std.proofs.Common.{◌≡◌, ◌≢◌, ◌≤◌, ℕ, zero, suc, ◌+◌, ◌/◌, ◌%◌, Bool, true, false, not, nat_eq, cond, List, [], ◌∷◌, Some, is_some, refl, sym, ◌∙◌, ap, arith}
 use Rattle.std.specs.Prelude.{find, option_map, unwrap_or, ℤ, pos, ◌-ℤ◌}
 use Rattle.std.specs.List.{AllByRecursion}
 use Rattle.std.proofs.lemmas.Int.{ints}
@@ -12,13 +12,13 @@ use Rattle.lyapunov.specs.Paths.{account_along}
 use Rattle.lyapunov.proofs.Growing.{account_along-append, excess-same}
 use Rattle.lyapunov.proofs.Moments.{account-rises}
 use Rattle.clock.specs.Reports.{ClockHistory, members_of, is_named, demand_in, demands_in, is_full}
-use Rattle.clock.specs.Standing.{sets_of, prices_after, step_set_after, is_full_after, good_at_ceiling, leads_on, prices_of, steps_of}
+use Rattle.clock.specs.Standing.{sets_of, prices_after, step_set_after, prices_of, steps_of}
 use Rattle.clock.specs.Explained.{Explains, IsTrueReport}
 use Rattle.clock.specs.Accounts.{account_after, account_without}
 use Rattle.lot_base.proofs.Within.{both}
 use Rattle.lyapunov.proofs.Bidders.{all-without}
 use Rattle.clock.proofs.Path.{has_steps}
-use Rattle.clock.proofs.Truthful.{prices-along}
+use Rattle.clock.proofs.Truthful.{prices-along, full-round}
 use Rattle.settlement.specs.Incentives.{IsTrueUnlessOf, ExplainsBut}
 
 -- who is not bidder i, by the test
@@ -53,9 +53,6 @@ others-true u c i n up all (j ∷ ms) full =
         → AllByRecursion (λ j. demands_in c.reports (n + 1) j ≡ demand c.terms.goods (u j) (prices_after c n)) (cond (not b) (j ∷ without i ms) (without i ms))
     by true same some rest = rest
     by false other some rest = (found-other u c i n j up (apart j i other) c.reports all some, rest)
-
-full-round : (c : ClockHistory) (n : ℕ) → leads_on c n ≡ true → is_full_after c n ≡ true
-full-round c n e = (both (is_full_after c n) (not (nat_eq (step_set_after c n) 0) && is_none (good_at_ceiling c n)) e).0
 
 -- the account of the others telescopes, whatever the steps
 account-is-along : (u : ℕ → List ℕ → ℤ) (c : ClockHistory) (i : ℕ) → ExplainsBut i u c → (n : ℕ) → n ≤ steps_of c

@@ -46,11 +46,11 @@ from-one a (suc n) some = (some, from-one (a + 1) n (omega arith))
 pub all-are-members : (n : ℕ) → members n 0 ≡ all_bidders n
 all-are-members n = none-out (range_with_len 1 n) (from-one 1 n (omega arith))
 
-all-one : (m a n : ℕ) → 1 ≤ a → a + n ≡ 1 + m → AllByRecursion (λ i. IsOneOf i (all_bidders m)) (range_with_len a n)
+pub all-one : (m a n : ℕ) → 1 ≤ a → a + n ≡ 1 + m → AllByRecursion (λ i. IsOneOf i (all_bidders m)) (range_with_len a n)
 all-one m a zero some e = tt
 all-one m a (suc n) some e = (IsOneOf-range a 1 m some (omega arith), all-one m (a + 1) n (omega arith) (omega arith))
 
-zip-maps : {A B C : Type 0} (f : A → C) (g : B → C) (xs : List A) (ys : List B) → map f xs ≡ map g ys → AllZip (λ x y. f x ≡ g y) xs ys
+pub zip-maps : {A B C : Type 0} (f : A → C) (g : B → C) (xs : List A) (ys : List B) → map f xs ≡ map g ys → AllZip (λ x y. f x ≡ g y) xs ys
 zip-maps f g [] [] e = tt
 zip-maps f g [] (y ∷ ys) e = absurd (let h : [] ≡ g y ∷ map g ys = e in cc)
 zip-maps f g (x ∷ xs) [] e = absurd (let h : f x ∷ map f xs ≡ [] = e in cc)

@@ -14,10 +14,10 @@ use Rattle.clock.specs.Standing.{prices_of, phase_of, steps_of, last_demands, la
 use Rattle.clock.specs.Explained.{Explains, IsTrueReport}
 use Rattle.clock.proofs.Truthful.{least-near, members-true}
 use Rattle.settlement.specs.Clocks.{choice_of}
-use Rattle.settlement.proofs.Members.{full-ended}
+use Rattle.clock.proofs.LastDemands.{full-ended}
 use Rattle.settlement.proofs.Bounds.{choice-clears, choice-count}
 
-same-map : {A B : Type 0} (f g : A → B) (xs : List A) → AllByRecursion (λ x. f x ≡ g x) xs → map f xs ≡ map g xs
+pub same-map : {A B : Type 0} (f g : A → B) (xs : List A) → AllByRecursion (λ x. f x ≡ g x) xs → map f xs ≡ map g xs
 same-map f g [] all = refl
 same-map f g (x ∷ xs) all = let e = all.0 in let r = same-map f g xs all.1 in λ i. e i ∷ r i
 

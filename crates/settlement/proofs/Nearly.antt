@@ -21,7 +21,7 @@ use Rattle.clock.specs.Standing.{prices_of, phase_of, steps_of, last_demands, la
 use Rattle.clock.specs.Judging.{IsLegal}
 use Rattle.settlement.specs.Clocks.{choice_of}
 use Rattle.settlement.proofs.Explained.{different-members}
-use Rattle.settlement.proofs.Members.{full-ended}
+use Rattle.clock.proofs.LastDemands.{full-ended}
 use Rattle.settlement.proofs.Bounds.{choice-clears, choice-count}
 use Rattle.settlement.specs.Incentives.{ExplainsBut}
 use Rattle.settlement.proofs.ButOne.{others-true, above-opening}

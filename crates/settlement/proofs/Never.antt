@@ -16,7 +16,7 @@ use Rattle.clock.specs.Standing.{sets_of}
 use Rattle.clock.proofs.Truthful.{prices-along, path, has-ended, never-halted}
 use Rattle.settlement.specs.Clocks.{choice_of, is_halted, has_no_choice}
 use Rattle.settlement.specs.Efficient.{ExplainsAll}
-use Rattle.settlement.proofs.Members.{full-ended}
+use Rattle.clock.proofs.LastDemands.{full-ended}
 use Rattle.settlement.proofs.Firsts.{find-some}
 use Rattle.settlement.proofs.Explained.{demands-true}
 

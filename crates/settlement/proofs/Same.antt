@@ -10,6 +10,7 @@ use Rattle.clock.specs.Reports.{ClockHistory, with_report, demand_in, is_named}
 use Rattle.clock.specs.Judging.{IsJudgement, TakesAll, IsLegal}
 use Rattle.clock.specs.declared.judging.Judgement.{Judgement}
 use Rattle.clock.proofs.Judges.{judgement-is}
+use Rattle.clock.proofs.Pushed.{none-found}
 use Rattle.lot_base.proofs.Within.{both}
 use Rattle.settlement.specs.Alike.{HoldSame, StandAlike}
 use Rattle.settlement.proofs.Alike.{stand-alike}
@@ -39,10 +40,6 @@ find-behind test (x ∷ xs) ys e = by (test x) refl e (find-behind test xs ys)
 
 names-itself : (r : Report) → is_named r.round r.bidder r ≡ true
 names-itself r = let a : nat_eq r.round r.round ≡ true = grind (arith, nat_tests) in let b : nat_eq r.bidder r.bidder ≡ true = grind (arith, nat_tests) in λ i. a i && b i
-
-none-found : (o : Option Report) → option_map (λ (r : Report). r.demand) o ≡ None → o ≡ None
-none-found None e = refl
-none-found (Some r) e = absurd (let f : Some r.demand ≡ None = e in cc)
 
 -- each report that was taken is the one of its name
 taken-found : (c : ClockHistory) (rest : List Report) (r : Report) → TakesAll c rest → In r rest → demand_in (c.reports ++ rest) r.round r.bidder ≡ Some r.demand

@@ -1,16 +1,14 @@
 //! What the members of a clock demand in its last round, and the first choice among it that clears.
-ghost use Rattle.std.specs.Prelude.{◌≡◌, ◌++◌, ◌∷◌, [], map, IfOk, OnOk, IsSome};
+ghost use Rattle.std.specs.Prelude.{◌≡◌, IfOk};
 ghost use Rattle.std.specs.List.{AllByRecursion, AllZip};
-ghost use Rattle.lot_base.specs.Demands.{IsDemand};
 ghost use Rattle.lot_base.specs.declared.phases.Phase.TheVariants.{Ended};
-ghost use Rattle.clock.specs.Reports.{ClockHistory, histories, members_of, demand_in};
-ghost use Rattle.clock.specs.Standing.{phase_of, last_round, last_demands};
+ghost use Rattle.clock.specs.Reports.{ClockHistory, histories};
+ghost use Rattle.clock.specs.Standing.{phase_of};
 ghost use Rattle.settlement.specs.Found.{IsFoundOf, IsRowOf, AreChoicesOf};
 
 use crate::outcome::ClockRow;
 use award_assembly::{Assembly, assemble};
-use clock::Clock;
-use demand_set::Demand;
+use clock::{Clock, last_demands};
 use lot_base::{NoMemory, Phase, Sequence, Terms};
 use std::alloc::Global;
 
@@ -94,31 +92,4 @@ fn clock_row(alloc: Global, terms: &Terms, clock: &Clock) -> Result<Option<Clock
         })),
         Assembly::NoChoice => Ok(None),
     }
-}
-
-/// What the members of a clock that has ended demand in its last round, in order.
-fn last_demands(alloc: Global, terms: &Terms, clock: &Clock) -> Result<Vec<Demand>, NoMemory>
-    requires terms { clock.now.history.terms ≡ terms.now }
-    requires ended { phase_of clock.now.history ≡ Ended }
-    ensures demands { IfOk result (λ v. v.items ≡ map (last_demands clock.now.history) (members_of clock.now.history)) }
-    ensures fit { IfOk result (λ v. AllByRecursion (λ d. IsDemand terms.now.goods d) v.items) }
-{
-    let number = clock.number();
-    let mut demands = Vec::new(alloc);
-    for step in 0..terms.bidders {
-        let bidder = step + 1;
-        if bidder != number {
-            demands.push(last_demand(alloc, clock, bidder)?)?;
-        }
-    }
-    Ok(demands)
-}
-
-/// What a bidder that has reported demands in a clock's last round.
-fn last_demand(alloc: Global, clock: &Clock, bidder: u8) -> Result<Demand, NoMemory>
-    requires reported { IsSome (demand_in clock.now.history.reports (last_round clock.now.history) bidder) }
-    ensures value { IfOk result (λ d. d ≡ last_demands clock.now.history bidder) }
-    ensures fits { IfOk result (λ d. IsDemand clock.now.history.terms.goods d) }
-{
-    clock.last_demand(bidder).unwrap().copy(alloc)
 }

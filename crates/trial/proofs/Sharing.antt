@@ -76,7 +76,7 @@ pub record AreInOrder (terms : Terms) (u : ℕ → List ℕ → ℤ) (count : �
   pub terms_are : AllByRecursion (λ (c : ClockHistory). c.terms ≡ terms) clocks
   pub each : AllByRecursion (IsTrialHistory u) clocks
 
-range-next : (a n : ℕ) → range_with_len a (n + 1) ≡ range_with_len a n ++ (a + n) ∷ []
+pub range-next : (a n : ℕ) → range_with_len a (n + 1) ≡ range_with_len a n ++ (a + n) ∷ []
 range-next a zero = ap (λ k. k ∷ []) (let e : a ≡ a + 0 = omega arith in e)
 range-next a (suc n) =
     let e : a + 1 + n ≡ a + suc n = omega arith in

@@ -18,7 +18,7 @@ use Rattle.trial.proofs.Finding.{all-both, all-more, full-told, open-beyond}
 use Rattle.trial.proofs.Telling.{fresh-past, round-past}
 
 -- a full round in which a clock is running leads on, so it is not the last one
-leads-by : (full empty : Bool) (good : Option ℕ) → full ≡ true → phase_by full empty good ≡ Running → (full && (not empty && is_none good)) ≡ true
+pub leads-by : (full empty : Bool) (good : Option ℕ) → full ≡ true → phase_by full empty good ≡ Running → (full && (not empty && is_none good)) ≡ true
 leads-by false empty good f e = absurd (let g : false ≡ true = f in cc)
 leads-by true true good f e = absurd (let g : Ended ≡ Running = e in cc)
 leads-by true false None f e = refl

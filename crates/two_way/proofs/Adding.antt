@@ -1,8 +1,7 @@
 -- What the members demand in a round, as it is added up bidder by bidder, by any amounts.
-use Rattle.std.proofs.Common.{◌≡◌, ◌≢◌, ◌<◌, ◌≤◌, ℕ, zero, suc, ◌+◌, ◌*◌, ◌-◌, ◌^◌, Bool, true, false, nat_eq, not, ◌&&◌, cond, List, [], ◌∷◌, length, refl, sym, subst, ◌∙◌, ap, arith, ◌⊎◌, inl, inr, None, Some, Option, get_or-set_same, get_or-set_other}
-use Rattle.std.specs.Prelude.{filter, nat_le, replicate, unwrap_or, ℤ, pos, negsuc, ◌+ℤ◌, ◌-ℤ◌, ◌≤ℤ◌, slice_index, slice_index_or, slice_set}
+use Rattle.std.proofs.Common.{◌≡◌, ◌≢◌, ◌<◌, ◌≤◌, ℕ, ◌+◌, ◌*◌, ◌-◌, ◌^◌, nat_eq, not, cond, List, [], length, refl, sym, subst, ◌∙◌, ap, arith, ◌⊎◌, inl, inr, None, Some, Option, get_or-set_same, get_or-set_other}
+use Rattle.std.specs.Prelude.{filter, replicate, unwrap_or, ℤ, pos, negsuc, ◌+ℤ◌, ◌-ℤ◌, ◌≤ℤ◌, slice_index, slice_index_or, slice_set}
 use Rattle.std.proofs.lemmas.Int.{ints}
-use Rattle.std.proofs.lemmas.Bool.Decides.{nat_tests}
 use Rattle.std.proofs.lemmas.List.{length-set}
 use Rattle.std.specs.List.{range_with_len}
 use Rattle.lot_base.specs.Goods.{quantity_in, IsSupply}
@@ -17,7 +16,7 @@ use Rattle.clock.specs.Reports.{members, demand_in, demands_in}
 use Rattle.clock.specs.Tables.{is_member_of}
 use Rattle.clock.proofs.Members.{members_from, members-keep, members-skip}
 use Rattle.clock.proofs.Excesses.{small-table}
-use Rattle.clock.proofs.Ledger.{member-total}
+use Rattle.clock.proofs.Ledger.{member-total, further, here, left-out, nobody, none-at, same-total}
 use Rattle.clock.proofs.Path.{compare-or, step-below}
 use Rattle.overshoot.proofs.Most.{small-most}
 use Rattle.lot_base.specs.Steps.{excess, step_set}
@@ -97,51 +96,9 @@ added-last goods amount bidders clock step table end up set inside =
 abbrev no_table : Option LeastTable
 no_table = None
 
-none-at : (n j : ℕ) → slice_index_or (replicate n no_table) j no_table ≡ no_table
-none-at zero j = refl
-none-at (suc n) zero = refl
-none-at (suc n) (suc j) = none-at n j
-
-nobody : (clock j : ℕ) → is_member_of 0 clock j ≡ false
-nobody clock zero = refl
-nobody clock (suc j) = let far : nat_le (suc j) 0 ≡ false = grind (arith, nat_tests) in by (nat_le 1 (suc j)) far
-  where
-    by : (b : Bool) → nat_le (suc j) 0 ≡ false → (b && (nat_le (suc j) 0 && not (nat_eq (suc j) clock))) ≡ false
-    by true far = ap (λ f. f && not (nat_eq (suc j) clock)) far
-    by false far = refl
-
 pub tables-first : (goods : List ℕ) (amounts : ℕ → ℕ → ℕ) (clock : ℕ) (tables : List (Option LeastTable)) → tables ≡ replicate 13 no_table → AreTables goods amounts 0 clock tables
 tables-first goods amounts clock tables e j set inside =
     ap (λ ts. least_in (slice_index_or ts j no_table) set) e ∙ ap (λ o. least_in o set) (none-at 13 j) ∙ sym (ap (λ b. cond b (amounts j set) 0) (nobody clock j))
-
-further : (step clock j : ℕ) → j ≢ step + 1 → is_member_of (step + 1) clock j ≡ is_member_of step clock j
-further step clock j other = let e : nat_le j (step + 1) ≡ nat_le j step = grind (arith, nat_tests) in λ i. nat_le 1 j && (e i && not (nat_eq j clock))
-
-here : (step clock : ℕ) → step + 1 ≢ clock → is_member_of (step + 1) clock (step + 1) ≡ true
-here step clock other =
-    let a : nat_le 1 (step + 1) ≡ true = grind (arith, nat_tests) in
-    let b : nat_le (step + 1) (step + 1) ≡ true = grind (arith, nat_tests) in
-    let d : nat_eq (step + 1) clock ≡ false = grind (arith, nat_tests) in
-    λ i. a i && (b i && not (d i))
-
-left-out : (step clock j : ℕ) → step + 1 ≡ clock → is_member_of (step + 1) clock j ≡ is_member_of step clock j
-left-out step clock j same = by (compare-or j (step + 1))
-  where
-    at-clock : j ≡ step + 1 → is_member_of (step + 1) clock j ≡ is_member_of step clock j
-    at-clock e =
-        let d : nat_eq j clock ≡ true = grind (arith, nat_tests) in
-        let one : (f g : Bool) → (f && (g && not (nat_eq j clock))) ≡ false = λ f g. all f g d in
-        one (nat_le 1 j) (nat_le j (step + 1)) ∙ sym (one (nat_le 1 j) (nat_le j step))
-      where
-        all : (f g : Bool) → nat_eq j clock ≡ true → (f && (g && not (nat_eq j clock))) ≡ false
-        all true true d = ap not d
-        all true false d = refl
-        all false g d = refl
-
-    by : (j < step + 1) ⊎ ((step + 1 < j) ⊎ (j ≡ step + 1)) → is_member_of (step + 1) clock j ≡ is_member_of step clock j
-    by (inl less) = further step clock j (omega arith)
-    by (inr (inl more)) = further step clock j (omega arith)
-    by (inr (inr e)) = at-clock e
 
 pub tables-keep : (goods : List ℕ) (amounts : ℕ → ℕ → ℕ) (step clock : ℕ) (tables : List (Option LeastTable)) (table : LeastTable) → step + 1 < length tables → step + 1 ≢ clock → IsTable (length goods) (amounts (step + 1)) table.0
     → AreTables goods amounts step clock tables → AreTables goods amounts (step + 1) clock (slice_set tables (step + 1) (Some table))
@@ -162,10 +119,6 @@ tables-keep goods amounts step clock tables table room other is are j set inside
 
 pub tables-skip : (goods : List ℕ) (amounts : ℕ → ℕ → ℕ) (step clock : ℕ) (tables : List (Option LeastTable)) → step + 1 ≡ clock → AreTables goods amounts step clock tables → AreTables goods amounts (step + 1) clock tables
 tables-skip goods amounts step clock tables same are j set inside = are j set inside ∙ sym (ap (λ b. cond b (amounts j set) 0) (left-out step clock j same))
-
-same-total : (f g : ℕ → ℕ) (js : List ℕ) → ((j : ℕ) → f j ≡ g j) → total_units f js ≡ total_units g js
-same-total f g [] same = refl
-same-total f g (j ∷ js) same = λ i. same j i + same-total f g js same i
 
 -- what the members but one leave of a set
 pub left-is : (goods : List ℕ) (amounts : ℕ → ℕ → ℕ) (bidders clock set b : ℕ) (tables : List (Option LeastTable)) → bidders ≤ 12 → set < 2 ^ length goods → AreTables goods amounts bidders clock tables

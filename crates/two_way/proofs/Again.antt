@@ -14,8 +14,9 @@ use Rattle.two_way.specs.Kept.{IsKept, KeepsPast}
 use Rattle.two_way.specs.Past.{PastOf, with_report}
 use Rattle.two_way.specs.declared.next_step.Standing.{Standing}
 use Rattle.clock.proofs.Excesses.{found-fits}
+use Rattle.clock.proofs.After.{longer}
 use Rattle.trial.proofs.Finding.{all-more}
-use Rattle.two_way.proofs.Keeping.{GoesOn, Stays, advanced, take-longer, longer, with-report, same-demands, same-full, kept-applied}
+use Rattle.two_way.proofs.Keeping.{GoesOn, Stays, advanced, take-longer, with-report, same-demands, same-full, kept-applied}
 
 -- before a place there is no report of the round
 found-last : (last steps j : ℕ) (reports : List Report) → AllByRecursion (λ (r : Report). r.round < steps) (take last reports)

@@ -14,6 +14,7 @@ use Rattle.settlement.specs.Clocks.{runs}
 use Rattle.settlement.specs.declared.outcome.AwardRow.{AwardRow}
 use Rattle.trial.proofs.Finding.{all-both}
 use Rattle.trial.proofs.Whole.{AreBidders, each-bidder}
+use Rattle.trial.proofs.Sharing.{range-next}
 use Rattle.two_way.specs.Histories.{TwoWayHistory, IsStart, members_in}
 use Rattle.two_way.specs.Standing.{phase_of, last_round, steps_of}
 use Rattle.two_way.specs.Explained.{Explains as IsExplained}
@@ -86,13 +87,6 @@ pub record AreInOrder (terms : Terms) (u : ℕ → List ℕ → ℤ) (start : Li
   pub starts : AllByRecursion (λ (h : TwoWayHistory). h.start ≡ start) clocks
   pub ended : AllByRecursion (λ (h : TwoWayHistory). phase_of h ≡ Ended) clocks
   pub told : AllByRecursion (IsFloatHistory u) clocks
-
-range-next : (a n : ℕ) → range_with_len a (n + 1) ≡ range_with_len a n ++ (a + n) ∷ []
-range-next a zero = ap (λ k. k ∷ []) (let e : a ≡ a + 0 = omega arith in e)
-range-next a (suc n) =
-    let e : a + 1 + n ≡ a + suc n = omega arith in
-    let f : suc n + 1 ≡ suc (n + 1) = omega arith in
-    ap (range_with_len a) f ∙ ap (λ xs. a ∷ xs) (range-next (a + 1) n ∙ ap (λ k. range_with_len (a + 1) n ++ k ∷ []) e)
 
 pub order-next : (terms : Terms) (u : ℕ → List ℕ → ℤ) (start : List ℕ) (count : ℕ) (clocks next : List TwoWayHistory) (h : TwoWayHistory) → AreInOrder terms u start count clocks → IsFloatOf terms u start count h → next ≡ clocks ++ h ∷ []
     → AreInOrder terms u start (count + 1) next

@@ -9,6 +9,7 @@ use Rattle.lot_base.proofs.Within.{both}
 use Rattle.clock.specs.Reports.{demand_in, is_full}
 use Rattle.clock.proofs.Members.{members_from, members-keep, members-skip}
 use Rattle.clock.proofs.Append.{all-push}
+use Rattle.clock.proofs.LastDemands.{none-from}
 use Rattle.two_way.specs.Histories.{TwoWayHistory, members_in}
 use Rattle.two_way.specs.Standing.{phase_of, last_round, last_demands}
 use Rattle.two_way.proofs.Truthful.{full-ended}
@@ -18,9 +19,6 @@ pub record IsCopied (h : TwoWayHistory) (goods : List ℕ) (step bidders : ℕ) 
   pub whole : demands ++ map (last_demands h) (members_from step bidders h.number) ≡ map (last_demands h) (members_in h)
   pub reported : is_full (members_from step bidders h.number) h.reports (last_round h) ≡ true
   pub fit : AllByRecursion (λ d. IsDemand goods d) demands
-
-none-from : (n clock : ℕ) → members_from n n clock ≡ []
-none-from n clock = let e : n - n ≡ 0 = omega arith in ap (λ k. filter (λ j. not (nat_eq j clock)) (range_with_len (1 + n) k)) e
 
 pub copied-start : (h : TwoWayHistory) (goods : List ℕ) (bidders : ℕ) → bidders ≡ h.terms.bidders → phase_of h ≡ Ended → IsCopied h goods 0 bidders []
 copied-start h goods bidders same ended =

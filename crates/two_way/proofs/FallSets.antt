@@ -1,6 +1,6 @@
 -- The fall set: there is exactly one, and the function finds it; and the sets of goods above their opening, by number and by digits.
-use Rattle.std.proofs.Common.{◌≡◌, ◌<◌, ◌≤◌, ℕ, zero, suc, ◌+◌, ◌-◌, ◌/◌, ◌%◌, ◌^◌, max, Bool, true, false, not, ◌&&◌, ◌||◌, nat_eq, cond, List, [], ◌∷◌, length, refl, sym, ◌∙◌, ap, arith}
-use Rattle.std.specs.Prelude.{nat_lt, fold, ℤ, pos, negsuc, ◌-ℤ◌, ◌≤ℤ◌}
+use Rattle.std.proofs.Common.{◌≡◌, ◌<◌, ◌≤◌, ℕ, zero, suc, ◌+◌, ◌-◌, ◌/◌, ◌%◌, ◌^◌, Bool, true, false, not, ◌&&◌, ◌||◌, nat_eq, cond, List, [], ◌∷◌, length, refl, sym, ◌∙◌, ap, arith}
+use Rattle.std.specs.Prelude.{nat_lt, ℤ, pos, negsuc, ◌-ℤ◌, ◌≤ℤ◌}
 use Rattle.std.specs.List.{AllByRecursion}
 use Rattle.std.proofs.lemmas.Int.{ints}
 use Rattle.std.proofs.lemmas.Bool.Decides.{nat_tests}
@@ -13,6 +13,8 @@ use Rattle.lot_base.proofs.Vectors.{set_of, above}
 use Rattle.lot_base.proofs.Within.{both}
 use Rattle.lot_base.proofs.StepSet.{first_set-step_set, step_set-unique}
 use Rattle.overshoot.specs.Shortfall.{shortfall, AllRisen, IsGreatestShortfall}
+use Rattle.overshoot.proofs.Bridge.{quantity-none}
+use Rattle.overshoot.proofs.Most.{risen-none, total-none}
 use Rattle.two_way.specs.Falling.{is_risen, short_of_risen, fall_set}
 
 -- the set to lower where the sets of so many goods have these shortfalls
@@ -52,32 +54,6 @@ is-risen (a ∷ o) (q ∷ p) set h =
     let first = first-passes (set % 2) a q h.0 in
     let rest = is-risen o p (set / 2) h.1 in
     λ i. first i && rest i
-
--- of the empty set it holds, and its shortfall is 0
-pub risen-none : (o p : List ℕ) → AllRisen o p 0
-risen-none [] p = tt
-risen-none (a ∷ o) [] = tt
-risen-none (a ∷ o) (q ∷ p) = (λ one. absurd (omega arith), risen-none o p)
-
-pub quantity-none : (x : List ℕ) → quantity_in x 0 ≡ 0
-quantity-none [] = refl
-quantity-none (q ∷ x) = omega (arith, quantity-none x)
-
-pub size-none : (n : ℕ) → size_of n 0 ≡ 0
-size-none zero = refl
-size-none (suc n) = omega (arith, size-none n)
-
-greatest-none : (xs : List (List ℕ)) → greatest xs 0 ≡ 0
-greatest-none [] = refl
-greatest-none (x ∷ xs) = folded (quantity_in x 0) xs (quantity-none x)
-  where
-    folded : (a : ℕ) (ys : List (List ℕ)) → a ≡ 0 → fold (λ b y. max b (quantity_in y 0)) a ys ≡ 0
-    folded a [] e = e
-    folded a (y ∷ ys) e = folded (max a (quantity_in y 0)) ys (omega (arith, quantity-none y))
-
-total-none : (d : ℕ → List (List ℕ)) (js : List ℕ) → total_units (λ j. greatest (d j) 0) js ≡ 0
-total-none d [] = refl
-total-none d (j ∷ js) = omega (arith, greatest-none (d j), total-none d js)
 
 difference-none : (a b : ℕ) → a ≡ 0 → b ≡ 0 → pos a -ℤ pos b ≡ pos 0
 difference-none a b e f = omega (arith, ints)

@@ -15,9 +15,10 @@ use Rattle.lyapunov.proofs.Descent.{lyapunov-convex}
 use Rattle.lyapunov.proofs.Digits.{still, number_of}
 use Rattle.lot_base.proofs.Cells.{length-lowered}
 use Rattle.overshoot.specs.Shortfall.{shortfall, AllRisen}
+use Rattle.overshoot.proofs.Most.{risen-none, size-none}
 use Rattle.two_way.specs.Falling.{true_fall, lesser, IsHeld}
 use Rattle.two_way.proofs.Sinking.{Sunk, IsHeldBy, held_turn, held_step, least_turned, floor_kept}
-use Rattle.two_way.proofs.FallSets.{IsFallSet, fall-is, risen-at, at-risen, risen-none, priced-risen, lowered-above, lowered-none, shortfall-none, size-none}
+use Rattle.two_way.proofs.FallSets.{IsFallSet, fall-is, risen-at, at-risen, priced-risen, lowered-above, lowered-none, shortfall-none}
 
 sum-greatest : (s : List ℕ) (u : ℕ → List ℕ → ℤ) (js : List ℕ) → AllStrongSubstitutes s u js → (p : List ℕ) (set : ℕ) → length p ≡ length s → AllPriced p set
     → pos (total_units (λ j. greatest (demand s (u j) p) set) js) ≡ sum_over (λ j. indirect_utility s (u j) (lowered p set)) js -ℤ sum_over (λ j. indirect_utility s (u j) p) js

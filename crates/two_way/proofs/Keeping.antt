@@ -24,6 +24,7 @@ use Rattle.clock.proofs.Ceiling.{AllUpTo}
 use Rattle.clock.proofs.Next.{below-limit}
 use Rattle.clock.proofs.Path.{compare-or}
 use Rattle.clock.proofs.Present.{reported, not-taken, some-round, drop-push, drop-whole, none-beyond}
+use Rattle.clock.proofs.After.{longer, take-whole}
 use Rattle.overshoot.specs.Shortfall.{shortfall}
 use Rattle.two_way.specs.Falling.{fall_set}
 use Rattle.two_way.specs.Histories.{TwoWayHistory, IsStart, members_in, told, as_clock}
@@ -107,14 +108,6 @@ pub take-longer : (begin : ℕ) (reports : List Report) (r : Report) → begin �
 take-longer zero reports r up = refl
 take-longer (suc n) [] r up = absurd (omega arith)
 take-longer (suc n) (x ∷ reports) r up = ap (λ xs. x ∷ xs) (take-longer n reports r (omega arith))
-
-take-whole : (reports : List Report) → take (length reports) reports ≡ reports
-take-whole [] = refl
-take-whole (x ∷ reports) = ap (λ xs. x ∷ xs) (take-whole reports)
-
-pub longer : (reports : List Report) (r : Report) → length reports ≤ length (reports ++ r ∷ [])
-longer [] r = omega arith
-longer (x ∷ reports) r = let l = longer reports r in omega arith
 
 -- a clock of these terms has at most so many steps, either way and together
 most-steps : (h : TwoWayHistory) → length h.terms.goods * h.terms.ceiling ≤ 60000

@@ -1,22 +1,21 @@
 -- Rows of bidders, as a loop over them fills their table, and how much a bundle of a clearing choice can cost.
-use Rattle.std.proofs.Common.{◌≡◌, ◌<◌, ◌≤◌, ℕ, suc, ◌+◌, ◌*◌, ◌^◌, List, [], ◌∷◌, ◌++◌, length, take, drop, map, get_or, Option, Some, add-one, sym, ◌∙◌, ap, arith, subst}
+use Rattle.std.proofs.Common.{◌≡◌, ◌<◌, ◌≤◌, ℕ, suc, ◌+◌, ◌^◌, List, [], ◌∷◌, ◌++◌, length, take, drop, map, get_or, Option, Some, add-one, sym, ◌∙◌, ap, arith, subst}
 use Rattle.std.specs.Prelude.{slice_get}
 use Rattle.std.specs.List.{AllByRecursion, AllZip, range_with_len}
-use Rattle.std.proofs.Math.Nat.{mul-le-mul_left, mul-le-mul_right}
 use Rattle.std.proofs.lemmas.List.{map-append, length-map}
-use Rattle.lot_base.specs.Goods.{cost, plus, box_size}
-use Rattle.lot_base.specs.Choices.{sum_of, Clears, first_choice}
+use Rattle.lot_base.specs.Goods.{cost}
+use Rattle.lot_base.specs.Choices.{sum_of, first_choice}
 use Rattle.lot_base.specs.declared.auction_terms.Terms.{Terms}
-use Rattle.lot_base.proofs.Order.{box_size-some}
 use Rattle.clock.specs.Reports.{members, all_bidders}
-use Rattle.clock.proofs.Ceiling.{AllUpTo}
 use Rattle.settlement.specs.declared.outcome.AwardRow.{AwardRow}
 use Rattle.settlement.proofs.Zips.{zip-push, take-next, take-got}
+use Rattle.settlement.proofs.Bounds.{cost-up, each-cost, few-goods, sum-up}
+use Rattle.settlement.proofs.Efficient.{all-are-members}
 use Rattle.two_way.specs.Histories.{TwoWayHistory, IsStart, members_in}
 use Rattle.two_way.specs.Standing.{prices_of, steps_of, last_demands}
 use Rattle.two_way.specs.Floated.{choice_of, AreEnded, AreFloatedBy, IsAwardRow}
 use Rattle.two_way.proofs.Rounds.{on_the_way, before-last}
-use Rattle.two_way.proofs.Settled.{choice-clears, choice-count, all-are-members, numbers-of}
+use Rattle.two_way.proofs.Settled.{choice-clears, choice-count, numbers-of}
 
 -- the first choice of these demands is the clock's
 pub choice-from : (h : TwoWayHistory) (terms : Terms) (prices : List ℕ) (demands : List (List (List ℕ))) (answer : Option (List (List ℕ))) → h.terms ≡ terms → prices ≡ prices_of h → demands ≡ map (last_demands h) (members_in h)
@@ -37,50 +36,6 @@ awards-more all own others awards rows next row award place below at got is same
       ap (map (λ (row : AwardRow). row.award)) pushed ∙ map-append (λ (row : AwardRow). row.award) rows (row ∷ []) ∙ ap (λ xs. xs ++ row.award ∷ []) before.1
           ∙ ap (λ x. take place awards ++ x ∷ []) same ∙ sym (take-got awards place award got),
     )
-
--- how much a bundle of a clearing choice can cost: no price is above the ceiling, and no quantity above the supply
-cost-left : (p x y : List ℕ) → cost p x ≤ cost p (plus x y)
-cost-left [] x y = omega arith
-cost-left (p ∷ ps) [] y = omega arith
-cost-left (p ∷ ps) (x ∷ xs) [] = omega arith
-cost-left (p ∷ ps) (x ∷ xs) (y ∷ ys) = let r = cost-left ps xs ys in let m : p * x ≤ p * (x + y) = mul-le-mul_left p (omega arith) in omega arith
-
-cost-right : (p x y : List ℕ) → cost p y ≤ cost p (plus x y)
-cost-right [] x y = omega arith
-cost-right (p ∷ ps) [] y = omega arith
-cost-right (p ∷ ps) (x ∷ xs) [] = omega arith
-cost-right (p ∷ ps) (x ∷ xs) (y ∷ ys) = let r = cost-right ps xs ys in let m : p * y ≤ p * (x + y) = mul-le-mul_left p (omega arith) in omega arith
-
-each-cost : (p s : List ℕ) (xs : List (List ℕ)) (limit : ℕ) → cost p (sum_of s xs) < limit → AllByRecursion (λ x. cost p x < limit) xs
-each-cost p s [] limit h = tt
-each-cost p s (x ∷ xs) limit h =
-    let a = cost-left p x (sum_of s xs) in
-    let b = cost-right p x (sum_of s xs) in
-    (omega arith, each-cost p s xs limit (omega arith))
-
-sum-up : (o p t s : List ℕ) → Clears o p t s → box_size s ≤ 2048 → AllUpTo 2047 t
-sum-up [] [] [] [] h small = tt
-sum-up (o ∷ os) (p ∷ ps) (t ∷ ts) (s ∷ ss) h small =
-    let k = box_size-some ss in
-    let m : (s + 1) * 1 ≤ (s + 1) * box_size ss = mul-le-mul_left (s + 1) k in
-    let n : 1 * box_size ss ≤ (s + 1) * box_size ss = mul-le-mul_right (box_size ss) (omega arith) in
-    let low = h.0 in
-    (omega arith, sum-up os ps ts ss h.2 (omega arith))
-sum-up _ _ _ _ h small = absurd h
-
-cost-up : (a b : ℕ) (p t : List ℕ) → AllUpTo a p → AllUpTo b t → cost p t ≤ length p * (a * b)
-cost-up a b [] t up low = omega arith
-cost-up a b (p ∷ ps) [] up low = omega arith
-cost-up a b (p ∷ ps) (t ∷ ts) up low =
-    let r = cost-up a b ps ts up.1 low.1 in
-    let m : p * t ≤ p * b = mul-le-mul_left p low.0 in
-    let n : p * b ≤ a * b = mul-le-mul_right b up.0 in
-    omega arith
-
-few-goods : (k a : ℕ) → k ≤ 6 → a ≤ 10000 → k * (a * 2047) < 2 ^ 51
-few-goods k a few low =
-    let m : k * (a * 2047) ≤ 6 * (a * 2047) = mul-le-mul_right (a * 2047) few in
-    omega arith
 
 choice-small : (h : TwoWayHistory) (xs : List (List ℕ)) → IsStart h.terms h.start → choice_of h ≡ Some xs → AllByRecursion (λ x. cost (prices_of h) x < 2 ^ 51) xs
 choice-small h xs start e =

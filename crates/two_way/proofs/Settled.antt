@@ -1,17 +1,16 @@
 -- What two-way clocks settle, where valuations explain them: an equilibrium with the payments of Vickrey, Clarke and Groves.
-use Rattle.std.proofs.Common.{◌≡◌, ◌≤◌, ℕ, zero, suc, ◌+◌, false, not, nat_eq, cond, List, [], ◌∷◌, length, map, Option, Some, None, is_none, add-one, refl, sym, ◌∙◌, ap, arith, subst}
+use Rattle.std.proofs.Common.{◌≡◌, ◌≤◌, ℕ, suc, ◌+◌, false, List, [], ◌∷◌, length, map, Option, Some, None, is_none, add-one, refl, sym, ◌∙◌, ap, arith, subst}
 use Rattle.std.specs.Prelude.{ℤ, pos, ◌+ℤ◌, ◌-ℤ◌}
 use Rattle.std.specs.List.{AllByRecursion, AllZip, range_with_len}
-use Rattle.std.proofs.lemmas.Bool.Decides.{nat_tests}
 use Rattle.std.proofs.lemmas.List.{length-map}
 use Rattle.lot_base.specs.Goods.{cost}
 use Rattle.lot_base.specs.Economy.{demand, without, lyapunov}
-use Rattle.lot_base.specs.Choices.{IsClearingChoice, IsChoice}
+use Rattle.lot_base.specs.Choices.{IsClearingChoice}
 use Rattle.lot_base.specs.Equilibrium.{IsWalrasian, IsVcgPayment}
 use Rattle.lot_base.specs.declared.auction_terms.Terms.{Terms}
 use Rattle.lot_base.specs.declared.phases.Phase.TheVariants.{Ended}
-use Rattle.lyapunov.specs.Bidders.{IsOneOf, AllDifferent, bundle_of}
-use Rattle.lyapunov.proofs.Bidders.{all-without, IsOneOf-range, map-bundle_of, AllDifferent-range, AllDifferent-without}
+use Rattle.lyapunov.specs.Bidders.{IsOneOf, bundle_of}
+use Rattle.lyapunov.proofs.Bidders.{all-without, map-bundle_of, AllDifferent-range}
 use Rattle.lyapunov.proofs.Payment.{pays-vcg}
 use Rattle.lyapunov.proofs.Duality.{clearing-walrasian}
 use Rattle.award_assembly.proofs.Places.{first_choice-none, first_choice-clearing}
@@ -21,13 +20,12 @@ use Rattle.two_way.specs.Standing.{prices_of, phase_of, steps_of, last_demands, 
 use Rattle.settlement.specs.Efficient.{PaysVcg}
 use Rattle.two_way.specs.Floated.{choice_of, AreEnded, IsAwardRow, AreFloated, award_of, IsEfficient}
 use Rattle.settlement.specs.declared.outcome.AwardRow.{AwardRow}
+use Rattle.settlement.proofs.Efficient.{all-are-members, all-one, from-one, none-out, zip-maps}
+use Rattle.settlement.proofs.Members.{count-choice}
+use Rattle.settlement.proofs.Explained.{different-members, same-map}
 use Rattle.lyapunov.proofs.Existence.{minimiser-clears}
 use Rattle.two_way.specs.Explained.{Explains as IsExplained}
 use Rattle.two_way.proofs.Truthful.{Explains, from-start, members-true, minimises, sum-rise, full-ended}
-
-same-map : {A B : Type 0} (f g : A → B) (xs : List A) → AllByRecursion (λ x. f x ≡ g x) xs → map f xs ≡ map g xs
-same-map f g [] all = refl
-same-map f g (x ∷ xs) all = let e = all.0 in let r = same-map f g xs all.1 in λ i. e i ∷ r i
 
 -- what the members demand in the last round is what they truly demand there
 demands-true : (u : ℕ → List ℕ → ℤ) (h : TwoWayHistory) → Explains u h → phase_of h ≡ Ended
@@ -54,17 +52,8 @@ pub choice-clears : (h : TwoWayHistory) (xs : List (List ℕ)) → choice_of h �
 unfolding choice_of
 choice-clears h xs e = first_choice-clearing h.terms.goods h.terms.opening (prices_of h) (map (last_demands h) (members_in h)) xs e
 
-count-choice : (ds : List (List (List ℕ))) (xs : List (List ℕ)) → IsChoice ds xs → length xs ≡ length ds
-count-choice [] [] h = refl
-count-choice [] (x ∷ xs) h = absurd h
-count-choice (d ∷ ds) [] h = absurd h
-count-choice (d ∷ ds) (x ∷ xs) h = ap suc (count-choice ds xs h.1)
-
 pub choice-count : (h : TwoWayHistory) (xs : List (List ℕ)) → choice_of h ≡ Some xs → length xs ≡ length (members_in h)
 choice-count h xs e = count-choice _ xs (choice-clears h xs e).chosen ∙ length-map (members_in h) (last_demands h)
-
-different-members : (n clock : ℕ) → AllDifferent (members n clock)
-different-members n clock = AllDifferent-without clock (range_with_len 1 n) (AllDifferent-range 1 n)
 
 -- it is an equilibrium of the members
 pub equilibrium : (u : ℕ → List ℕ → ℤ) (h : TwoWayHistory) (xs : List (List ℕ)) → Explains u h → phase_of h ≡ Ended → choice_of h ≡ Some xs
@@ -76,31 +65,6 @@ equilibrium u h xs explains ended chosen =
     let D : List (List (List ℕ)) → Type 0 = λ ds. IsClearingChoice h.terms.goods h.terms.opening p ds xs in
     let X : List (List ℕ) → Type 0 = IsClearingChoice h.terms.goods h.terms.opening p (map (λ j. demand h.terms.goods (u j) p) js) in
     clearing-walrasian h.terms.goods h.terms.opening u js p (bundle_of js xs) (minimises u h explains ended).0 (subst X (sym e) (subst D (demands-true u h explains ended) (choice-clears h xs chosen)))
-
--- bidders from 1 on: leaving out nobody changes nothing
-none-out : (js : List ℕ) → AllByRecursion (λ j. 1 ≤ j) js → without 0 js ≡ js
-none-out [] some = refl
-none-out (j ∷ js) some =
-    let s = some.0 in
-    let t : nat_eq j 0 ≡ false = grind (arith, nat_tests) in
-    ap (λ b. cond (not b) (j ∷ without 0 js) (without 0 js)) t ∙ ap (λ ks. j ∷ ks) (none-out js some.1)
-
-from-one : (a n : ℕ) → 1 ≤ a → AllByRecursion (λ j. 1 ≤ j) (range_with_len a n)
-from-one a zero some = tt
-from-one a (suc n) some = (some, from-one (a + 1) n (omega arith))
-
-pub all-are-members : (n : ℕ) → members n 0 ≡ all_bidders n
-all-are-members n = none-out (range_with_len 1 n) (from-one 1 n (omega arith))
-
-all-one : (m a n : ℕ) → 1 ≤ a → a + n ≡ 1 + m → AllByRecursion (λ i. IsOneOf i (all_bidders m)) (range_with_len a n)
-all-one m a zero some e = tt
-all-one m a (suc n) some e = (IsOneOf-range a 1 m some (omega arith), all-one m (a + 1) n (omega arith) (omega arith))
-
-zip-maps : {A B C : Type 0} (f : A → C) (g : B → C) (xs : List A) (ys : List B) → map f xs ≡ map g ys → AllZip (λ x y. f x ≡ g y) xs ys
-zip-maps f g [] [] e = tt
-zip-maps f g [] (y ∷ ys) e = absurd (let h : [] ≡ g y ∷ map g ys = e in cc)
-zip-maps f g (x ∷ xs) [] e = absurd (let h : f x ∷ map f xs ≡ [] = e in cc)
-zip-maps f g (x ∷ xs) (y ∷ ys) e = let head : f x ≡ g y = cc in let tail : map f xs ≡ map g ys = cc in (head, zip-maps f g xs ys tail)
 
 -- the clock of these terms, as an equilibrium of its members
 clock-equilibrium : (u : ℕ → List ℕ → ℤ) (terms : Terms) (h : TwoWayHistory) (xs : List (List ℕ)) → h.terms ≡ terms → Explains u h → phase_of h ≡ Ended → choice_of h ≡ Some xs

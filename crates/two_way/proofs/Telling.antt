@@ -1,5 +1,5 @@
 -- A two-way clock that is told what valuations demand, round by round.
-use Rattle.std.proofs.Common.{◌≡◌, ◌≢◌, ◌<◌, ◌≤◌, ◌⊎◌, inl, inr, ℕ, zero, suc, ◌+◌, Bool, true, false, not, ◌&&◌, nat_eq, cond, List, [], ◌∷◌, ◌++◌, ◌-◌, length, get_or, map, Option, Some, None, is_none, refl, sym, ◌∙◌, ap, arith, append_assoc, append-nil, subst}
+use Rattle.std.proofs.Common.{◌≡◌, ◌≢◌, ◌<◌, ◌≤◌, ◌⊎◌, inl, inr, ℕ, zero, suc, ◌+◌, Bool, true, false, nat_eq, cond, List, [], ◌∷◌, ◌++◌, ◌-◌, length, get_or, map, None, refl, sym, ◌∙◌, ap, arith, append_assoc, append-nil, subst}
 use Rattle.std.specs.Prelude.{option_map, nat_le, ℤ}
 use Rattle.std.specs.List.{AllByRecursion}
 use Rattle.std.proofs.lemmas.Bool.Decides.{nat_tests}
@@ -9,7 +9,6 @@ use Rattle.lot_base.specs.Economy.{demand}
 use Rattle.lot_base.proofs.Ascending.{IsDemand-demand}
 use Rattle.lot_base.specs.declared.auction_terms.Terms.{Terms}
 use Rattle.lot_base.specs.declared.phases.Phase.{Phase}
-use Rattle.lot_base.specs.declared.phases.Phase.TheVariants.{Running, Ended, Halted}
 use Rattle.demand_set.specs.declared.reports.Report.{Report}
 use Rattle.clock.specs.declared.judging.Judgement.TheVariants.{Take, NotMember, NoRound}
 use Rattle.clock.specs.Reports.{ClockHistory, is_named, demand_in, members, is_full}
@@ -24,6 +23,7 @@ use Rattle.trial.specs.Trials.{true_report, round_reports}
 use Rattle.trial.proofs.Finding.{all-both, all-more, find-after, members-up_to, none-behind, full-told, open-beyond}
 use Rattle.trial.proofs.Telling.{round-past, get-same}
 use Rattle.trial.specs.Bidding.{bidders_of}
+use Rattle.trial.proofs.Turning.{leads-by, yes-running}
 use Rattle.valuation.specs.Values.{valuation_of}
 use Rattle.two_way.specs.Histories.{TwoWayHistory, IsStart, as_clock, members_in, told}
 use Rattle.two_way.specs.Standing.{is_full_after, set_after, good_at_ceiling, prices_after, steps_of, last_round, phase_of, prices_of, judgement_of}
@@ -100,19 +100,6 @@ float-none terms number start u zero none = refl
 float-none terms number start u (suc n) none =
     let before = float_reports terms number start u n in
     (λ i. before ++ round_reports terms u (suc n) (prices_after (record { terms = terms; number = number; start = start; reports = before }) n) (none i)) ∙ append-nil before ∙ float-none terms number start u n none
-
--- whether a phase is running
-pub yes-running : (phase : Phase) → runs phase ≡ true → phase ≡ Running
-yes-running Running r = refl
-yes-running Ended r = absurd (let e : false ≡ true = r in cc)
-yes-running (Halted good) r = absurd (let e : false ≡ true = r in cc)
-
--- a full round in which a clock is running leads on, so it is not the last one
-leads-by : (full empty : Bool) (good : Option ℕ) → full ≡ true → phase_by full empty good ≡ Running → (full && (not empty && is_none good)) ≡ true
-leads-by false empty good f e = absurd (let g : false ≡ true = f in cc)
-leads-by true true good f e = absurd (let g : Ended ≡ Running = e in cc)
-leads-by true false None f e = refl
-leads-by true false (Some k) f e = absurd (let g : Halted k ≡ Running = e in cc)
 
 never-full : (h : TwoWayHistory) → IsStart h.terms h.start → is_full_after h (steps_of h) ≡ true → is_running h ≡ true → ⊥
 never-full h start full runs =

@@ -1,5 +1,5 @@
 -- Columns of units, and for how many steps the best bundles stay the same.
-use Rattle.std.proofs.Common.{◌≡◌, ◌<◌, ◌≤◌, ◌⊎◌, ℕ, zero, suc, ◌+◌, ◌-◌, ◌*◌, ◌/◌, ◌%◌, Bool, true, false, not, ◌&&◌, ◌||◌, nat_eq, nat_le, cond, min, List, [], ◌∷◌, length, slice_index, inl, inr, arith, ap, refl, sym, ◌∙◌, subst, mul-le-mul_left}
+use Rattle.std.proofs.Common.{◌≡◌, ◌<◌, ◌≤◌, ◌⊎◌, ℕ, zero, suc, ◌+◌, ◌-◌, ◌*◌, ◌/◌, Bool, true, false, not, ◌&&◌, ◌||◌, nat_eq, nat_le, cond, min, List, [], ◌∷◌, length, slice_index, inl, inr, arith, ap, refl, sym, ◌∙◌, subst, mul-le-mul_left}
 use Rattle.std.proofs.lemmas.Bool.{cases_lt, cases_eq}
 use Rattle.std.proofs.lemmas.Bool.Decides.{nat_tests}
 use Rattle.std.proofs.Math.Nat.{mul-div-le, mul-le-mul}
@@ -7,35 +7,10 @@ use Rattle.lot_base.specs.Goods.{quantity_in, box_size, cost, zeros, raised, All
 use Rattle.lot_base.specs.Box.{bundle_at}
 use Rattle.lot_base.proofs.Index.{bundle_at-within}
 use Rattle.lot_base.proofs.Vec.{length-below}
+use Rattle.demand_set.proofs.Sums.{quantity-within, units-few}
 use Rattle.valuation.specs.Carried.{AreCosts, IsColumn, StaysApart, IsSteadyAt, AreSteady}
 use Rattle.valuation.proofs.Carrying.{cost-raised}
 use Rattle.valuation.proofs.Spread.{index-behind}
-
--- a bundle within a supply has fewer units of a set than the box has bundles
-part : (d x s : ℕ) → x ≤ s → cond (nat_eq d 1) x 0 ≤ cond (nat_eq d 1) s 0
-part zero x s up = omega arith
-part (suc zero) x s up = up
-part (suc (suc d)) x s up = grind arith
-
-quantity-within : (x supply : List ℕ) (set : ℕ) → AtMost x supply → quantity_in x set ≤ quantity_in supply set
-quantity-within [] [] set h = omega arith
-quantity-within [] (s ∷ supply) set h = absurd h
-quantity-within (q ∷ x) [] set h = absurd h
-quantity-within (q ∷ x) (s ∷ supply) set h = let i = quantity-within x supply (set / 2) h.1 in let p = part (set % 2) q s h.0 in omega (arith, i, p)
-
-whole-part : (d s : ℕ) → cond (nat_eq d 1) s 0 ≤ s
-whole-part zero s = omega arith
-whole-part (suc zero) s = omega arith
-whole-part (suc (suc d)) s = grind arith
-
-units-few : (supply : List ℕ) (set : ℕ) → quantity_in supply set + 1 ≤ box_size supply
-units-few [] set = omega arith
-units-few (s ∷ supply) set =
-    let i = units-few supply (set / 2) in
-    let p = whole-part (set % 2) s in
-    let some : 1 ≤ box_size supply = omega (arith, i) in
-    let k : s * 1 ≤ s * box_size supply = mul-le-mul_left s some in
-    omega (arith, i, p, k)
 
 pub quantity-few : (x supply : List ℕ) (set : ℕ) → AtMost x supply → box_size supply ≤ 2048 → quantity_in x set ≤ 2047
 quantity-few x supply set within small = let a = quantity-within x supply set within in let b = units-few supply set in omega (arith, a, b)

@@ -1,5 +1,6 @@
 use Rattle.std.proofs.Common.{string_bytes}
-use Rattle.advice.proofs.NotEmpty.{behind, if-ok}
+use Rattle.house_run.proofs.Explaining.{if-ok}
+use Rattle.advice.proofs.NotEmpty.{behind}
 use Rattle.advice.proofs.clock_ends.halted_clock.Goals as goal
 
 pub returns : goal.returns

@@ -1,5 +1,6 @@
 use Rattle.std.proofs.Common.{◌∙◌, ◌++◌, ap, arith}
-use Rattle.house_run.proofs.Explaining.{no-text, terms-at, text-more}
+use Rattle.observed_demand.proofs.Collecting.{terms-at}
+use Rattle.house_run.proofs.Explaining.{no-text, text-more}
 use Rattle.house_run.proofs.commands.explain.explained_text.Goals as goal
 
 pub loop-clock-init : goal.loop-clock-init

@@ -1,9 +1,9 @@
 use Rattle.std.proofs.Common.{◌≢◌, ◌+◌, ℕ, List, sym, ◌∙◌, ap, subst}
 use Rattle.lot_base.specs.Demands.{IsDemand}
 use Rattle.lot_base.specs.declared.auction_terms.Terms.{Terms}
-use Rattle.settlement.proofs.Members.{IsCopied, copied-keep, copied-skip}
-use Rattle.settlement.proofs.choosing.last_demands.Goals as goal
-use Rattle.settlement.proofs.choosing.last_demands.Goals.{then-bidder-number+in_ok-last_demand+in_ok-push, else-bidder-number}
+use Rattle.clock.proofs.LastDemands.{IsCopied, copied-keep, copied-skip}
+use Rattle.clock.proofs.last_round.last_demands.Goals as goal
+use Rattle.clock.proofs.last_round.last_demands.Goals.{then-bidder-number+in_ok-last_demand+in_ok-push, else-bidder-number}
 
 pub loop-step-preserved : goal.loop-step-preserved
 loop-step-preserved c =

@@ -22,7 +22,7 @@ pub record IsCopied (c : ClockHistory) (goods : List ℕ) (step bidders : ℕ) (
   pub reported : is_full (members_from step bidders c.number) c.reports (last_round c) ≡ true
   pub fit : AllByRecursion (λ d. IsDemand goods d) demands
 
-none-from : (n clock : ℕ) → members_from n n clock ≡ []
+pub none-from : (n clock : ℕ) → members_from n n clock ≡ []
 none-from n clock = let e : n - n ≡ 0 = omega arith in ap (λ k. filter (λ j. not (nat_eq j clock)) (range_with_len (1 + n) k)) e
 
 pub copied-start : (c : ClockHistory) (goods : List ℕ) (bidders : ℕ) → bidders ≡ c.terms.bidders → phase_of c ≡ Ended → IsCopied c goods 0 bidders []
