@@ -1,3 +1,4 @@
 pub mod Exchange
 pub mod Local
+pub mod Tables
 pub mod Verdicts

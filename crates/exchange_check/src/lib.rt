@@ -4,6 +4,7 @@
 pub mod laws;
 mod local_test;
 mod scan;
+mod tables;
 pub mod verdict;
 
 pub use verdict::{Verdict, check};

@@ -7,7 +7,9 @@ ghost use Rattle.lot_base.specs.Economy.{IsStrongSubstitutes};
 ghost use Rattle.valuation.specs.Values.{valuation_of};
 ghost use Rattle.lot_base.specs.Strides.{AreStrides};
 ghost use Rattle.exchange_check.specs.Local.{IsLocalThird, IsLocalPair, IsLocalAt, AreFree};
+ghost use Rattle.exchange_check.specs.Tables.{IsTableOf};
 
+use crate::tables::Table;
 use valuation::value_at;
 
 /// How many units of each good the bundle at a place leaves.
@@ -75,26 +77,16 @@ fn has_room(supply: &[u16], free: &[u16; 6], index: usize, i: usize, j: usize) -
 }
 
 /// Whether the condition on a third good k holds.
-fn third_at(
-    supply: &[u16],
-    strides: &[usize; 6],
-    free: &[u16; 6],
-    values: &[u16],
-    index: usize,
-    i: usize,
-    j: usize,
-    k: usize,
-) -> bool
-    requires goods { length supply.now ≤ 6 }
-    requires size { box_size supply.now ≤ MOST_BUNDLES }
-    requires within { index < box_size supply.now }
-    requires strides { AreStrides supply.now strides.now }
-    requires free { AreFree supply.now index free.now }
-    requires i { i < length supply.now }
-    requires j { j < length supply.now }
-    requires k { k < length supply.now }
-    requires pair { AtMost (one_more (one_more (bundle_at supply.now index) i) j) supply.now }
-    ensures { IsTrue result ↔ IsLocalThird supply.now (valuation_of supply.now values.now) (bundle_at supply.now index) i j k }
+fn third_at(table: &Table, free: &[u16; 6], index: usize, i: usize, j: usize, k: usize) -> bool
+    requires table { IsTableOf table.now.supply.now table.now.strides.now }
+    requires within { index < box_size table.now.supply.now }
+    requires free { AreFree table.now.supply.now index free.now }
+    requires i { i < length table.now.supply.now }
+    requires j { j < length table.now.supply.now }
+    requires k { k < length table.now.supply.now }
+    requires pair { AtMost (one_more (one_more (bundle_at table.now.supply.now index) i) j) table.now.supply.now }
+    ensures { IsTrue result ↔ IsLocalThird table.now.supply.now (valuation_of table.now.supply.now table.now.values.now)
+        (bundle_at table.now.supply.now index) i j k }
 {
     if k == i {
         return true;
@@ -105,36 +97,33 @@ fn third_at(
     if free[k] == 0 {
         return true;
     }
-    third_holds(values, index, strides[i], strides[j], strides[k])
+    third_holds(
+        table.values,
+        index,
+        table.strides[i],
+        table.strides[j],
+        table.strides[k],
+    )
 }
 
 /// Whether the conditions on the pair i and j hold.
-fn pair_at(
-    supply: &[u16],
-    strides: &[usize; 6],
-    free: &[u16; 6],
-    values: &[u16],
-    index: usize,
-    i: usize,
-    j: usize,
-) -> bool
-    requires goods { length supply.now ≤ 6 }
-    requires size { box_size supply.now ≤ MOST_BUNDLES }
-    requires within { index < box_size supply.now }
-    requires strides { AreStrides supply.now strides.now }
-    requires free { AreFree supply.now index free.now }
-    requires i { i < length supply.now }
-    requires j { j < length supply.now }
-    ensures { IsTrue result ↔ IsLocalPair supply.now (valuation_of supply.now values.now) (bundle_at supply.now index) i j }
+fn pair_at(table: &Table, free: &[u16; 6], index: usize, i: usize, j: usize) -> bool
+    requires table { IsTableOf table.now.supply.now table.now.strides.now }
+    requires within { index < box_size table.now.supply.now }
+    requires free { AreFree table.now.supply.now index free.now }
+    requires i { i < length table.now.supply.now }
+    requires j { j < length table.now.supply.now }
+    ensures { IsTrue result ↔ IsLocalPair table.now.supply.now (valuation_of table.now.supply.now table.now.values.now)
+        (bundle_at table.now.supply.now index) i j }
 {
-    if !has_room(supply, free, index, i, j) {
+    if !has_room(table.supply, free, index, i, j) {
         return true;
     }
-    if !falls(values, index, strides[i], strides[j]) {
+    if !falls(table.values, index, table.strides[i], table.strides[j]) {
         return false;
     }
-    for k in 0..supply.len() {
-        if !third_at(supply, strides, free, values, index, i, j, k) {
+    for k in 0..table.supply.len() {
+        if !third_at(table, free, index, i, j, k) {
             return false;
         }
     }
@@ -142,17 +131,16 @@ fn pair_at(
 }
 
 /// Whether the conditions hold at the bundle of a place.
-fn holds_at(supply: &[u16], strides: &[usize; 6], values: &[u16], index: usize) -> bool
-    requires goods { length supply.now ≤ 6 }
-    requires size { box_size supply.now ≤ MOST_BUNDLES }
-    requires within { index < box_size supply.now }
-    requires strides { AreStrides supply.now strides.now }
-    ensures { IsTrue result ↔ IsLocalAt supply.now (valuation_of supply.now values.now) (bundle_at supply.now index) }
+fn holds_at(table: &Table, index: usize) -> bool
+    requires table { IsTableOf table.now.supply.now table.now.strides.now }
+    requires within { index < box_size table.now.supply.now }
+    ensures { IsTrue result ↔ IsLocalAt table.now.supply.now (valuation_of table.now.supply.now table.now.values.now)
+        (bundle_at table.now.supply.now index) }
 {
-    let free = free_units(supply, strides, index);
-    for i in 0..supply.len() {
-        for j in i..supply.len() {
-            if !pair_at(supply, strides, &free, values, index, i, j) {
+    let free = free_units(table.supply, table.strides, index);
+    for i in 0..table.supply.len() {
+        for j in i..table.supply.len() {
+            if !pair_at(table, &free, index, i, j) {
                 return false;
             }
         }
@@ -161,15 +149,13 @@ fn holds_at(supply: &[u16], strides: &[usize; 6], values: &[u16], index: usize) 
 }
 
 /// Whether the goods are strong substitutes at the values of a table.
-pub(crate) fn is_strong(supply: &[u16], strides: &[usize; 6], size: usize, values: &[u16]) -> bool
-    requires goods { length supply.now ≤ 6 }
-    requires strides { AreStrides supply.now strides.now }
-    requires size { box_size supply.now ≡ size }
-    requires few { size ≤ MOST_BUNDLES }
-    ensures { IsTrue result ↔ IsStrongSubstitutes supply.now (valuation_of supply.now values.now) }
+pub(crate) fn is_strong(table: &Table, size: usize) -> bool
+    requires table { IsTableOf table.now.supply.now table.now.strides.now }
+    requires size { box_size table.now.supply.now ≡ size }
+    ensures { IsTrue result ↔ IsStrongSubstitutes table.now.supply.now (valuation_of table.now.supply.now table.now.values.now) }
 {
     for index in 0..size {
-        if !holds_at(supply, strides, values, index) {
+        if !holds_at(table, index) {
             return false;
         }
     }

@@ -4,6 +4,7 @@ ghost use Rattle.exchange_check.specs.Verdicts.{IsRight};
 
 use crate::local_test::is_strong;
 use crate::scan::first_broken;
+use crate::tables::Table;
 use lot_base::{Bundle, Goods};
 use valuation::Valuation;
 
@@ -25,10 +26,15 @@ pub fn check(goods: &Goods, valuation: &Valuation) -> Verdict
     let supply = goods.as_slice();
     let strides = goods.strides();
     let values = valuation.as_slice();
-    if is_strong(supply, &strides, goods.box_size() as usize, values) {
+    let table = Table {
+        supply,
+        strides: &strides,
+        values,
+    };
+    if is_strong(&table, goods.box_size() as usize) {
         return Verdict::Holds;
     }
-    match first_broken(supply, &strides, goods.box_size(), values) {
+    match first_broken(&table, goods.box_size()) {
         Some(triple) => Verdict::Breaks {
             x: goods.bundle(triple.x),
             y: goods.bundle(triple.y),

@@ -7,10 +7,10 @@ use Rattle.exchange_check.proofs.AtPlace.{pair_turned}
 
 pub returns : goal.returns
 returns c =
-    let s = c.args.supply.now in
+    let s = c.args.table.now.supply.now in
     let inv = c.loop-i.invariant in (
       (λ r a b ha hb. elim (cases_lt b a) [
-        | inl lt ↦ pair_turned s (valuation_of s c.args.values.now) (bundle_at s c.args.index) b a (inv b a (omega arith) (omega arith) ha)
+        | inl lt ↦ pair_turned s (valuation_of s c.args.table.now.values.now) (bundle_at s c.args.index) b a (inv b a (omega arith) (omega arith) ha)
         | inr le ↦ inv a b (omega arith) le hb
       ]),
       (λ h. refl),

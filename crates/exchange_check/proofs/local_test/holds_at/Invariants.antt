@@ -6,9 +6,12 @@ use Rattle.exchange_check.specs.Local.{IsLocalPair}
 
 abbrev pub invariant-loop-i : goal.invariant-loop-i
 invariant-loop-i l =
-    (a b : ℕ) → a < l.i → a ≤ b → b < length l.supply → IsLocalPair l.supply (valuation_of l.supply l.values) (bundle_at l.supply l.index) a b
+    (a b : ℕ) → a < l.i → a ≤ b → b < length l.table.supply.now
+    → IsLocalPair l.table.supply.now (valuation_of l.table.supply.now l.table.values.now) (bundle_at l.table.supply.now l.index) a b
 
 abbrev pub invariant-loop-j : goal.invariant-loop-j
 invariant-loop-j l =
-    ((a b : ℕ) → a < l.i → a ≤ b → b < length l.supply → IsLocalPair l.supply (valuation_of l.supply l.values) (bundle_at l.supply l.index) a b)
-    × ((b : ℕ) → l.i ≤ b → b < l.j → IsLocalPair l.supply (valuation_of l.supply l.values) (bundle_at l.supply l.index) l.i b)
+    ((a b : ℕ) → a < l.i → a ≤ b → b < length l.table.supply.now
+    → IsLocalPair l.table.supply.now (valuation_of l.table.supply.now l.table.values.now) (bundle_at l.table.supply.now l.index) a b)
+    × ((b : ℕ) → l.i ≤ b → b < l.j
+    → IsLocalPair l.table.supply.now (valuation_of l.table.supply.now l.table.values.now) (bundle_at l.table.supply.now l.index) l.i b)

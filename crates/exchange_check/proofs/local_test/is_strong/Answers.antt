@@ -11,8 +11,8 @@ use Rattle.exchange_check.proofs.AtPlace.{AtMost-bundle_at, local_from_each, eac
 
 pub returns-then-not-holds_at : goal.returns-then-not-holds_at
 returns-then-not-holds_at c =
-    let s = c.args.supply.now in
-    let u = valuation_of s c.args.values.now in
+    let s = c.args.table.now.supply.now in
+    let u = valuation_of s c.args.table.now.values.now in
     let n = c.loop-index.index in
     let h = c.requires.size in
     let b = AtMost-bundle_at s n (omega arith) in
@@ -20,8 +20,8 @@ returns-then-not-holds_at c =
 
 pub returns : goal.returns
 returns c =
-    let s = c.args.supply.now in
-    let u = valuation_of s c.args.values.now in
+    let s = c.args.table.now.supply.now in
+    let u = valuation_of s c.args.table.now.values.now in
     let P : List ℕ → Type 0 = λ w. IsLocalAt s u w in (
       (λ r. strong_of_local s u (local_from_each s u (λ w b.
           let h = index_of-small s w b in

@@ -5,4 +5,5 @@ use Rattle.valuation.specs.Values.{valuation_of}
 use Rattle.exchange_check.specs.Local.{IsLocalAt}
 
 abbrev pub invariant-loop-index : goal.invariant-loop-index
-invariant-loop-index l = (m : ℕ) → m < l.index → IsLocalAt l.supply (valuation_of l.supply l.values) (bundle_at l.supply m)
+invariant-loop-index l =
+    (m : ℕ) → m < l.index → IsLocalAt l.table.supply.now (valuation_of l.table.supply.now l.table.values.now) (bundle_at l.table.supply.now m)

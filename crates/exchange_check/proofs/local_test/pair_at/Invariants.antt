@@ -5,4 +5,5 @@ use Rattle.valuation.specs.Values.{valuation_of}
 use Rattle.exchange_check.specs.Local.{IsLocalThird}
 
 abbrev pub invariant-loop-k : goal.invariant-loop-k
-invariant-loop-k l = (m : ℕ) → m < l.k → IsLocalThird l.supply (valuation_of l.supply l.values) (bundle_at l.supply l.index) l.i l.j m
+invariant-loop-k l =
+    (m : ℕ) → m < l.k → IsLocalThird l.table.supply.now (valuation_of l.table.supply.now l.table.values.now) (bundle_at l.table.supply.now l.index) l.i l.j m

@@ -9,8 +9,8 @@ use Rattle.lot_base.proofs.Index.{bundle_at-index_of}
 
 pub returns-clause-none : goal.returns-clause-none
 returns-clause-none c = λ x y k bx by h.
-    let s = c.args.supply.now in
-    let u = valuation_of s c.args.values.now in
+    let s = c.args.table.now.supply.now in
+    let u = valuation_of s c.args.table.now.values.now in
     let z = c.requires.size in
     let ix = index_of-small s x bx in
     let iy = index_of-small s y by in

@@ -7,4 +7,5 @@ use Rattle.exchange_check.specs.Exchange.{IsExchanged}
 
 abbrev pub invariant-loop-x : goal.invariant-loop-x
 invariant-loop-x l =
-    (a b c : ℕ) → a < l.x → b < box_size l.supply → c < length l.supply → IsExchanged (valuation_of l.supply l.values) (bundle_at l.supply a) (bundle_at l.supply b) c
+    (a b c : ℕ) → a < l.x → b < box_size l.table.supply.now → c < length l.table.supply.now
+    → IsExchanged (valuation_of l.table.supply.now l.table.values.now) (bundle_at l.table.supply.now a) (bundle_at l.table.supply.now b) c

@@ -6,4 +6,5 @@ use Rattle.exchange_check.specs.Exchange.{IsExchanged}
 
 abbrev pub invariant-loop-y : goal.invariant-loop-y
 invariant-loop-y l =
-    (b c : ℕ) → b < l.y → c < length l.supply → IsExchanged (valuation_of l.supply l.values) (bundle_at l.supply l.x) (bundle_at l.supply b) c
+    (b c : ℕ) → b < l.y → c < length l.table.supply.now
+    → IsExchanged (valuation_of l.table.supply.now l.table.values.now) (bundle_at l.table.supply.now l.x) (bundle_at l.table.supply.now b) c

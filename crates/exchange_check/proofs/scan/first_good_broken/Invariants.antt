@@ -6,4 +6,5 @@ use Rattle.exchange_check.specs.Exchange.{IsExchanged}
 
 abbrev pub invariant-loop-good : goal.invariant-loop-good
 invariant-loop-good l =
-    (c : ℕ) → c < l.good → IsExchanged (valuation_of l.supply l.values) (bundle_at l.supply l.x) (bundle_at l.supply l.y) c
+    (c : ℕ) → c < l.good
+    → IsExchanged (valuation_of l.table.supply.now l.table.values.now) (bundle_at l.table.supply.now l.x) (bundle_at l.table.supply.now l.y) c

@@ -6,4 +6,5 @@ use Rattle.exchange_check.specs.Exchange.{IsExchangedFor}
 
 abbrev pub invariant-loop-other : goal.invariant-loop-other
 invariant-loop-other l =
-    (m : ℕ) → m < l.other → IsExchangedFor (valuation_of l.supply l.values) (bundle_at l.supply l.x) (bundle_at l.supply l.y) l.good m → ⊥
+    (m : ℕ) → m < l.other
+    → IsExchangedFor (valuation_of l.table.supply.now l.table.values.now) (bundle_at l.table.supply.now l.x) (bundle_at l.table.supply.now l.y) l.good m → ⊥
