@@ -8,6 +8,7 @@ use Rattle.report_wire.specs.Frames.{IsSent, Sent, spelled, stream_of}
 use Rattle.report_wire.specs.Messages.{bidder_kind, bidder_sent, to_bidder}
 use Rattle.report_wire.specs.declared.frames.WireKind.{WireKind}
 use Rattle.report_wire.specs.declared.frames.WireKind.TheVariants.{BadPayload, TooLong, UnknownKind}
+use Rattle.report_wire.specs.declared.kinds.TheConstants.{REFUSED}
 use Rattle.report_wire.proofs.Streams.{all-append, stream_on}
 use Rattle.session.specs.Table.{wire_reply}
 use Rattle.session.specs.Turns.{Turn, bytes_of, frames_of, replies_of}
@@ -27,13 +28,13 @@ refusal-formed (TooLong n) = record { formed = refl; short = omega arith }
 refusal-formed (UnknownKind kind) = record { formed = refl; short = omega arith }
 refusal-formed (BadPayload kind n) = record { formed = refl; short = omega arith }
 
-refusal-kind : (kind : WireKind) → bidder_kind (wire_reply kind) ≡ 21
+refusal-kind : (kind : WireKind) → bidder_kind (wire_reply kind) ≡ REFUSED
 refusal-kind (TooLong n) = refl
 refusal-kind (UnknownKind kind) = refl
 refusal-kind (BadPayload kind n) = refl
 
 -- a reply to a fault is a refusal
-not-fault : (fault : Option WireKind) (s : Sent) → (s.kind ≡ 21 → ⊥) → In s (faults-sent fault) → ⊥
+not-fault : (fault : Option WireKind) (s : Sent) → (s.kind ≡ REFUSED → ⊥) → In s (faults-sent fault) → ⊥
 not-fault None s other at = at
 not-fault (Some kind) s other (inl e) = other (ap (λ (x : Sent). x.kind) (sym e) ∙ refusal-kind kind)
 not-fault (Some kind) s other (inr none) = none
@@ -101,7 +102,7 @@ module _ {M : Type 0} where
 
   pub reply-turn : (auction : Auction) (turns : List (Turn M)) (tail : List ℕ) (place : ℕ) (left given rest : List ℕ) (end : SessionEnd) (before : List Sent) (s : Sent)
       → EndsBy auction None (frames_of turns) tail place left (bytes_of turns) given end → AllByRecursion (IsSent to_bidder) (sents turns)
-      → given ≡ stream_of (before ++ s ∷ []) rest → AllByRecursion (IsSent to_bidder) (before ++ s ∷ []) → (s.kind ≡ 21 → ⊥) → IsReplyOf turns (length before) s
+      → given ≡ stream_of (before ++ s ∷ []) rest → AllByRecursion (IsSent to_bidder) (before ++ s ∷ []) → (s.kind ≡ REFUSED → ⊥) → IsReplyOf turns (length before) s
   reply-turn auction turns tail place left given rest end before s by each is sent other =
       let were = were-given auction turns tail place left given end by in
       let stream : stream_of (before ++ s ∷ []) (rest ++ were.more) ≡ stream_of (sents turns ++ faults-sent were.fault) [] =

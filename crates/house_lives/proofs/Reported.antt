@@ -14,6 +14,8 @@ use Rattle.report_wire.specs.Messages.{bidder_kind, house_payload, house_sent}
 use Rattle.report_wire.specs.declared.messages.ToBidder.{ToBidder}
 use Rattle.report_wire.specs.declared.messages.ToHouse.{ToHouse}
 use Rattle.report_wire.specs.declared.messages.ToHouse.TheVariants as house
+use Rattle.report_wire.specs.declared.kinds.TheConstants.{HELLO, LOOK, REPORT, QUIT, TAKEN, AGAIN, REFUSED}
+use Rattle.report_wire.specs.declared.refusals.TheConstants.{NO_HELLO, UNKNOWN_CLOCK, NOT_MEMBER, EARLY, CONFLICT, OVER, FULL, DISK_FAULT, NO_MEMORY, NO_ROUND}
 use Rattle.session.specs.Asking.{IsPossible, question_of}
 use Rattle.session.specs.Table.{MayBeShort, demand_refusal, line_of, offered_reply, refusal, reply_of, report_line}
 use Rattle.session.specs.Turns.{KeepsTo}
@@ -26,13 +28,13 @@ use Rattle.house_serve.specs.Houses.{PassAllows}
 
 -- the reply is one of these two kinds
 abbrev pub IsYes : ToBidder → Type 0
-IsYes reply = (bidder_kind reply ≡ 19) ⊎ (bidder_kind reply ≡ 20)
+IsYes reply = (bidder_kind reply ≡ TAKEN) ⊎ (bidder_kind reply ≡ AGAIN)
 
-no-refusal : (reply : ToBidder) → bidder_kind reply ≡ 21 → IsYes reply → ⊥
+no-refusal : (reply : ToBidder) → bidder_kind reply ≡ REFUSED → IsYes reply → ⊥
 no-refusal reply kind (inl taken) = omega (arith, kind, taken)
 no-refusal reply kind (inr again) = omega (arith, kind, again)
 
-demand-kind : (f : DemandFault) → bidder_kind (demand_refusal f) ≡ 21
+demand-kind : (f : DemandFault) → bidder_kind (demand_refusal f) ≡ REFUSED
 demand-kind fault.Empty = refl
 demand-kind (fault.NotAscending place) = refl
 demand-kind (fault.OutsideSupply place) = refl
@@ -49,14 +51,14 @@ module _ (clock who round : ℕ) (demand : List (List ℕ)) where
   by-answer said.Again possible agreed = inr refl
   by-answer (said.Refused judged.Take) possible agreed = absurd possible
   by-answer (said.Refused judged.Again) possible agreed = absurd possible
-  by-answer (said.Refused judged.NotMember) possible agreed = absurd (no-refusal (refusal 4 clock) refl agreed)
-  by-answer (said.Refused judged.NoRound) possible agreed = absurd (no-refusal (refusal 12 0) refl agreed)
-  by-answer (said.Refused (judged.Early last)) possible agreed = absurd (no-refusal (refusal 6 last) refl agreed)
-  by-answer (said.Refused (judged.Conflict last)) possible agreed = absurd (no-refusal (refusal 7 last) refl agreed)
-  by-answer (said.Refused (judged.Over last)) possible agreed = absurd (no-refusal (refusal 8 last) refl agreed)
-  by-answer (said.Full needed) possible agreed = absurd (no-refusal (refusal 9 needed) refl agreed)
-  by-answer said.DiskFault possible agreed = absurd (no-refusal (refusal 10 0) refl agreed)
-  by-answer said.NoMemory possible agreed = absurd (no-refusal (refusal 11 0) refl agreed)
+  by-answer (said.Refused judged.NotMember) possible agreed = absurd (no-refusal (refusal NOT_MEMBER clock) refl agreed)
+  by-answer (said.Refused judged.NoRound) possible agreed = absurd (no-refusal (refusal NO_ROUND 0) refl agreed)
+  by-answer (said.Refused (judged.Early last)) possible agreed = absurd (no-refusal (refusal EARLY last) refl agreed)
+  by-answer (said.Refused (judged.Conflict last)) possible agreed = absurd (no-refusal (refusal CONFLICT last) refl agreed)
+  by-answer (said.Refused (judged.Over last)) possible agreed = absurd (no-refusal (refusal OVER last) refl agreed)
+  by-answer (said.Full needed) possible agreed = absurd (no-refusal (refusal FULL needed) refl agreed)
+  by-answer said.DiskFault possible agreed = absurd (no-refusal (refusal DISK_FAULT 0) refl agreed)
+  by-answer said.NoMemory possible agreed = absurd (no-refusal (refusal NO_MEMORY 0) refl agreed)
 
   by-asked : (a : Asked) → question_of a ≡ question.Offer clock who round demand → IsPossible a → IsYes (reply_of a) → IsYesTo (Some a) clock who round demand
   by-asked (asked.Look k look) e possible agreed = absurd (let no : ⊥ = cc in no)
@@ -73,14 +75,14 @@ module _ (before now : HousePassOf) (o : Option Asked) (reply : ToBidder) (agree
   abbrev Keeps : Line → Type 0
   Keeps line = KeepsTo PassAllows line o reply before now
 
-  says-none : (one : ToBidder) (on : Bool) → bidder_kind one ≡ 21 → KeepsTo PassAllows (Says one on) o reply before now → ⊥
+  says-none : (one : ToBidder) (on : Bool) → bidder_kind one ≡ REFUSED → KeepsTo PassAllows (Says one on) o reply before now → ⊥
   says-none one on kind keeps = of o keeps
     where
       of : (x : Option Asked) → KeepsTo PassAllows (Says one on) x reply before now → ⊥
       of None (same, still) = no-refusal reply (ap bidder_kind same ∙ kind) agreed
       of (Some a) none = none
 
-  at-line : (s t : Bool) (one other : ToBidder) (line : Line) → bidder_kind one ≡ 21 → bidder_kind other ≡ 21 → Keeps (cond s (Says one true) (cond t (Says other true) line)) → Keeps line
+  at-line : (s t : Bool) (one other : ToBidder) (line : Line) → bidder_kind one ≡ REFUSED → bidder_kind other ≡ REFUSED → Keeps (cond s (Says one true) (cond t (Says other true) line)) → Keeps line
   at-line true t one other line kind kinds keeps = absurd (says-none one true kind keeps)
   at-line false true one other line kind kinds keeps = absurd (says-none other true kinds keeps)
   at-line false false one other line kind kinds keeps = keeps
@@ -106,17 +108,17 @@ module _ (before now : HousePassOf) (o : Option Asked) (reply : ToBidder) (agree
     pub offered : WasOffered clock bidder round (demand_of value.terms.goods raw.goods (bundles_of raw.goods raw.quantities))
 
   by-report : (value : Auction) (who : Option ℕ) (clock round : ℕ) (raw : RawDemand) → Keeps (line_of value who (house.Report clock round raw)) → WasReported value who clock round raw
-  by-report value None clock round raw keeps = absurd (says-none (refusal 1 0) true refl keeps)
+  by-report value None clock round raw keeps = absurd (says-none (refusal NO_HELLO 0) true refl keeps)
   by-report value (Some b) clock round raw keeps =
       let read = demand_of value.terms.goods raw.goods (bundles_of raw.goods raw.quantities) in
       record {
         bidder = b;
         who_is = refl;
-        offered = by-line b clock round read (at-line (nat_lt value.terms.bidders clock) (nat_eq clock b) (refusal 3 clock) (refusal 4 clock) (report_line b clock round read) refl refl keeps);
+        offered = by-line b clock round read (at-line (nat_lt value.terms.bidders clock) (nat_eq clock b) (refusal UNKNOWN_CLOCK clock) (refusal NOT_MEMBER clock) (report_line b clock round read) refl refl keeps);
       }
 
   pub by-turn : (value : Auction) (who : Option ℕ) (clock round : ℕ) (raw : RawDemand)
-      → Keeps (line_of value who (house.Report clock round raw)) ⊎ (MayBeShort (house.Report clock round raw) × (o ≡ None) × (reply ≡ refusal 11 0) × (now ≡ before)) → WasReported value who clock round raw
+      → Keeps (line_of value who (house.Report clock round raw)) ⊎ (MayBeShort (house.Report clock round raw) × (o ≡ None) × (reply ≡ refusal NO_MEMORY 0) × (now ≡ before)) → WasReported value who clock round raw
   by-turn value who clock round raw (inl keeps) = by-report value who clock round raw keeps
   by-turn value who clock round raw (inr short) = absurd (no-refusal reply (ap bidder_kind short.2) agreed)
 
@@ -128,8 +130,8 @@ pub record IsReportFrame (frame : ToHouse) (s : Sent) : Type 0 where
   pub is : frame ≡ house.Report clock round raw
   pub payload : house_payload (house.Report clock round raw) ≡ s.payload
 
-pub report-frame : (frame : ToHouse) (s : Sent) → s.kind ≡ 3 → house_sent frame ≡ s → IsReportFrame frame s
-report-frame (house.Hello who token) s kind e = absurd (let k : 1 ≡ s.kind = ap (λ (x : Sent). x.kind) e in omega (arith, k, kind))
-report-frame (house.Look clock) s kind e = absurd (let k : 2 ≡ s.kind = ap (λ (x : Sent). x.kind) e in omega (arith, k, kind))
+pub report-frame : (frame : ToHouse) (s : Sent) → s.kind ≡ REPORT → house_sent frame ≡ s → IsReportFrame frame s
+report-frame (house.Hello who token) s kind e = absurd (let k : HELLO ≡ s.kind = ap (λ (x : Sent). x.kind) e in omega (arith, k, kind))
+report-frame (house.Look clock) s kind e = absurd (let k : LOOK ≡ s.kind = ap (λ (x : Sent). x.kind) e in omega (arith, k, kind))
 report-frame (house.Report clock round raw) s kind e = record { clock = clock; round = round; raw = raw; is = refl; payload = ap (λ (x : Sent). x.payload) e }
-report-frame house.Quit s kind e = absurd (let k : 4 ≡ s.kind = ap (λ (x : Sent). x.kind) e in omega (arith, k, kind))
+report-frame house.Quit s kind e = absurd (let k : QUIT ≡ s.kind = ap (λ (x : Sent). x.kind) e in omega (arith, k, kind))

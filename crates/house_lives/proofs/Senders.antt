@@ -9,6 +9,7 @@ use Rattle.report_wire.specs.declared.messages.ToHouse.{ToHouse}
 use Rattle.report_wire.specs.declared.messages.ToHouse.TheVariants as house
 use Rattle.report_wire.specs.declared.messages.ToBidder.{ToBidder}
 use Rattle.report_wire.specs.declared.messages.ToBidder.TheVariants as bidder
+use Rattle.report_wire.specs.declared.refusals.TheConstants.{BAD_TOKEN, UNKNOWN_CLOCK, NOT_MEMBER}
 use Rattle.session.specs.declared.halls.Asked.TheVariants as asked
 use Rattle.session.specs.declared.halls.Question.TheVariants as question
 use Rattle.session.specs.declared.table.Line.{Line}
@@ -43,14 +44,14 @@ module _ (auction : Auction) (k b n : ℕ) (d : List (List ℕ)) (answer : Offer
 
   asks-line : (who : Option ℕ) (frame : ToHouse) (given : ToBidder) (before after : HousePassOf) → Keeps (line_of auction who frame) given before after → who ≡ Some b
   asks-line who house.Quit given before after keeps = absurd keeps
-  asks-line None (house.Hello claimed token) given before after keeps = absurd (says-either (knows auction claimed token) (bidder.Welcome (length auction.terms.goods) (auction.terms.bidders + 1)) (refusal 2 claimed) true false given before after keeps)
+  asks-line None (house.Hello claimed token) given before after keeps = absurd (says-either (knows auction claimed token) (bidder.Welcome (length auction.terms.goods) (auction.terms.bidders + 1)) (refusal BAD_TOKEN claimed) true false given before after keeps)
   asks-line None (house.Look clock) given before after keeps = absurd keeps
   asks-line None (house.Report clock round demand) given before after keeps = absurd keeps
   asks-line (Some x) (house.Hello claimed token) given before after keeps = absurd keeps
-  asks-line (Some x) (house.Look clock) given before after keeps = absurd (asks-look clock given before after (at-line (nat_lt auction.terms.bidders clock) (nat_eq clock x) (refusal 3 clock) (refusal 4 clock) true true (Asks (question.Look clock)) given before after keeps))
+  asks-line (Some x) (house.Look clock) given before after keeps = absurd (asks-look clock given before after (at-line (nat_lt auction.terms.bidders clock) (nat_eq clock x) (refusal UNKNOWN_CLOCK clock) (refusal NOT_MEMBER clock) true true (Asks (question.Look clock)) given before after keeps))
   asks-line (Some x) (house.Report clock round demand) given before after keeps =
       let read = demand_of auction.terms.goods demand.goods (bundles_of demand.goods demand.quantities) in
-      ap (λ (y : ℕ). Some y) (asks-report x clock round read given before after (at-line (nat_lt auction.terms.bidders clock) (nat_eq clock x) (refusal 3 clock) (refusal 4 clock) true true (report_line x clock round read) given before after keeps))
+      ap (λ (y : ℕ). Some y) (asks-report x clock round read given before after (at-line (nat_lt auction.terms.bidders clock) (nat_eq clock x) (refusal UNKNOWN_CLOCK clock) (refusal NOT_MEMBER clock) true true (report_line x clock round read) given before after keeps))
 
   asks-turn : (who : Option ℕ) (before : HousePassOf) (t : Turn HousePassOf) → t.asked ≡ Some (asked.Offer k b n d answer) → IsTurn PassAllows auction who before t → who ≡ Some b
   asks-turn who before t e (inl keeps) = asks-line who t.frame t.reply before t.now (subst (λ o. KeepsTo PassAllows (line_of auction who t.frame) o t.reply before t.now) e keeps)

@@ -22,6 +22,8 @@ use Rattle.report_wire.specs.Payloads.{report_payload}
 use Rattle.report_wire.specs.declared.messages.ToBidder.{ToBidder}
 use Rattle.report_wire.specs.declared.messages.ToBidder.TheVariants as bidder
 use Rattle.report_wire.specs.declared.messages.ToHouse.{ToHouse}
+use Rattle.report_wire.specs.declared.kinds.TheConstants.{REFUSED}
+use Rattle.report_wire.specs.declared.refusals.TheConstants.{NO_MEMORY}
 use Rattle.session.specs.Table.{MayBeShort, bidder_after, line_of, refusal}
 use Rattle.session.specs.Turns.{AreTurns, IsTurn, KeepsTo, Turn, bidder_behind, frames_of, replies_of}
 use Rattle.session.specs.declared.halls.Asked.{Asked}
@@ -55,7 +57,7 @@ one-of : (reply : ToBidder) (clock round : ℕ) → (reply ≡ bidder.Taken cloc
 one-of reply clock round (inl taken) = inl (ap bidder_kind taken)
 one-of reply clock round (inr again) = inr (ap bidder_kind again)
 
-not-refused : (s : Sent) (reply : ToBidder) → bidder_kind reply ≡ s.kind → IsYes reply → s.kind ≡ 21 → ⊥
+not-refused : (s : Sent) (reply : ToBidder) → bidder_kind reply ≡ s.kind → IsYes reply → s.kind ≡ REFUSED → ⊥
 not-refused s reply same (inl taken) e = omega (arith, same, taken, e)
 not-refused s reply same (inr again) e = omega (arith, same, again, e)
 
@@ -103,7 +105,7 @@ pub record IsAsShown (value : Auction) (journals : List ℕ) (l : Life) (clock :
 -- the turn of a frame, part by part
 abbrev IsTurnBy : Auction → Option ℕ → ToHouse → Option Asked → ToBidder → HousePassOf → HousePassOf → Type 0
 IsTurnBy value who frame asked reply before now =
-    KeepsTo PassAllows (line_of value who frame) asked reply before now ⊎ (MayBeShort frame × (asked ≡ None) × (reply ≡ refusal 11 0) × (now ≡ before))
+    KeepsTo PassAllows (line_of value who frame) asked reply before now ⊎ (MayBeShort frame × (asked ≡ None) × (reply ≡ refusal NO_MEMORY 0) × (now ≡ before))
 
 -- after these turns a report was offered for the session's bidder
 record WasAsked (value : Auction) (earlier : List (Turn HousePassOf)) (turn : Turn HousePassOf) (clock round : ℕ) (raw : RawDemand) : Type 0 where
