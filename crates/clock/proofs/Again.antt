@@ -4,17 +4,15 @@ use Rattle.std.specs.Prelude.{map, find, option_map, unwrap_or, slice_get, ℤ, 
 use Rattle.std.specs.List.{AllByRecursion}
 use Rattle.std.proofs.lemmas.Bool.{cases_lt}
 use Rattle.std.proofs.lemmas.Bool.Decides.{nat_tests}
-use Rattle.std.proofs.lemmas.Int.{ints}
 use Rattle.std.proofs.lemmas.List.{map-append}
 use Rattle.lot_base.specs.Goods.{raised}
-use Rattle.lot_base.specs.Demands.{least}
-use Rattle.lot_base.specs.Steps.{step_set}
+use Rattle.lot_base.specs.Steps.{step_set, excess}
 use Rattle.lot_base.specs.declared.phases.Phase.{Phase}
 use Rattle.lot_base.specs.declared.phases.Phase.TheVariants.{Running}
 use Rattle.lot_base.specs.declared.supply.GoodSet.{GoodSet}
 use Rattle.lot_base.specs.declared.tables.LeastTable.{LeastTable}
 use Rattle.lot_base.proofs.Within.{both}
-use Rattle.lyapunov.specs.Excesses.{IsExcessOf}
+use Rattle.lyapunov.proofs.Growing.{excess-same}
 use Rattle.credit_book.specs.Account.{Sums, sum_without, units_left}
 use Rattle.demand_set.specs.declared.reports.Report.{Report}
 use Rattle.clock.specs.Past.{PastOf, again_among}
@@ -22,7 +20,8 @@ use Rattle.clock.specs.Reports.{ClockHistory, is_named, demand_in, demands_in, m
 use Rattle.clock.specs.Standing.{sets_of, step_set_after, leads_on, is_full_after, good_at_ceiling, steps_of}
 use Rattle.clock.specs.Judging.{is_member}
 use Rattle.clock.specs.Repeats.{IsIdle}
-use Rattle.clock.specs.Kept.{IsKept, HasStanding, KeepsExcess, KeepsRound, missing_count, reports_before}
+use Rattle.clock.specs.Kept.{IsKept, HasStanding, KeepsRound, missing_count, reports_before}
+use Rattle.clock.proofs.StandingDemands.{excess-before}
 use Rattle.clock.proofs.After.{kept-path, empty-stops}
 use Rattle.clock.proofs.Going.{round-opened, sets-next}
 use Rattle.clock.proofs.InOrder.{find-in_order}
@@ -30,9 +29,9 @@ use Rattle.clock.proofs.Looking.{present-demand}
 use Rattle.clock.proofs.Next.{waits}
 use Rattle.clock.proofs.Present.{reported}
 use Rattle.clock.proofs.Path.{has_steps, stops_by, step-below}
-use Rattle.clock.proofs.Repeated.{again, part, IsFilled, filled, all-ready, step-same, set-again, standing-again, order-again, count-again, tables-again, all-of}
+use Rattle.clock.proofs.Repeated.{again, part, IsFilled, filled, all-ready, step-same, set-again, standing-again, order-again, count-again, tables-again, all-of, as-found}
 use Rattle.clock.proofs.Taking.{count-reports}
-use Rattle.clock.proofs.Totals.{open-count, total-none}
+use Rattle.clock.proofs.Totals.{open-count}
 
 -- no clock makes more steps than its prices can rise
 pub steps-most : (c : ClockHistory) → steps_of c ≤ length c.terms.goods * c.terms.ceiling
@@ -62,7 +61,7 @@ none-present steps (r ∷ present) all none = absurd (by (none r.bidder))
 pub idle-present : (c : ClockHistory) (present : List Report) (left steps : ℕ) (phase : Phase) (prices : List ℕ) (account : Sums) (tables : List (Option LeastTable)) (sums : List ℤ) → HasStanding c (reports_before c steps) steps phase prices account → KeepsRound c present left steps tables sums → IsIdle c → present ≡ []
 idle-present c present left steps phase prices account tables sums k round idle =
     let A : List Report → Type 0 = λ rs. AllByRecursion (λ (r : Report). r.round ≡ steps + 1) rs in
-    none-present steps present (subst A (sym round.unpacked) k.present)
+    none-present steps present (subst A (sym round.present_are) k.present)
     (λ j. present-demand c present left steps phase prices account tables sums (steps + 1) j k round refl ∙ idle-nobody c (reports_before c steps) steps phase prices account k idle j)
 
 -- the round before was full, and its step set had goods
@@ -160,39 +159,31 @@ from-last c present left steps phase prices account tables sums k round idle =
     let w : steps * length (members_of c) ≡ (steps - 1) * length (members_of c) + length (members_of c) = ap (λ z. z * length (members_of c)) s ∙ (let q : (steps - 1 + 1) * length (members_of c) ≡ (steps - 1) * length (members_of c) + length (members_of c) = grind arith in q) in
     (omega (arith, n, none), omega (arith, n, none, w), omega (arith, n, none, w))
 
--- the excess of nobody's demands
-pub excess-opened : (c : ClockHistory) (steps : ℕ) (sums : List ℤ) → KeepsExcess c (steps + 1) sums → ((j : ℕ) → demand_in c.reports (steps + 1) j ≡ None) → IsExcessOf c.terms.goods [] sums
-excess-opened c steps sums k none = record {
-  entries = λ set below.
-      let e = k.entries set below in
-      let z = total-none (λ j. least (demands_in c.reports (steps + 1) j) set) (members_of c) (λ j. ap (λ o. least (unwrap_or o []) set) (none j)) in
-      omega (arith, ints, e, z);
-  others = k.others;
-}
-
 -- What is kept with the round.
-pub kept-again : (c : ClockHistory) (past : PastOf) (present : List Report) (left steps : ℕ) (phase : Phase) (prices : List ℕ) (tables : List (Option LeastTable)) (sums : List ℤ) (account after : Sums) (capacity : ℕ) (set : GoodSet) → IsKept c past present left steps phase prices tables sums account capacity → IsIdle c
+pub kept-again : (c : ClockHistory) (past : PastOf) (left steps : ℕ) (phase : Phase) (prices : List ℕ) (tables : List (Option LeastTable)) (sums : List ℤ) (account after : Sums) (set : GoodSet) → IsKept c past left steps phase prices tables sums account → IsIdle c
     → set.0 ≡ step_set_after c (steps - 1) → leads_on (part c steps (members_of c)) steps ≡ true → after.steps ≡ account.steps + 1 → ((b : ℕ) → sum_without after b ≡ sum_without account b +ℤ units_left c.terms.goods tables set.0 b)
-    → IsKept (part c steps (members_of c)) (record past { reports = c.reports ++ map (again c steps) (members_of c); sets = past.sets ++ set ∷ []; spare_reports = past.spare_reports - length (members_of c) }) present left (steps + 1) phase (raised prices set.0) tables sums after capacity
-kept-again c past present left steps phase prices tables sums account after capacity set k idle same leads account_steps account_sums =
+    → IsKept (part c steps (members_of c)) (record past { reports = c.reports ++ map (again c steps) (members_of c); sets = past.sets ++ set ∷ []; spare_reports = past.spare_reports - length (members_of c) }) left (steps + 1) phase (raised prices set.0) tables sums after
+kept-again c past left steps phase prices tables sums account after set k idle same leads account_steps account_sums =
     let now : ClockHistory = part c steps (members_of c) in
     let had = had-step c (reports_before c steps) steps phase prices account k.standing idle in
-    let run = idle-running c present left steps phase prices account tables sums k.standing k.round idle in
+    let run = idle-running c _ left steps phase prices account tables sums k.standing k.round idle in
     let nobody = idle-nobody c (reports_before c steps) steps phase prices account k.standing idle in
-    let none = idle-present c present left steps phase prices account tables sums k.standing k.round idle in
-    let f = idle-filled c present left steps phase prices account tables sums k.standing k.round idle in
+    let f = idle-filled c _ left steps phase prices account tables sums k.standing k.round idle in
     let again_is : step_set_after now steps ≡ set.0 = set-again c steps prices account had.some f ∙ sym same in
     let inside : set.0 < 2 ^ length c.terms.goods = (let S : ℕ → Type 0 = λ n. n < 2 ^ length c.terms.goods in subst S again_is (step-below c.terms.goods (members_of c) (demands_in now.reports (steps + 1)))) in
-    let stand = standing-again c steps prices account after tables set.0 had.some nobody k.round.tables f again_is inside leads account_steps account_sums in
+    let stand = standing-again c steps prices account after tables set.0 nobody k.round.tables f again_is inside leads account_steps account_sums in
     let P : Phase → Type 0 = λ p. HasStanding now (reports_before c (steps + 1)) (steps + 1) p (raised prices set.0) after in
     let standing = subst P (sym run.1) stand in
-    let round : KeepsRound now [] left (steps + 1) tables sums = round-opened now left (steps + 1) phase (raised prices set.0) after tables sums standing (count-again c steps prices account f) (order-again c steps prices account f) run.0 k.round.tables.places
-    (λ j number one below member. tables-again c steps prices account tables had.some nobody k.round.tables f j number below member) k.round.tables.nobody k.round.tables.blank (excess-opened c steps sums k.round.excess nobody) in
-    let R : List Report → Type 0 = λ rs. KeepsRound now rs left (steps + 1) tables sums in
+    let before : steps + 1 - 1 ≡ steps = omega arith in
+    let said = as-found c now steps (members_of c) f.found in
     record {
       standing = standing;
-      round = subst R (sym none) round;
+      round = round-opened now left (steps + 1) phase (raised prices set.0) after tables sums standing (count-again c steps prices account f) (order-again c steps prices account f) run.0 k.round.tables.places
+          (λ j number below member. tables-again c steps prices account tables nobody k.round.tables f j number below member) k.round.tables.nobody k.round.tables.blank
+          (λ number below. k.round.excess.entries number below ∙ excess-before c (steps + 1) number nobody
+          ∙ ap (λ n. excess c.terms.goods (demands_in c.reports n) (members_of c) number) before
+          ∙ sym (excess-same c.terms.goods (demands_in now.reports (steps + 1)) (demands_in c.reports steps) (members_of c) number said))
+          k.round.excess.others;
       goods = k.goods;
       sets = map-append (λ (s : GoodSet). s.0) past.sets (set ∷ []) ∙ (λ i. (k.sets ∙ sym f.sets) i ++ sym again_is i ∷ []) ∙ sym (sets-next now steps);
-      room = k.room;
     }

@@ -1,5 +1,5 @@
 -- What a clock needs to repeat the round before, and how it stands then.
-use Rattle.std.proofs.Common.{◌≡◌, ◌≢◌, ◌<◌, ◌≤◌, ℕ, zero, suc, ◌+◌, ◌-◌, ◌*◌, ◌^◌, true, false, List, [], ◌∷◌, ◌++◌, length, take, drop, get_or, Option, Some, None, is_some, is_none, refl, sym, ◌∙◌, ap, subst, arith}
+use Rattle.std.proofs.Common.{◌≡◌, ◌≢◌, ◌<◌, ◌≤◌, ℕ, zero, suc, ◌+◌, ◌-◌, ◌*◌, ◌^◌, Bool, true, false, List, [], ◌∷◌, ◌++◌, length, take, drop, get_or, Option, Some, None, is_some, is_none, refl, sym, ◌∙◌, ap, subst, arith}
 use Rattle.std.specs.Prelude.{map, find, nat_eq, slice_index, ℤ}
 use Rattle.std.proofs.lemmas.List.{length-map}
 use Rattle.lot_base.specs.Goods.{AllBelow, raised}
@@ -13,42 +13,43 @@ use Rattle.clock.specs.Reports.{ClockHistory, demand_in, members_of}
 use Rattle.clock.specs.Standing.{step_set_after, leads_on, good_from, steps_of}
 use Rattle.clock.specs.Judging.{is_member}
 use Rattle.clock.specs.Repeats.{IsIdle, with_round, repeated}
-use Rattle.clock.specs.Kept.{IsKept, reports_before}
-use Rattle.clock.proofs.Again.{had-step, idle-present, idle-filled, again-same, there-again, from-last}
+use Rattle.clock.specs.Kept.{IsKept, KeepsLatest, reports_before}
+use Rattle.clock.proofs.Latest.{latest-again}
+use Rattle.clock.proofs.Again.{had-step, idle-nobody, idle-running, idle-filled, again-same, there-again, from-last}
 use Rattle.clock.proofs.Looking.{present-demand, numbers-get, get-sets, count-sets}
 use Rattle.clock.proofs.Next.{can-raise, few-steps}
 use Rattle.clock.proofs.Path.{stops_by, step-below}
 use Rattle.clock.proofs.Repeated.{IsFilled, again, part, set-again, goes-again, stops-again}
 
 -- at the most steps the round leads on no more
-pub left-none : (c : ClockHistory) (past : PastOf) (present : List Report) (left steps : ℕ) (phase : Phase) (prices : List ℕ) (tables : List (Option LeastTable)) (sums : List ℤ) (account : Sums) (capacity : ℕ) → IsKept c past present left steps phase prices tables sums account capacity → IsIdle c
+pub left-none : (c : ClockHistory) (past : PastOf) (left steps : ℕ) (phase : Phase) (prices : List ℕ) (tables : List (Option LeastTable)) (sums : List ℤ) (account : Sums) → IsKept c past left steps phase prices tables sums account → IsIdle c
     → length c.terms.goods * c.terms.ceiling ≤ steps → leads_on (with_round c) (steps_of c) ≡ false
-left-none c past present left steps phase prices tables sums account capacity k idle most =
-    let f = idle-filled c present left steps phase prices account tables sums k.standing k.round idle in
+left-none c past left steps phase prices tables sums account k idle most =
+    let f = idle-filled c _ left steps phase prices account tables sums k.standing k.round idle in
     let L : ℕ → Type 0 = λ n. leads_on (part c n (members_of c)) n ≡ false in
     subst L k.standing.steps_are (stops_by (part c steps (members_of c)) steps most f.path)
 
 -- the step set of the last step
-pub last-inside : (c : ClockHistory) (past : PastOf) (present : List Report) (left steps : ℕ) (phase : Phase) (prices : List ℕ) (tables : List (Option LeastTable)) (sums : List ℤ) (account : Sums) (capacity : ℕ) → IsKept c past present left steps phase prices tables sums account capacity → IsIdle c
+pub last-inside : (c : ClockHistory) (past : PastOf) (left steps : ℕ) (phase : Phase) (prices : List ℕ) (tables : List (Option LeastTable)) (sums : List ℤ) (account : Sums) → IsKept c past left steps phase prices tables sums account → IsIdle c
     → steps - 1 < length past.sets
-last-inside c past present left steps phase prices tables sums account capacity k idle =
+last-inside c past left steps phase prices tables sums account k idle =
     let n = count-sets c past.sets steps k.sets in
     let s = idle.some_step in
     omega (arith, n, s, k.standing.steps_are)
 
-pub last-is : (c : ClockHistory) (past : PastOf) (present : List Report) (left steps : ℕ) (phase : Phase) (prices : List ℕ) (tables : List (Option LeastTable)) (sums : List ℤ) (account : Sums) (capacity : ℕ) → IsKept c past present left steps phase prices tables sums account capacity → IsIdle c
+pub last-is : (c : ClockHistory) (past : PastOf) (left steps : ℕ) (phase : Phase) (prices : List ℕ) (tables : List (Option LeastTable)) (sums : List ℤ) (account : Sums) → IsKept c past left steps phase prices tables sums account → IsIdle c
     → (get_or past.sets (steps - 1) (record { 0 = 0 })).0 ≡ step_set_after c (steps_of c - 1)
-last-is c past present left steps phase prices tables sums account capacity k idle =
+last-is c past left steps phase prices tables sums account k idle =
     sym (numbers-get past.sets (steps - 1)) ∙ ap (λ xs. slice_index xs (steps - 1)) k.sets
     ∙ get-sets c steps (steps - 1) (let s = idle.some_step in omega (arith, s, k.standing.steps_are))
     ∙ ap (λ n. step_set_after c (n - 1)) k.standing.steps_are
 
 -- whether the round leads on
-pub leads-by : (c : ClockHistory) (past : PastOf) (present : List Report) (left steps : ℕ) (phase : Phase) (prices : List ℕ) (tables : List (Option LeastTable)) (sums : List ℤ) (account : Sums) (capacity : ℕ) (set : ℕ) (o : Option ℕ) → IsKept c past present left steps phase prices tables sums account capacity → IsIdle c
+pub leads-by : (c : ClockHistory) (past : PastOf) (left steps : ℕ) (phase : Phase) (prices : List ℕ) (tables : List (Option LeastTable)) (sums : List ℤ) (account : Sums) (set : ℕ) (o : Option ℕ) → IsKept c past left steps phase prices tables sums account → IsIdle c
     → set ≡ step_set_after c (steps_of c - 1) → o ≡ good_from 0 c.terms.ceiling prices set → is_none o ≡ leads_on (with_round c) (steps_of c)
-leads-by c past present left steps phase prices tables sums account capacity set o k idle same at =
+leads-by c past left steps phase prices tables sums account set o k idle same at =
     let had = had-step c (reports_before c steps) steps phase prices account k.standing idle in
-    let f = idle-filled c present left steps phase prices account tables sums k.standing k.round idle in
+    let f = idle-filled c _ left steps phase prices account tables sums k.standing k.round idle in
     let before : set ≡ step_set_after c (steps - 1) = same ∙ ap (λ n. step_set_after c (n - 1)) (sym k.standing.steps_are) in
     let again_is : step_set_after (part c steps (members_of c)) steps ≡ set = set-again c steps prices account had.some f ∙ sym before in
     by o at again_is (λ none. had.goods (sym before ∙ none)) f ∙ ap (λ n. leads_on (part c n (members_of c)) n) k.standing.steps_are
@@ -71,12 +72,12 @@ up-to : (n m : ℕ) → 1 ≤ m → n ≤ n * m
 up-to zero m some = omega arith
 up-to (suc n) m some = let r = up-to n m some in let e : suc n * m ≡ n * m + m = grind arith in omega (arith, r, e, some)
 
-pub may-repeat : (c : ClockHistory) (past : PastOf) (present : List Report) (left steps : ℕ) (phase : Phase) (prices : List ℕ) (tables : List (Option LeastTable)) (sums : List ℤ) (account : Sums) (capacity : ℕ) (set : ℕ) → IsKept c past present left steps phase prices tables sums account capacity → IsIdle c
+pub may-repeat : (c : ClockHistory) (past : PastOf) (left steps : ℕ) (phase : Phase) (prices : List ℕ) (tables : List (Option LeastTable)) (sums : List ℤ) (account : Sums) (set : ℕ) → IsKept c past left steps phase prices tables sums account → IsIdle c
     → set ≡ step_set_after c (steps_of c - 1) → leads_on (with_round c) (steps_of c) ≡ true → MayRepeat c past steps prices account set
-may-repeat c past present left steps phase prices tables sums account capacity set k idle same leads =
+may-repeat c past left steps phase prices tables sums account set k idle same leads =
     let had = had-step c (reports_before c steps) steps phase prices account k.standing idle in
-    let f = idle-filled c present left steps phase prices account tables sums k.standing k.round idle in
-    let from = from-last c present left steps phase prices account tables sums k.standing k.round idle in
+    let f = idle-filled c _ left steps phase prices account tables sums k.standing k.round idle in
+    let from = from-last c _ left steps phase prices account tables sums k.standing k.round idle in
     let before : set ≡ step_set_after c (steps - 1) = same ∙ ap (λ n. step_set_after c (n - 1)) (sym k.standing.steps_are) in
     let again_is : step_set_after (part c steps (members_of c)) steps ≡ set = set-again c steps prices account had.some f ∙ sym before in
     let on : leads_on (part c steps (members_of c)) steps ≡ true = ap (λ n. leads_on (part c n (members_of c)) n) k.standing.steps_are ∙ leads in
@@ -99,13 +100,13 @@ may-repeat c past present left steps phase prices tables sums account capacity s
 abbrev pub after_round : ClockHistory → PastOf → ℕ → GoodSet → PastOf
 after_round c past steps set = record past { reports = c.reports ++ map (again c steps) (members_of c); sets = past.sets ++ set ∷ []; spare_reports = past.spare_reports - length (members_of c) }
 
-pub past-after : (c : ClockHistory) (past pushed new : PastOf) (present : List Report) (left steps : ℕ) (phase : Phase) (prices : List ℕ) (tables : List (Option LeastTable)) (sums : List ℤ) (account : Sums) (capacity m count : ℕ) (set : GoodSet) → IsKept c past present left steps phase prices tables sums account capacity → IsIdle c
+pub past-after : (c : ClockHistory) (past pushed new : PastOf) (left steps : ℕ) (phase : Phase) (prices : List ℕ) (tables : List (Option LeastTable)) (sums : List ℤ) (account : Sums) (m count : ℕ) (set : GoodSet) → IsKept c past left steps phase prices tables sums account → IsIdle c
     → m ≡ length (members_of c) → count ≡ length c.reports
     → pushed ≡ record past { reports = c.reports ++ map (again_among (take m (drop (count - m) c.reports)) (steps + 1)) (members_of c); spare_reports = past.spare_reports - length (map (again_among (take m (drop (count - m) c.reports)) (steps + 1)) (members_of c)) }
     → new ≡ raised_on pushed set → new ≡ after_round c past steps set
-past-after c past pushed new present left steps phase prices tables sums account capacity m count set k idle m_is count_is pushed_is new_is =
+past-after c past pushed new left steps phase prices tables sums account m count set k idle m_is count_is pushed_is new_is =
     let had = had-step c (reports_before c steps) steps phase prices account k.standing idle in
-    let from = from-last c present left steps phase prices account tables sums k.standing k.round idle in
+    let from = from-last c _ left steps phase prices account tables sums k.standing k.round idle in
     let begins : count - m ≡ (steps - 1) * length (members_of c) = (let b = from.1 in omega (arith, b, m_is, count_is)) in
     let same : map (again_among (take m (drop (count - m) c.reports)) (steps + 1)) (members_of c) ≡ map (again c steps) (members_of c) =
     ap (λ n. map (again_among (take n (drop (count - m) c.reports)) (steps + 1)) (members_of c)) m_is ∙ again-same c steps (count - m) had.member had.some k.round.in_order begins in
@@ -113,14 +114,32 @@ past-after c past pushed new present left steps phase prices tables sums account
     length-map (members_of c) (again_among (take m (drop (count - m) c.reports)) (steps + 1)) in
     new_is ∙ ap (λ p. raised_on p set) pushed_is ∙ (λ i. record past { reports = c.reports ++ same i; sets = past.sets ++ set ∷ []; spare_reports = past.spare_reports - size i })
 
-pub there-after : (c : ClockHistory) (past : PastOf) (present : List Report) (left steps : ℕ) (phase : Phase) (prices : List ℕ) (tables : List (Option LeastTable)) (sums : List ℤ) (account : Sums) (capacity m count j : ℕ) → IsKept c past present left steps phase prices tables sums account capacity → IsIdle c
+pub there-after : (c : ClockHistory) (past : PastOf) (left steps : ℕ) (phase : Phase) (prices : List ℕ) (tables : List (Option LeastTable)) (sums : List ℤ) (account : Sums) (m count j : ℕ) → IsKept c past left steps phase prices tables sums account → IsIdle c
     → m ≡ length (members_of c) → count ≡ length c.reports → is_member c j ≡ true → is_some (find (λ (r : Report). nat_eq r.bidder j) (take m (drop (count - m) c.reports))) ≡ true
-there-after c past present left steps phase prices tables sums account capacity m count j k idle m_is count_is member =
+there-after c past left steps phase prices tables sums account m count j k idle m_is count_is member =
     let had = had-step c (reports_before c steps) steps phase prices account k.standing idle in
-    let from = from-last c present left steps phase prices account tables sums k.standing k.round idle in
+    let from = from-last c _ left steps phase prices account tables sums k.standing k.round idle in
     let begins : count - m ≡ (steps - 1) * length (members_of c) = (let b = from.1 in omega (arith, b, m_is, count_is)) in
     ap (λ n. is_some (find (λ (r : Report). nat_eq r.bidder j) (take n (drop (count - m) c.reports)))) m_is
     ∙ there-again c steps (count - m) j had.member had.some k.round.in_order begins had.full member
+
+-- nobody has reported where each member is missing
+pub idle-empty : (c : ClockHistory) (past : PastOf) (left steps : ℕ) (phase : Phase) (prices : List ℕ) (tables : List (Option LeastTable)) (sums : List ℤ) (account : Sums) → IsKept c past left steps phase prices tables sums account
+    → steps ≢ 0 → left ≡ length (members_of c) → IsIdle c
+idle-empty c past left steps phase prices tables sums account k some none =
+    let e = empty-list (drop (reports_before c steps) c.reports) (omega (arith, none, k.round.counted)) in
+    record {
+      some_step = omega (arith, some, k.standing.steps_are);
+      nobody = λ j. ap (λ n. demand_in c.reports (n + 1) j) (sym k.standing.steps_are) ∙ sym (present-demand c _ left steps phase prices account tables sums (steps + 1) j k.standing k.round refl) ∙ ap (λ rs. demand_in rs (steps + 1) j) e;
+    }
+  where
+    empty-list : (rs : List Report) → length rs ≡ 0 → rs ≡ []
+    empty-list [] e = refl
+    empty-list (r ∷ rs) e = absurd (omega arith)
+
+pub idle-none : (c : ClockHistory) (past : PastOf) (left steps : ℕ) (phase : Phase) (prices : List ℕ) (tables : List (Option LeastTable)) (sums : List ℤ) (account : Sums) → IsKept c past left steps phase prices tables sums account
+    → IsIdle c → left ≡ length (members_of c)
+idle-none c past left steps phase prices tables sums account k idle = (idle-running c _ left steps phase prices account tables sums k.standing k.round idle).0
 
 -- how the clock stands after it
 pub record AfterRound (c : ClockHistory) (set : ℕ) : Type 0 where
@@ -135,17 +154,15 @@ after-on c steps set is idle more same =
     let S : ℕ → Type 0 = λ n. set ≡ step_set_after (part c n (members_of c)) (steps_of (part c n (members_of c)) - 1) in
     record { idle = subst I is idle; steps = subst M is more; same = subst S is same }
 
-pub after-round : (c : ClockHistory) (past : PastOf) (present : List Report) (left steps : ℕ) (phase : Phase) (prices : List ℕ) (tables : List (Option LeastTable)) (sums : List ℤ) (account after : Sums) (capacity : ℕ) (set : GoodSet) → IsKept c past present left steps phase prices tables sums account capacity → IsIdle c
-    → MayRepeat c past steps prices account set.0 → IsKept (part c steps (members_of c)) (after_round c past steps set) present left (steps + 1) phase (raised prices set.0) tables sums after capacity → AfterRound c set.0
-after-round c past present left steps phase prices tables sums account after capacity set k idle may kept =
+pub after-round : (c : ClockHistory) (past : PastOf) (left steps : ℕ) (phase : Phase) (prices : List ℕ) (tables : List (Option LeastTable)) (sums : List ℤ) (account after : Sums) (set : GoodSet) → IsKept c past left steps phase prices tables sums account → IsIdle c
+    → MayRepeat c past steps prices account set.0 → IsKept (part c steps (members_of c)) (after_round c past steps set) left (steps + 1) phase (raised prices set.0) tables sums after → AfterRound c set.0
+after-round c past left steps phase prices tables sums account after set k idle may kept =
     let now : ClockHistory = part c steps (members_of c) in
     let more : steps_of now ≡ steps + 1 = sym kept.standing.steps_are in
-    let none = idle-present c present left steps phase prices account tables sums k.standing k.round idle in
+    let run = idle-running c _ left steps phase prices account tables sums k.standing k.round idle in
     let e : steps ≡ steps_of now - 1 = omega (arith, more) in
-    after-on c steps set.0 k.standing.steps_are (record {
-      some_step = omega (arith, more);
-      nobody = λ j. ap (λ n. demand_in now.reports (n + 1) j) more ∙ sym (present-demand now present left (steps + 1) phase (raised prices set.0) after tables sums (steps + 1 + 1) j kept.standing kept.round refl) ∙ ap (λ rs. demand_in rs (steps + 1 + 1) j) none;
-    }) more (sym may.again_is ∙ ap (step_set_after now) e)
+    after-on c steps set.0 k.standing.steps_are (idle-empty now (after_round c past steps set) left (steps + 1) phase (raised prices set.0) tables sums after kept (λ none. omega (arith, none)) run.0)
+    more (sym may.again_is ∙ ap (step_set_after now) e)
 
 -- so many rounds of the same members, with room for them
 pub members-repeated : (c : ClockHistory) (rounds : ℕ) → members_of (repeated rounds c) ≡ members_of c
@@ -165,20 +182,15 @@ pub terms-repeated : (c : ClockHistory) (rounds : ℕ) → (repeated rounds c).t
 terms-repeated c zero = refl
 terms-repeated c (suc rounds) = terms-repeated c rounds
 
--- nobody has reported where no report of the round is kept
-pub idle-empty : (c : ClockHistory) (past : PastOf) (present : List Report) (left steps : ℕ) (phase : Phase) (prices : List ℕ) (tables : List (Option LeastTable)) (sums : List ℤ) (account : Sums) (capacity : ℕ) → IsKept c past present left steps phase prices tables sums account capacity
-    → steps ≢ 0 → length present ≡ 0 → IsIdle c
-idle-empty c past present left steps phase prices tables sums account capacity k some none =
-    let e = empty-list present none in
-    record {
-      some_step = omega (arith, some, k.standing.steps_are);
-      nobody = λ j. ap (λ n. demand_in c.reports (n + 1) j) (sym k.standing.steps_are) ∙ sym (present-demand c present left steps phase prices account tables sums (steps + 1) j k.standing k.round refl) ∙ ap (λ rs. demand_in rs (steps + 1) j) e;
-    }
-  where
-    empty-list : (rs : List Report) → length rs ≡ 0 → rs ≡ []
-    empty-list [] e = refl
-    empty-list (r ∷ rs) e = absurd (omega arith)
-
-pub idle-none : (c : ClockHistory) (past : PastOf) (present : List Report) (left steps : ℕ) (phase : Phase) (prices : List ℕ) (tables : List (Option LeastTable)) (sums : List ℤ) (account : Sums) (capacity : ℕ) → IsKept c past present left steps phase prices tables sums account capacity
-    → IsIdle c → length present ≡ 0
-idle-none c past present left steps phase prices tables sums account capacity k idle = ap length (idle-present c present left steps phase prices account tables sums k.standing k.round idle)
+-- what is kept of the latest demands stays
+pub latest-round : (c : ClockHistory) (past : PastOf) (left steps : ℕ) (phase : Phase) (prices : List ℕ) (tables : List (Option LeastTable)) (sums : List ℤ) (account after : Sums) (set : GoodSet) (latest : List (Option (List (List ℕ)))) (marks : List Bool) → IsKept c past left steps phase prices tables sums account → IsIdle c
+    → MayRepeat c past steps prices account set.0 → IsKept (part c steps (members_of c)) (after_round c past steps set) left (steps + 1) phase (raised prices set.0) tables sums after → KeepsLatest c (steps + 1) latest marks
+    → KeepsLatest (part c steps (members_of c)) (steps + 1 + 1) latest marks
+latest-round c past left steps phase prices tables sums account after set latest marks k idle may kept held =
+    let now : ClockHistory = part c steps (members_of c) in
+    let had = had-step c (reports_before c steps) steps phase prices account k.standing idle in
+    let run = idle-running c _ left steps phase prices account tables sums k.standing k.round idle in
+    let f = idle-filled c _ left steps phase prices account tables sums k.standing k.round idle in
+    let again = idle-empty now (after_round c past steps set) left (steps + 1) phase (raised prices set.0) tables sums after kept (λ none. omega (arith, none)) run.0 in
+    latest-again c steps latest marks had.some had.full (idle-nobody c (reports_before c steps) steps phase prices account k.standing idle) f.found
+    (idle-nobody now (reports_before now (steps + 1)) (steps + 1) phase (raised prices set.0) after kept.standing again) held

@@ -1,6 +1,6 @@
 -- What a clock keeps after a report, and at first.
 use Rattle.std.proofs.Common.{◌-◌, ◌≡◌, ◌≢◌, ◌<◌, ◌≤◌, ◌⊎◌, inl, inr, ℕ, zero, suc, ◌+◌, ◌*◌, ◌/◌, ◌^◌, true, false, not, ◌&&◌, nat_eq, cond, List, [], ◌∷◌, ◌++◌, length, length-drop, take, drop, Option, Some, None, is_some, is_none, refl, sym, ◌∙◌, ap, subst, arith, pos}
-use Rattle.std.specs.Prelude.{slice_get, slice_index_or, unwrap_or, option_map, ℤ}
+use Rattle.std.specs.Prelude.{slice_get, slice_index_or, option_map, ℤ}
 use Rattle.std.specs.List.{AllByRecursion}
 use Rattle.std.proofs.lemmas.Int.{ints}
 use Rattle.std.proofs.lemmas.Bool.{cases_eq}
@@ -20,13 +20,14 @@ use Rattle.clock.specs.Reports.{ClockHistory, set_numbers, demand_in, demands_in
 use Rattle.clock.specs.Standing.{sets_of, step_set_after, leads_on, is_full_after, good_at_ceiling, good_from, prices_after, phase_after}
 use Rattle.clock.specs.Judging.{is_member}
 use Rattle.clock.specs.Turns.{Waits, IsTurn}
-use Rattle.clock.specs.Kept.{IsKept, HasStanding, KeepsRound, missing_count, reports_before}
+use Rattle.clock.specs.Kept.{IsKept, HasStanding, KeepsRound, missing_count, reports_before, standing_demands}
 use Rattle.clock.proofs.Append.{step-stays, absent-beyond}
 use Rattle.clock.proofs.Present.{reported, drop-whole}
 use Rattle.clock.proofs.After.{first-kept, first-stops}
 use Rattle.clock.proofs.Moves.{StandingAt}
 use Rattle.clock.proofs.Excesses.{chosen-is}
 use Rattle.clock.proofs.Next.{waits, ends, halts, goes}
+use Rattle.clock.proofs.StandingDemands.{excess-before, excess-full, standing-before, standing-member}
 use Rattle.clock.proofs.Taking.{Stayed, Went, IsOn}
 use Rattle.clock.proofs.Totals.{total-none, total-ones, full-count, open-count}
 
@@ -55,28 +56,24 @@ take-length (x ∷ reports) = ap (λ xs. x ∷ xs) (take-length reports)
 -- what is kept of a round without reports
 pub round-opened : (c : ClockHistory) (left steps : ℕ) (phase : Phase) (prices : List ℕ) (account : Sums) (tables : List (Option LeastTable)) (sums : List ℤ) → HasStanding c (reports_before c steps) steps phase prices account → length c.reports ≡ reports_before c steps
     → ((i : ℕ) (r : Report) → slice_get c.reports i ≡ Some r → r.round ≡ i / length (members_of c) + 1) → left ≡ length (members_of c)
-    → length tables ≡ 13 → ((j set : ℕ) → 1 ≤ steps → set < 2 ^ length c.terms.goods → is_member c j ≡ true → least_in (slice_index_or tables j None) set ≡ least (demands_in c.reports steps j) set)
-    → ((j : ℕ) → is_member c j ≡ false → slice_index_or tables j None ≡ None) → ((j set : ℕ) → 2 ^ length c.terms.goods ≤ set → least_in (slice_index_or tables j None) set ≡ 0) → IsExcessOf c.terms.goods [] sums → KeepsRound c [] left steps tables sums
-round-opened c left steps phase prices account tables sums k whole order all places earlier nobody blank opened = record {
-  unpacked = sym (ap (λ n. drop n c.reports) (sym whole) ∙ drop-whole c.reports);
+    → length tables ≡ 13 → ((j set : ℕ) → set < 2 ^ length c.terms.goods → is_member c j ≡ true → least_in (slice_index_or tables j None) set ≡ least (demands_in c.reports steps j) set)
+    → ((j : ℕ) → is_member c j ≡ false → slice_index_or tables j None ≡ None) → ((j set : ℕ) → 2 ^ length c.terms.goods ≤ set → least_in (slice_index_or tables j None) set ≡ 0)
+    → ((set : ℕ) → set < 2 ^ length c.terms.goods → entry sums set ≡ excess c.terms.goods (demands_in c.reports steps) (members_of c) set) → ((set : ℕ) → 2 ^ length c.terms.goods ≤ set → entry sums set ≡ pos 0)
+    → KeepsRound c (drop (reports_before c steps) c.reports) left steps tables sums
+round-opened c left steps phase prices account tables sums k whole order all places before nobody blank entries others = record {
+  present_are = refl;
   in_order = order;
-  counted = omega (arith, all);
+  counted = let l = ap length (ap (λ n. drop n c.reports) (sym whole) ∙ drop-whole c.reports) in omega (arith, all, l);
   missing = all ∙ sym (total-ones (λ j. cond (is_some (demand_in c.reports (steps + 1) j)) 0 1) (members_of c) (λ j. ap (λ o. cond (is_some o) 0 1) (none j)));
   tables = record {
     places = places;
-    own = λ j set below some. absurd (let f : false ≡ true = sym (ap is_some (none j)) ∙ some in cc);
-    earlier = λ j set two below member absent.
-        let e : steps ≡ steps + 1 - 1 = omega arith in
-        earlier j set (omega (arith, two)) below member ∙ ap (λ n. least (demands_in c.reports n j) set) e;
+    held = λ j set below member. before j set below member ∙ ap (λ d. least d set) (sym (standing j));
     nobody = nobody;
     blank = blank;
   };
   excess = record {
-    entries = λ set below.
-        let e = opened.entries set below in
-        let z = total-none (λ j. least (demands_in c.reports (steps + 1) j) set) (members_of c) (λ j. ap (λ o. least (unwrap_or o []) set) (none j)) in
-        omega (arith, ints, e, z);
-    others = opened.others;
+    entries = λ set below. entries set below ∙ ap (λ n. excess c.terms.goods (demands_in c.reports n) (members_of c) set) same ∙ sym (excess-before c (steps + 1) set none);
+    others = others;
   };
 }
   where
@@ -86,58 +83,64 @@ round-opened c left steps phase prices account tables sums k whole order all pla
     none : (j : ℕ) → demand_in c.reports (steps + 1) j ≡ None
     none j = none-there c steps j past
 
--- what is kept where the round stays
-pub kept-stayed : (c : ClockHistory) (past : PastOf) (now : List Report) (left steps : ℕ) (tables : List (Option LeastTable)) (sums : List ℤ) (after : Sums) (s : Standing) (capacity : ℕ) → Stayed c now left steps tables sums after s
-    → past.goods ≡ length c.terms.goods → set_numbers past.sets ≡ sets_of c steps → length (members_of c) ≤ capacity → IsKept c past now left s.steps s.phase s.prices tables sums after capacity
-kept-stayed c past now left steps tables sums after s capacity stayed goods sets room =
-    let K : ℕ → Type 0 = λ n. IsKept c past now left n s.phase s.prices tables sums after capacity in
-    subst K (sym stayed.same_steps) (record { standing = stayed.standing; round = stayed.round; goods = goods; sets = sets; room = room })
+    same : steps ≡ steps + 1 - 1
+    same = omega arith
 
--- and where the next one begins
-pub kept-went : (c : ClockHistory) (past : PastOf) (now : List Report) (left steps : ℕ) (tables : List (Option LeastTable)) (sums opened : List ℤ) (after : Sums) (s : Standing) (chosen : GoodSet) (capacity : ℕ) → Went c now steps after s chosen
-    → KeepsRound c now left steps tables sums → past.goods ≡ length c.terms.goods → set_numbers past.sets ≡ sets_of c steps ++ chosen.0 ∷ [] → length (members_of c) ≤ capacity → IsExcessOf c.terms.goods [] opened
-    → length c.reports ≡ reports_before c (steps + 1) → IsKept c past [] (length now) s.steps s.phase s.prices tables opened after capacity
-kept-went c past now left steps tables sums opened after s chosen capacity went round goods sets room is whole =
-    let K : ℕ → Type 0 = λ n. IsKept c past [] (length now) n s.phase s.prices tables opened after capacity in
-    let none : missing_count (members_of c) c.reports (steps + 1) ≡ 0 = omega (arith, round.counted, round.missing, went.full) in
-    let full = full-count (members_of c) c.reports (steps + 1) none in
-    subst K (sym went.next_steps) (record {
-      standing = went.standing;
-      round = round-opened c (length now) (steps + 1) s.phase s.prices after tables opened went.standing whole round.in_order went.full round.tables.places (λ j set some below member. round.tables.own j set below (reported c (steps + 1) j member full)) round.tables.nobody round.tables.blank is;
-      goods = goods;
-      sets = sets ∙ ap (λ n. sets_of c steps ++ n ∷ []) went.set_is ∙ sym (sets-next c steps);
-      room = room;
-    })
+    standing : (j : ℕ) → standing_demands c (steps + 1) j ≡ demands_in c.reports steps j
+    standing j = standing-before c (steps + 1) j (none j) ∙ ap (λ n. demands_in c.reports n j) (sym same)
+
+-- what is kept where the round stays
+pub kept-stayed : (c : ClockHistory) (past : PastOf) (now : List Report) (left steps : ℕ) (tables : List (Option LeastTable)) (sums : List ℤ) (after : Sums) (s : Standing) → Stayed c now left steps tables sums after s
+    → past.goods ≡ length c.terms.goods → set_numbers past.sets ≡ sets_of c steps → IsKept c past left s.steps s.phase s.prices tables sums after
+kept-stayed c past now left steps tables sums after s stayed goods sets =
+    let K : ℕ → Type 0 = λ n. IsKept c past left n s.phase s.prices tables sums after in
+    let R : List Report → Type 0 = λ rs. KeepsRound c rs left steps tables sums in
+    subst K (sym stayed.same_steps) (record { standing = stayed.standing; round = subst R stayed.round.present_are stayed.round; goods = goods; sets = sets })
 
 -- all reports are of the rounds before the next one
 pub whole-went : (c : ClockHistory) (now : List Report) (left steps : ℕ) (tables : List (Option LeastTable)) (sums : List ℤ) (after : Sums) (s : Standing) (chosen : GoodSet) → Went c now steps after s chosen → KeepsRound c now left steps tables sums → length c.reports ≡ reports_before c (steps + 1)
 whole-went c now left steps tables sums after s chosen went round =
-    let u = ap length round.unpacked ∙ length-drop (reports_before c steps) c.reports in
+    let u = ap length round.present_are ∙ length-drop (reports_before c steps) c.reports in
     let w : (steps + 1) * length (members_of c) ≡ steps * length (members_of c) + length (members_of c) = grind arith in
     let b = went.standing.begins in
     omega (arith, u, went.full, w, b)
 
--- the same, by whether the prices rose
-pub kept-here : (c : ClockHistory) (past : PastOf) (now : List Report) (left steps : ℕ) (tables : List (Option LeastTable)) (sums : List ℤ) (after : Sums) (s : Standing) (capacity : ℕ) → IsOn c now left steps tables sums after s → s.raised ≡ None
-    → past.goods ≡ length c.terms.goods → set_numbers past.sets ≡ sets_of c steps → length (members_of c) ≤ capacity → IsKept c past now left s.steps s.phase s.prices tables sums after capacity
-kept-here c past now left steps tables sums after s capacity (inl (e, stayed)) none goods sets room = kept-stayed c past now left steps tables sums after s capacity stayed goods sets room
-kept-here c past now left steps tables sums after s capacity (inr (chosen, e, went)) none goods sets room = absurd (let f : Some chosen ≡ None = sym e ∙ none in cc)
+-- and where the next one begins
+pub kept-went : (c : ClockHistory) (past : PastOf) (now : List Report) (left again steps : ℕ) (tables : List (Option LeastTable)) (sums : List ℤ) (after : Sums) (s : Standing) (chosen : GoodSet) → Went c now steps after s chosen
+    → KeepsRound c now left steps tables sums → past.goods ≡ length c.terms.goods → set_numbers past.sets ≡ sets_of c steps ++ chosen.0 ∷ [] → again ≡ length (members_of c)
+    → IsKept c past again s.steps s.phase s.prices tables sums after
+kept-went c past now left again steps tables sums after s chosen went round goods sets all =
+    let K : ℕ → Type 0 = λ n. IsKept c past again n s.phase s.prices tables sums after in
+    let none : missing_count (members_of c) c.reports (steps + 1) ≡ 0 = omega (arith, round.counted, round.missing, went.full) in
+    let full = full-count (members_of c) c.reports (steps + 1) none in
+    let whole = whole-went c now left steps tables sums after s chosen went round in
+    subst K (sym went.next_steps) (record {
+      standing = went.standing;
+      round = round-opened c again (steps + 1) s.phase s.prices after tables sums went.standing whole round.in_order all round.tables.places
+          (λ j set below member. round.tables.held j set below member ∙ ap (λ d. least d set) (standing-member c (steps + 1) j (reported c (steps + 1) j member full)))
+          round.tables.nobody round.tables.blank (λ set below. round.excess.entries set below ∙ excess-full c (steps + 1) set full) round.excess.others;
+      goods = goods;
+      sets = sets ∙ ap (λ n. sets_of c steps ++ n ∷ []) went.set_is ∙ sym (sets-next c steps);
+    })
 
-pub kept-next : (c : ClockHistory) (past : PastOf) (now : List Report) (left steps : ℕ) (tables : List (Option LeastTable)) (sums opened : List ℤ) (after : Sums) (s : Standing) (chosen : GoodSet) (capacity : ℕ) → IsOn c now left steps tables sums after s → s.raised ≡ Some chosen
-    → KeepsRound c now left steps tables sums → past.goods ≡ length c.terms.goods → set_numbers past.sets ≡ sets_of c steps ++ chosen.0 ∷ [] → length (members_of c) ≤ capacity → IsExcessOf c.terms.goods [] opened
-    → IsKept c past [] (length now) s.steps s.phase s.prices tables opened after capacity
-kept-next c past now left steps tables sums opened after s chosen capacity (inl (e, stayed)) some round goods sets room is = absurd (let f : None ≡ Some chosen = sym e ∙ some in cc)
-kept-next c past now left steps tables sums opened after s chosen capacity (inr (other, e, went)) some round goods sets room is =
+-- the same, by whether the prices rose
+pub kept-here : (c : ClockHistory) (past : PastOf) (now : List Report) (left steps : ℕ) (tables : List (Option LeastTable)) (sums : List ℤ) (after : Sums) (s : Standing) → IsOn c now left steps tables sums after s → s.raised ≡ None
+    → past.goods ≡ length c.terms.goods → set_numbers past.sets ≡ sets_of c steps → IsKept c past left s.steps s.phase s.prices tables sums after
+kept-here c past now left steps tables sums after s (inl (e, stayed)) none goods sets = kept-stayed c past now left steps tables sums after s stayed goods sets
+kept-here c past now left steps tables sums after s (inr (chosen, e, went)) none goods sets = absurd (let f : Some chosen ≡ None = sym e ∙ none in cc)
+
+pub went-by : (c : ClockHistory) (now : List Report) (left steps : ℕ) (tables : List (Option LeastTable)) (sums : List ℤ) (after : Sums) (s : Standing) (chosen : GoodSet) → IsOn c now left steps tables sums after s → s.raised ≡ Some chosen → Went c now steps after s chosen
+went-by c now left steps tables sums after s chosen (inl (e, stayed)) some = absurd (let f : None ≡ Some chosen = sym e ∙ some in cc)
+went-by c now left steps tables sums after s chosen (inr (other, e, went)) some =
     let same : other ≡ chosen = (let f : Some other ≡ Some chosen = sym e ∙ some in cc) in
     let W : GoodSet → Type 0 = λ z. Went c now steps after s z in
-    let w = subst W same went in
-    kept-went c past now left steps tables sums opened after s chosen capacity w round goods sets room is (whole-went c now left steps tables sums after s chosen w round)
+    subst W same went
 
 -- a clock without reports
-no-demands : (c : ClockHistory) (table : List ℤ) → c.reports ≡ [] → IsExcessOf c.terms.goods [] table → (set : ℕ) → set < 2 ^ length c.terms.goods → entry table set ≡ excess c.terms.goods (demands_in c.reports (0 + 1)) (members_of c) set
-no-demands c table none opened set below =
+no-demands : (c : ClockHistory) (round : ℕ) (table : List ℤ) → c.reports ≡ [] → IsExcessOf c.terms.goods [] table → (set : ℕ) → set < 2 ^ length c.terms.goods → entry table set ≡ excess c.terms.goods (demands_in c.reports round) (members_of c) set
+no-demands c round table none opened set below =
     let e = opened.entries set below in
-    let z = total-none (λ j. least (demands_in c.reports (0 + 1) j) set) (members_of c) (λ j. ap (λ rs. least (demands_in rs (0 + 1) j) set) none) in
+    let z = total-none (λ j. least (demands_in c.reports round j) set) (members_of c) (λ j. ap (λ rs. least (demands_in rs round j) set) none) in
     omega (arith, ints, e, z)
 
 first-stays : (c : ClockHistory) (shown : Phase) (prices : List ℕ) (before after : Sums) → c.reports ≡ [] → c.number ≤ c.terms.bidders → before.steps ≡ 0 → ((b : ℕ) → sum_without before b ≡ pos 0) → leads_on c 0 ≡ false → shown ≡ phase_after c 0 → prices ≡ prices_after c 0 → after ≡ before
@@ -156,46 +159,47 @@ first-sets : (c : ClockHistory) → sets_of c 0 ≡ []
 unfolding sets_of
 first-sets c = refl
 
-first-all : (c : ClockHistory) (left : ℕ) (phase : Phase) (prices : List ℕ) (account : Sums) (tables : List (Option LeastTable)) (sums : List ℤ) (past : PastOf) (capacity : ℕ) → c.reports ≡ [] → HasStanding c (reports_before c 0) 0 phase prices account → left ≡ length (members_of c) → length tables ≡ 13
-    → ((j : ℕ) → is_member c j ≡ false → slice_index_or tables j None ≡ None) → ((j set : ℕ) → 2 ^ length c.terms.goods ≤ set → least_in (slice_index_or tables j None) set ≡ 0) → IsExcessOf c.terms.goods [] sums → past.goods ≡ length c.terms.goods → past.sets ≡ [] → length (members_of c) ≤ capacity → IsKept c past [] left 0 phase prices tables sums account capacity
-first-all c left phase prices account tables sums past capacity none standing all places nobody blank opened goods sets room =
+first-all : (c : ClockHistory) (left : ℕ) (phase : Phase) (prices : List ℕ) (account : Sums) (tables : List (Option LeastTable)) (sums : List ℤ) (past : PastOf) → c.reports ≡ [] → HasStanding c (reports_before c 0) 0 phase prices account → left ≡ length (members_of c) → length tables ≡ 13
+    → IsExcessOf c.terms.goods [] sums → ((j : ℕ) → slice_index_or tables j None ≡ None) → past.goods ≡ length c.terms.goods → past.sets ≡ [] → IsKept c past left 0 phase prices tables sums account
+first-all c left phase prices account tables sums past none standing all places opened empty goods sets =
     let whole : length c.reports ≡ reports_before c 0 = (let l = ap length none in omega (arith, l)) in
     record {
       standing = standing;
-      round = round-opened c left 0 phase prices account tables sums standing whole (λ i r at. absurd (nowhere i r (ap (λ rs. slice_get rs i) (sym none) ∙ at))) all places (λ j set some below member. absurd (omega (arith, some))) nobody blank opened;
+      round = round-opened c left 0 phase prices account tables sums standing whole (λ i r at. absurd (nowhere i r (ap (λ rs. slice_get rs i) (sym none) ∙ at))) all places
+          (λ j set below member. ap (λ t. least_in t set) (empty j) ∙ sym (ap (λ rs. least (demands_in rs 0 j) set) none))
+          (λ j outside. empty j) (λ j set behind. ap (λ t. least_in t set) (empty j)) (λ set below. no-demands c 0 sums none opened set below) opened.others;
       goods = goods;
       sets = ap set_numbers sets ∙ sym (first-sets c);
-      room = room;
     }
   where
     nowhere : (i : ℕ) (r : Report) → slice_get [] i ≡ Some r → ⊥
     nowhere i r e = (let f : None ≡ Some r = e in cc)
 
-pub first-kept-all : (c : ClockHistory) (left : ℕ) (tables : List (Option LeastTable)) (sums : List ℤ) (before after : Sums) (s : Standing) (past : PastOf) (capacity : ℕ) → c.reports ≡ [] → c.number ≤ c.terms.bidders → left ≡ length (members_of c) → before.steps ≡ 0
-    → ((b : ℕ) → sum_without before b ≡ pos 0) → length tables ≡ 13 → ((j : ℕ) → is_member c j ≡ false → slice_index_or tables j None ≡ None) → ((j set : ℕ) → 2 ^ length c.terms.goods ≤ set → least_in (slice_index_or tables j None) set ≡ 0) → IsExcessOf c.terms.goods [] sums
-    → (left ≢ 0 → Waits 0 c.terms.opening before after s) → (left ≡ 0 → IsTurn c.terms.goods c.terms.ceiling 0 c.terms.opening sums tables before after s) → past.goods ≡ length c.terms.goods → past.sets ≡ [] → length (members_of c) ≤ capacity
-    → IsKept c past [] left s.steps s.phase s.prices tables sums after capacity
-first-kept-all c left tables sums before after s past capacity none number all steps nothing places nobody blank opened wait turn goods sets room = by (cases_eq left 0)
+pub first-kept-all : (c : ClockHistory) (left : ℕ) (tables : List (Option LeastTable)) (sums : List ℤ) (before after : Sums) (s : Standing) (past : PastOf) → c.reports ≡ [] → c.number ≤ c.terms.bidders → left ≡ length (members_of c) → before.steps ≡ 0
+    → ((b : ℕ) → sum_without before b ≡ pos 0) → length tables ≡ 13 → IsExcessOf c.terms.goods [] sums → ((j : ℕ) → slice_index_or tables j None ≡ None)
+    → (left ≢ 0 → Waits 0 c.terms.opening before after s) → (left ≡ 0 → IsTurn c.terms.goods c.terms.ceiling 0 c.terms.opening sums tables before after s) → past.goods ≡ length c.terms.goods → past.sets ≡ []
+    → IsKept c past left s.steps s.phase s.prices tables sums after
+first-kept-all c left tables sums before after s past none number all steps nothing places opened empty wait turn goods sets = by (cases_eq left 0)
   where
     count : left ≡ missing_count (members_of c) c.reports (0 + 1)
     count = all ∙ sym (total-ones (λ j. cond (is_some (demand_in c.reports (0 + 1) j)) 0 1) (members_of c) (λ j. ap (λ rs. cond (is_some (demand_in rs (0 + 1) j)) 0 1) none))
 
     chosen : (set : ℕ) → IsStepSet (length c.terms.goods) (entry sums) set → set ≡ step_set_after c 0
-    chosen set is = chosen-is c.terms.goods (demands_in c.reports (0 + 1)) (members_of c) sums (entry sums) set (λ e. refl) (no-demands c sums none opened) is
+    chosen set is = chosen-is c.terms.goods (demands_in c.reports (0 + 1)) (members_of c) sums (entry sums) set (λ e. refl) (no-demands c (0 + 1) sums none opened) is
 
-    stay : (shown : Phase) → s ≡ record { steps = 0; phase = shown; prices = c.terms.opening; raised = None } → leads_on c 0 ≡ false → shown ≡ phase_after c 0 → after ≡ before → IsKept c past [] left s.steps s.phase s.prices tables sums after capacity
+    stay : (shown : Phase) → s ≡ record { steps = 0; phase = shown; prices = c.terms.opening; raised = None } → leads_on c 0 ≡ false → shown ≡ phase_after c 0 → after ≡ before → IsKept c past left s.steps s.phase s.prices tables sums after
     stay shown e stops phase_is account =
-        let K : Standing → Type 0 = λ z. IsKept c past [] left z.steps z.phase z.prices tables sums after capacity in
-        subst K (sym e) (first-all c left shown c.terms.opening after tables sums past capacity none (first-stays c shown c.terms.opening before after none number steps nothing stops phase_is (first-opening c) account) all places nobody blank opened goods sets room)
+        let K : Standing → Type 0 = λ z. IsKept c past left z.steps z.phase z.prices tables sums after in
+        subst K (sym e) (first-all c left shown c.terms.opening after tables sums past none (first-stays c shown c.terms.opening before after none number steps nothing stops phase_is (first-opening c) account) all places opened empty goods sets)
 
-    by : (left ≡ 0) ⊎ (left ≢ 0) → IsKept c past [] left s.steps s.phase s.prices tables sums after capacity
+    by : (left ≡ 0) ⊎ (left ≢ 0) → IsKept c past left s.steps s.phase s.prices tables sums after
     by (inr some) =
         let w = waits c 0 (open-count (members_of c) c.reports (0 + 1) (λ e. some (count ∙ e))) in
         let a = wait some in
         stay Running a.standing w.1 (sym w.0) a.account
     by (inl gone) = at (full-count (members_of c) c.reports (0 + 1) (sym count ∙ gone)) (turn gone)
       where
-        at : is_full_after c 0 ≡ true → IsTurn c.terms.goods c.terms.ceiling 0 c.terms.opening sums tables before after s → IsKept c past [] left s.steps s.phase s.prices tables sums after capacity
+        at : is_full_after c 0 ≡ true → IsTurn c.terms.goods c.terms.ceiling 0 c.terms.opening sums tables before after s → IsKept c past left s.steps s.phase s.prices tables sums after
         at full (inl end) = let w = ends c 0 full (sym (chosen 0 end.chosen)) in stay Ended end.standing w.1 (sym w.0) end.account
         at full (inr (inl halt)) =
             let e = chosen halt.set halt.chosen in

@@ -1,6 +1,6 @@
 -- What is looked up in what a clock keeps.
-use Rattle.std.proofs.Common.{◌≡◌, ◌≢◌, ◌<◌, ◌≤◌, ◌⊎◌, inl, inr, ℕ, zero, suc, ◌+◌, ◌-◌, ◌*◌, Bool, true, nat_eq, List, [], ◌∷◌, ◌++◌, length, length-append, take, drop, get_or, Option, Some, None, is_none, refl, sym, ◌∙◌, ap, subst, arith}
-use Rattle.std.specs.Prelude.{find, option_map, unwrap_or, slice_index, ℤ}
+use Rattle.std.proofs.Common.{◌≡◌, ◌≢◌, ◌<◌, ◌≤◌, ◌⊎◌, inl, inr, ℕ, zero, suc, ◌+◌, ◌-◌, ◌*◌, Bool, true, nat_eq, List, [], ◌∷◌, ◌++◌, length, length-append, take, drop, get_or, Option, Some, None, refl, sym, ◌∙◌, ap, subst, arith}
+use Rattle.std.specs.Prelude.{find, option_map, slice_index, ℤ}
 use Rattle.std.proofs.lemmas.Bool.{cases_eq, cases_lt}
 use Rattle.std.proofs.lemmas.List.{take-append-le, take_all, take_more, map-append, length-map}
 use Rattle.lot_base.specs.Goods.{AllBelow, raised}
@@ -13,7 +13,7 @@ use Rattle.credit_book.specs.Account.{Sums}
 use Rattle.demand_set.specs.Same.{same_demand}
 use Rattle.demand_set.specs.declared.reports.Report.{Report}
 use Rattle.clock.specs.Reports.{ClockHistory, set_numbers, is_named, demand_in, members_of}
-use Rattle.clock.specs.Standing.{sets_of, step_set_after, prices_after, missing_of, leads_on}
+use Rattle.clock.specs.Standing.{sets_of, step_set_after, prices_after, leads_on}
 use Rattle.clock.specs.Kept.{HasStanding, KeepsRound, reports_before}
 use Rattle.clock.proofs.Current.{demand-current}
 use Rattle.clock.proofs.InOrder.{find-in_order}
@@ -25,13 +25,7 @@ use Rattle.clock.proofs.Truthful.{length-sets_of, prices-along}
 pub present-demand : (c : ClockHistory) (present : List Report) (left steps : ℕ) (phase : Phase) (prices : List ℕ) (account : Sums) (tables : List (Option LeastTable)) (sums : List ℤ) (round j : ℕ) → HasStanding c (reports_before c steps) steps phase prices account → KeepsRound c present left steps tables sums
     → round ≡ steps + 1 → demand_in present round j ≡ demand_in c.reports round j
 present-demand c present left steps phase prices account tables sums round j k r e =
-    ap (λ t. demand_in present t j) e ∙ demand-current (reports_before c steps) steps j c.reports present k.past r.unpacked ∙ ap (λ t. demand_in c.reports t j) (sym e)
-
-pub present-missing : (c : ClockHistory) (present : List Report) (left steps : ℕ) (phase : Phase) (prices : List ℕ) (account : Sums) (tables : List (Option LeastTable)) (sums : List ℤ) (o : Option ℕ) → HasStanding c (reports_before c steps) steps phase prices account → KeepsRound c present left steps tables sums
-    → o ≡ find (λ j. is_none (demand_in present (steps + 1) j)) (members_of c) → unwrap_or o 0 ≡ missing_of c
-present-missing c present left steps phase prices account tables sums o k r e =
-    ap (λ z. unwrap_or z 0) (e ∙ (λ i. find (λ j. is_none (present-demand c present left steps phase prices account tables sums (steps + 1) j k r refl i)) (members_of c)))
-    ∙ ap (λ n. unwrap_or (find (λ j. is_none (demand_in c.reports (n + 1) j)) (members_of c)) 0) k.steps_are
+    ap (λ t. demand_in present t j) e ∙ demand-current (reports_before c steps) steps j c.reports present k.past r.present_are ∙ ap (λ t. demand_in c.reports t j) (sym e)
 
 twice : {A B C : Type 0} (f : B → C) (g : A → B) (o : Option A) → option_map f (option_map g o) ≡ option_map (λ x. f (g x)) o
 twice f g None = refl

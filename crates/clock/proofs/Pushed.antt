@@ -1,32 +1,22 @@
 -- What a report that is taken changes of its round.
-use Rattle.std.proofs.Common.{◌≡◌, ◌≢◌, ◌<◌, ◌≤◌, ◌⊎◌, inl, inr, ℕ, ◌+◌, ◌*◌, ◌^◌, Bool, true, false, ◌&&◌, nat_eq, cond, List, [], ◌∷◌, ◌++◌, length, take, set, Option, Some, None, is_some, refl, sym, ◌∙◌, ap, arith, pos}
-use Rattle.std.specs.Prelude.{find, option_map, unwrap_or, ℤ, ◌+ℤ◌, ◌≤ℤ◌, negsuc}
-use Rattle.std.proofs.lemmas.Int.{ints}
+use Rattle.std.proofs.Common.{◌≡◌, ◌≢◌, ℕ, ◌+◌, Bool, true, false, ◌&&◌, nat_eq, cond, List, [], ◌∷◌, ◌++◌, take, Option, Some, None, is_some, refl, sym, ◌∙◌, ap, arith}
+use Rattle.std.specs.Prelude.{find, option_map}
 use Rattle.std.proofs.lemmas.Bool.Decides.{nat_tests}
-use Rattle.lot_base.specs.Goods.{quantity_in}
-use Rattle.lot_base.specs.Demands.{least}
-use Rattle.lot_base.specs.Economy.{total_units}
-use Rattle.lot_base.specs.Steps.{excess}
 use Rattle.lot_base.specs.declared.phases.Phase.{Phase}
-use Rattle.lot_base.specs.declared.tables.LeastTable.{LeastTable}
-use Rattle.lyapunov.specs.Excesses.{entry, HasRoom}
 use Rattle.credit_book.specs.Account.{Sums}
 use Rattle.demand_set.specs.declared.reports.Report.{Report}
 use Rattle.clock.specs.declared.judging.Judgement.TheVariants.{Take, Again, Conflict}
-use Rattle.clock.specs.Reports.{ClockHistory, is_named, demand_in, demands_in, members_of, with_report}
+use Rattle.clock.specs.Reports.{ClockHistory, is_named, demand_in, members_of, with_report}
 use Rattle.clock.specs.Standing.{steps_of, phase_of}
-use Rattle.clock.specs.Judging.{judgement_of, repeat_of, repeated, is_member, IsLegal}
+use Rattle.clock.specs.Judging.{judgement_of, repeat_of, repeated, is_member}
 use Rattle.demand_set.specs.Same.{same_demand}
-use Rattle.demand_set.proofs.Sums.{units-few}
-use Rattle.clock.specs.Kept.{HasStanding, KeepsRound, missing_count}
+use Rattle.clock.specs.Kept.{HasStanding, missing_count}
 use Rattle.clock.proofs.Append.{find-some, find-none, take-says}
 use Rattle.clock.proofs.Present.{taken-now}
 use Rattle.clock.proofs.After.{kept-path}
-use Rattle.clock.proofs.Excesses.{least-few, found-fits}
-use Rattle.clock.proofs.Path.{compare-or}
-use Rattle.clock.proofs.Totals.{total-one, total-most, members-few}
+use Rattle.clock.proofs.Totals.{total-one}
 
-none-taken : (round : ℕ) (demand : List (List ℕ)) (o : Option (List (List ℕ))) → repeat_of round demand o ≡ Take → o ≡ None
+pub none-taken : (round : ℕ) (demand : List (List ℕ)) (o : Option (List (List ℕ))) → repeat_of round demand o ≡ Take → o ≡ None
 none-taken round demand None e = refl
 none-taken round demand (Some before) e = absurd (by (same_demand before demand) e)
   where
@@ -78,17 +68,6 @@ demand-other c r round j other =
     and-false true = refl
     and-false false = refl
 
--- each set's excess is what it was, and what the bidder demands at least
-pub excess-pushed : (c : ClockHistory) (r : Report) (steps set : ℕ) → IsNew c r steps
-    → excess c.terms.goods (demands_in (with_report c r).reports (steps + 1)) (members_of c) set ≡ excess c.terms.goods (demands_in c.reports (steps + 1)) (members_of c) set +ℤ pos (least r.demand set)
-excess-pushed c r steps set new =
-    let f = λ (j : ℕ). least (demands_in c.reports (steps + 1) j) set in
-    let g = λ (j : ℕ). least (demands_in (with_report c r).reports (steps + 1) j) set in
-    let none : f r.bidder ≡ 0 = ap (λ o. least (unwrap_or o []) set) new.absent in
-    let some : g r.bidder ≡ least r.demand set = ap (λ o. least (unwrap_or o []) set) (demand-new c r steps new) in
-    let one = total-one c f g r.bidder (least r.demand set) new.member (omega (arith, none, some)) (λ j other. ap (λ o. least (unwrap_or o []) set) (demand-other c r (steps + 1) j (λ e. other (sym e)))) in
-    omega (arith, ints, one)
-
 -- one member fewer is missing
 pub missing-pushed : (c : ClockHistory) (r : Report) (steps : ℕ) → IsNew c r steps → missing_count (members_of c) c.reports (steps + 1) ≡ missing_count (members_of c) (with_report c r).reports (steps + 1) + 1
 missing-pushed c r steps new =
@@ -97,34 +76,3 @@ missing-pushed c r steps new =
     let none : f r.bidder ≡ 0 = ap (λ o. cond (is_some o) 0 1) (demand-new c r steps new) in
     let some : g r.bidder ≡ 1 = ap (λ o. cond (is_some o) 0 1) new.absent in
     total-one c f g r.bidder 1 new.member (omega (arith, none, some)) (λ j other. ap (λ o. cond (is_some o) 0 1) (sym (demand-other c r (steps + 1) j (λ e. other (sym e)))))
-
--- there is room for one more table
-least-or_missing : (supply : List ℕ) (set : ℕ) (o : Option (List (List ℕ))) → ((d : List (List ℕ)) → o ≡ Some d → least d set ≤ 2047) → least (unwrap_or o []) set + 2047 * cond (is_some o) 0 1 ≤ 2047
-least-or_missing supply set None few = omega arith
-least-or_missing supply set (Some d) few = let h = few d refl in omega (arith, h)
-
-pub room-left : (c : ClockHistory) (present : List Report) (left steps : ℕ) (tables : List (Option LeastTable)) (table : List ℤ) (b : ℕ) → IsLegal c → KeepsRound c present left steps tables table → is_member c b ≡ true → demand_in c.reports (steps + 1) b ≡ None → 1 ≤ left → HasRoom table
-room-left c present left steps tables table b legal k member absent some = record { at_least = λ set. low set (compare-or set (2 ^ length c.terms.goods)); at_most = λ set. high set (compare-or set (2 ^ length c.terms.goods)) }
-  where
-    each : (set : ℕ) → total_units (λ j. least (demands_in c.reports (steps + 1) j) set) (members_of c) + 2047 * missing_count (members_of c) c.reports (steps + 1) ≤ 2047 * length (members_of c)
-    each set = total-most (λ j. least (demands_in c.reports (steps + 1) j) set) (λ j. cond (is_some (demand_in c.reports (steps + 1) j)) 0 1) 2047 (members_of c)
-        (λ j. least-or_missing c.terms.goods set (demand_in c.reports (steps + 1) j) (λ d e. least-few c.terms.goods d set c.terms.supply.small (found-fits c.terms.goods c.reports (steps + 1) j d legal.demands e)))
-
-    units : (set : ℕ) → quantity_in c.terms.goods set ≤ 2047
-    units set = let u = units-few c.terms.goods set in let s = c.terms.supply.small in omega (arith, u, s)
-
-    low : (set : ℕ) → (set < 2 ^ length c.terms.goods) ⊎ ((2 ^ length c.terms.goods < set) ⊎ (set ≡ 2 ^ length c.terms.goods)) → negsuc 2046 ≤ℤ entry table set
-    low set (inl inside) = let e = k.excess.entries set inside in let u = units set in omega (arith, ints, e, u)
-    low set (inr (inl above)) = let e = k.excess.others set (omega arith) in omega (arith, ints, e)
-    low set (inr (inr same)) = let e = k.excess.others set (omega arith) in omega (arith, ints, e)
-
-    high : (set : ℕ) → (set < 2 ^ length c.terms.goods) ⊎ ((2 ^ length c.terms.goods < set) ⊎ (set ≡ 2 ^ length c.terms.goods)) → entry table set ≤ℤ pos 22517
-    high set (inl inside) =
-        let e = k.excess.entries set inside in
-        let t = each set in
-        let m = members-few c.terms.bidders c.number in
-        let n = c.terms.bidders_in_range.at_most in
-        let miss = k.missing in
-        omega (arith, ints, e, t, m, n, miss, some)
-    high set (inr (inl above)) = let e = k.excess.others set (omega arith) in omega (arith, ints, e)
-    high set (inr (inr same)) = let e = k.excess.others set (omega arith) in omega (arith, ints, e)

@@ -23,6 +23,7 @@ use Rattle.clock.specs.Tables.{AreTablesOf, is_member_of}
 use Rattle.clock.specs.Kept.{HasStanding, KeepsTables, missing_count, reports_before}
 use Rattle.clock.proofs.After.{kept-path, after-path, after-prices, after-kept}
 use Rattle.clock.proofs.Excesses.{found-fits}
+use Rattle.clock.proofs.StandingDemands.{standing-before}
 use Rattle.clock.proofs.Going.{sets-stay}
 use Rattle.clock.proofs.Ledger.{adds-step}
 use Rattle.clock.proofs.Moves.{StandingAt, Steps}
@@ -249,7 +250,7 @@ pub step-same : (supply : List ℕ) (f g : ℕ → List (List ℕ)) (ms : List �
 unfolding step_set
 step-same supply f g ms same = λ i. first_set (λ set. pos (total-same f g ms set same i) -ℤ pos (quantity_in supply set)) (length supply)
 
-as-found : (c h : ClockHistory) (steps : ℕ) (ms : List ℕ) → AllByRecursion (λ k. demand_in h.reports (steps + 1) k ≡ Some (demands_in c.reports steps k)) ms → AllByRecursion (λ k. demands_in h.reports (steps + 1) k ≡ demands_in c.reports steps k) ms
+pub as-found : (c h : ClockHistory) (steps : ℕ) (ms : List ℕ) → AllByRecursion (λ k. demand_in h.reports (steps + 1) k ≡ Some (demands_in c.reports steps k)) ms → AllByRecursion (λ k. demands_in h.reports (steps + 1) k ≡ demands_in c.reports steps k) ms
 as-found c h steps [] all = tt
 as-found c h steps (k ∷ ms) all = (ap (λ o. unwrap_or o []) all.0, as-found c h steps ms all.1)
 
@@ -287,32 +288,32 @@ member-of_all P c b member all =
     let high : b ≤ c.terms.bidders = (let t = k.0 in grind (arith, nat_tests)) in
     all-range P (λ j. not (nat_eq j c.number)) 1 c.terms.bidders b low (omega arith) k.1 all
 
-pub tables-again : (c : ClockHistory) (steps : ℕ) (prices : List ℕ) (account : Sums) (tables : List (Option LeastTable)) → 1 ≤ steps → ((j : ℕ) → demand_in c.reports (steps + 1) j ≡ None) → KeepsTables c (steps + 1) tables → IsFilled c steps prices account
+pub tables-again : (c : ClockHistory) (steps : ℕ) (prices : List ℕ) (account : Sums) (tables : List (Option LeastTable)) → ((j : ℕ) → demand_in c.reports (steps + 1) j ≡ None) → KeepsTables c (steps + 1) tables → IsFilled c steps prices account
     → (j set : ℕ) → set < 2 ^ length c.terms.goods → is_member c j ≡ true → least_in (slice_index_or tables j None) set ≡ least (demands_in (part c steps (members_of c)).reports (steps + 1) j) set
-tables-again c steps prices account tables some none k f j set below member =
+tables-again c steps prices account tables none k f j set below member =
     let e : steps + 1 - 1 ≡ steps = omega arith in
     let d = member-of_all (λ b. demands_in (part c steps (members_of c)).reports (steps + 1) b ≡ demands_in c.reports steps b) c j member (as-found c (part c steps (members_of c)) steps (members_of c) f.found) in
-    k.earlier j set (omega (arith, some)) below member (none j) ∙ ap (λ n. least (demands_in c.reports n j) set) e ∙ ap (λ b. least b set) (sym d)
+    k.held j set below member ∙ ap (λ b. least b set) (standing-before c (steps + 1) j (none j) ∙ ap (λ n. demands_in c.reports n j) e ∙ sym d)
 
-are-tables-again : (c : ClockHistory) (steps : ℕ) (prices : List ℕ) (account : Sums) (tables : List (Option LeastTable)) → 1 ≤ steps → ((j : ℕ) → demand_in c.reports (steps + 1) j ≡ None) → KeepsTables c (steps + 1) tables → IsFilled c steps prices account
+are-tables-again : (c : ClockHistory) (steps : ℕ) (prices : List ℕ) (account : Sums) (tables : List (Option LeastTable)) → ((j : ℕ) → demand_in c.reports (steps + 1) j ≡ None) → KeepsTables c (steps + 1) tables → IsFilled c steps prices account
     → AreTablesOf c.terms.goods (demands_in (part c steps (members_of c)).reports (steps + 1)) c.terms.bidders c.number tables
-are-tables-again c steps prices account tables some none k f = λ j set below. by j set below (is_member c j) refl
+are-tables-again c steps prices account tables none k f = λ j set below. by j set below (is_member c j) refl
   where
     by : (j set : ℕ) → set < 2 ^ length c.terms.goods → (b : Bool) → is_member c j ≡ b
         → least_in (slice_index_or tables j None) set ≡ cond (is_member_of c.terms.bidders c.number j) (least (demands_in (part c steps (members_of c)).reports (steps + 1) j) set) 0
-    by j set below true e = tables-again c steps prices account tables some none k f j set below e ∙ sym (ap (λ b. cond b (least (demands_in (part c steps (members_of c)).reports (steps + 1) j) set) 0) e)
+    by j set below true e = tables-again c steps prices account tables none k f j set below e ∙ sym (ap (λ b. cond b (least (demands_in (part c steps (members_of c)).reports (steps + 1) j) set) 0) e)
     by j set below false e = ap (λ t. least_in t set) (k.nobody j e) ∙ sym (ap (λ b. cond b (least (demands_in (part c steps (members_of c)).reports (steps + 1) j) set) 0) e)
 
 -- how the clock stands with the round
-pub standing-again : (c : ClockHistory) (steps : ℕ) (prices : List ℕ) (account after : Sums) (tables : List (Option LeastTable)) (set : ℕ) → 1 ≤ steps → ((j : ℕ) → demand_in c.reports (steps + 1) j ≡ None) → KeepsTables c (steps + 1) tables → IsFilled c steps prices account
+pub standing-again : (c : ClockHistory) (steps : ℕ) (prices : List ℕ) (account after : Sums) (tables : List (Option LeastTable)) (set : ℕ) → ((j : ℕ) → demand_in c.reports (steps + 1) j ≡ None) → KeepsTables c (steps + 1) tables → IsFilled c steps prices account
     → step_set_after (part c steps (members_of c)) steps ≡ set → set < 2 ^ length c.terms.goods → leads_on (part c steps (members_of c)) steps ≡ true → after.steps ≡ account.steps + 1 → ((b : ℕ) → sum_without after b ≡ sum_without account b +ℤ units_left c.terms.goods tables set b)
     → HasStanding (part c steps (members_of c)) (reports_before c (steps + 1)) (steps + 1) Running (raised prices set) after
-standing-again c steps prices account after tables set some none k f same inside leads account_steps sums =
+standing-again c steps prices account after tables set none k f same inside leads account_steps sums =
     let now : ClockHistory = part c steps (members_of c) in
     let h : ClockHistory = part c steps f.nearly.told in
     let r : Report = again c steps f.nearly.last in
     let e : with_report h r ≡ now = part-next c steps f.nearly.told f.nearly.last ∙ ap (part c steps) f.nearly.whole in
-    let added = adds-step c.terms.goods (demands_in now.reports (steps + 1)) c.terms.bidders c.number set tables account after c.terms.bidders_in_range.at_most inside (are-tables-again c steps prices account tables some none k f) sums in
+    let added = adds-step c.terms.goods (demands_in now.reports (steps + 1)) c.terms.bidders c.number set tables account after c.terms.bidders_in_range.at_most inside (are-tables-again c steps prices account tables none k f) sums in
     let few = few-steps now steps c.terms.supply f.path leads in
     let prices_are : raised prices set ≡ prices_after now (steps + 1) = (λ i. raised (f.prices_are i) (sym same i)) ∙ sym (prices-next now steps) in
     let at : StandingAt = record { current = length now.reports; steps = steps + 1; phase = Running; prices = raised prices set } in

@@ -1,6 +1,6 @@
 -- Reports among their packed places: what is found in them, and what one more changes.
-use Rattle.std.proofs.Common.{Option, ◌≡◌, ◌≢◌, ◌≤◌, ◌<◌, ℕ, zero, suc, ◌+◌, ◌-◌, ◌*◌, ◌/◌, Bool, true, false, nat_eq, cond, List, [], ◌∷◌, ◌++◌, length, take, drop, Some, None, refl, sym, ◌∙◌, ap, subst, arith, length-drop, Result, Ok, Err, append_assoc, length-append}
-use Rattle.std.specs.Prelude.{OnErr, find, is_ok, is_some, map, option_map, unwrap_or}
+use Rattle.std.proofs.Common.{Option, ◌≡◌, ◌≢◌, ◌≤◌, ℕ, zero, suc, ◌+◌, ◌-◌, ◌*◌, ◌/◌, Bool, true, false, nat_eq, cond, List, [], ◌∷◌, ◌++◌, length, take, drop, Some, None, refl, sym, ◌∙◌, ap, subst, arith, length-drop, append_assoc, length-append}
+use Rattle.std.specs.Prelude.{find, is_some, map, option_map, unwrap_or}
 use Rattle.std.specs.List.{AllByRecursion, concat}
 use Rattle.std.specs.Cmp.Lexicographic.{pointwise}
 use Rattle.std.proofs.Math.Nat.{mul-div_cancel}
@@ -107,14 +107,6 @@ other-count goods count kept d n is other =
     let l = length-groups count goods kept in
     same-test (groups count goods kept) d (nat_eq count n)
     ((λ t. absurd (other (grind (arith, nat_tests)))), (λ same. absurd (other (sym l ∙ ap length same ∙ sym is))))
-
--- a push into room succeeds
-pub in-room : {T E : Type 0} (r : Result T E) (room used : ℕ) → OnErr r (room ≤ used) → used < room → is_ok r ≡ true
-in-room (Ok x) room used full below = refl
-in-room (Err x) room used full below = absurd (omega (arith, full, below))
-
-pub pushed-items : {T E X : Type 0} (r : Result T E) (xs now : List X) (x : X) → is_ok r ≡ true → now ≡ cond (is_ok r) (xs ++ x ∷ []) xs → now ≡ xs ++ x ∷ []
-pushed-items r xs now x ok e = e ∙ ap (λ b. cond b (xs ++ x ∷ []) xs) ok
 
 -- what is kept with one report more
 pub record IsPushed (goods : ℕ) (old now : List ℕ) (places after : List Place) (r : Report) : Type 0 where

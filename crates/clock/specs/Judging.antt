@@ -9,7 +9,7 @@ use Rattle.demand_set.specs.Same.{same_demand}
 use Rattle.clock.specs.declared.judging.Judgement.{Judgement}
 use Rattle.clock.specs.declared.judging.Judgement.TheVariants.{Take, Again, NotMember, Early, Conflict, Over, NoRound}
 use Rattle.clock.specs.Reports.{ClockHistory, with_report, demand_in}
-use Rattle.clock.specs.Standing.{steps_of, phase_of, last_round}
+use Rattle.clock.specs.Standing.{phase_of, last_round}
 
 -- the bidder is a member of the clock
 pub record IsMember (c : ClockHistory) (bidder : ℕ) : Type 0 where
@@ -67,11 +67,6 @@ judged c last phase r =
 
 abbrev pub judgement_of : ClockHistory → Report → Judgement
 judgement_of c r = judged c (last_round c) (phase_of c) r
-
--- The report is of the demand that its bidder reported in the round before.
-pub record IsAgain (c : ClockHistory) (r : Report) : Type 0 where
-  pub some : 1 ≤ steps_of c
-  pub same : demand_in c.reports (steps_of c) r.bidder ≡ Some r.demand
 
 -- Each report of a legal history is judged Take in the standing of those before it, and its demand is one of the supply; the
 -- clock's number is that of a bidder, or 0.

@@ -1,21 +1,21 @@
 //! A clock.
-ghost use Rattle.std.specs.Prelude.{◌≡◌, ◌+◌, ◌-◌, ◌<◌, ◌≤◌, ◌++◌, [], ◌∷◌, ℕ, List, length, max, slice_get, Some, OnOk, OnErr, IfOk, IfErr, IfSome, IsTrue, option_copied, ◌↔◌};
-ghost use Rattle.lyapunov.specs.Excesses.{IsExcessOf, HasRoom};
+ghost use Rattle.std.specs.Prelude.{◌≡◌, ◌+◌, ◌-◌, ◌<◌, ◌≤◌, ◌++◌, [], ◌∷◌, ℕ, List, length, max, slice_get, replicate, None, Some, OnOk, OnErr, IfOk, IfErr, IfSome, IsSome, IsTrue, option_copied, ◌↔◌};
+ghost use Rattle.std.specs.List.{AllByRecursion, concat};
+ghost use Rattle.lyapunov.specs.Excesses.{IsSmall};
 ghost use Rattle.lot_base.specs.declared.limits.TheConstants.{MOST_STEPS};
 ghost use Rattle.lot_base.specs.Goods.{IsSupply};
-ghost use Rattle.lot_base.specs.Demands.{IsDemand, IsTable, least};
-ghost use Rattle.clock.specs.Kept.{CountsIn};
+ghost use Rattle.lot_base.specs.Demands.{IsDemand};
+ghost use Rattle.clock.specs.Past.{pushed};
+ghost use Rattle.clock.specs.Kept.{CountsIn, HasRoomFor, StandsAmong, demand_or};
 
 use crate::next_step::Standing;
 use crate::packing::Past;
-use crate::rounds::{find_demand, member_count, missing_in, prices_along};
+use crate::rounds::{demand_at, member_count, missing_in, prices_along};
 use credit_book::Account;
 use demand_set::{Demand, Report};
-use lot_base::limits::MOST_BIDDERS;
 use lot_base::{Excess, Goods, LeastTable, NoMemory, Phase, Prices, Terms};
 use std::alloc::Global;
 use std::marker::Model;
-use std::mem::swap;
 
 /// One clock, seen as its history: its terms, its number and the reports that were applied, in order; and for how many more reports
 /// and quantities it has room.
@@ -27,30 +27,30 @@ pub struct Clock {
     pub(crate) number: u8,
     /// The reports that were applied, packed.
     pub(crate) past: Past,
-    /// The reports of the last or current round.
-    pub(crate) present: Vec<Report>,
-    /// Those of the round before that their bidders have not repeated.
-    pub(crate) before: Vec<Report>,
+    /// What each bidder demands, at its number: in the last or current round, or in the one before until it has reported.
+    pub(crate) latest: Vec<Option<Demand>>,
+    /// Whether it has reported in that round, at its number.
+    pub(crate) reported: [bool; 13],
     /// How many members have no report in that round.
-    left: u8,
+    pub(crate) left: u8,
     /// How many steps it has made: the number of the last or current round, less one.
     pub(crate) steps: u32,
     /// Whether that round is the last, and why.
     pub(crate) phase: Phase,
     /// Those of that round.
     pub(crate) prices: Prices,
-    /// The least quantities that each bidder demands, at its number: in the round, or in the one before until it has reported.
+    /// The least quantities of these demands, at the number of their bidder.
     pub(crate) tables: [Option<LeastTable>; 13],
-    /// How far the demands of the round are above the supply, each set at its number.
+    /// How far these demands are above the supply, each set at its number.
     excess: Excess,
     /// What the steps add up to: the units that the members, without each one, left of each step's set.
     pub(crate) account: Account,
 }
 
 impl Model for Clock {
-    ghost use Rattle.std.specs.Vec.{vec_capacity};
     ghost use Rattle.clock.specs.Reports.{ClockOf};
-    ghost use Rattle.clock.specs.Kept.{IsKept, KeepsUnpacked};
+    ghost use Rattle.std.specs.Prelude.{◌+◌};
+    ghost use Rattle.clock.specs.Kept.{IsKept, KeepsLatest};
 
     ghost Value = { ClockOf };
 
@@ -60,9 +60,9 @@ impl Model for Clock {
       spare_quantities = c.past.spare_quantities;
     } };
 
-    ghost invariant = { λ c. IsKept (record { terms = c.terms; number = c.number; reports = c.past.reports }) c.past c.present.items c.left
-        c.steps c.phase c.prices c.tables c.excess.0 c.account (vec_capacity c.present)
-        × KeepsUnpacked (record { terms = c.terms; number = c.number; reports = c.past.reports }) c.present.items c.before.items (vec_capacity c.before) };
+    ghost invariant = { λ c. IsKept (record { terms = c.terms; number = c.number; reports = c.past.reports }) c.past c.left c.steps c.phase c.prices
+        c.tables c.excess.0 c.account
+        × KeepsLatest (record { terms = c.terms; number = c.number; reports = c.past.reports }) (c.steps + 1) c.latest.items c.reported };
 }
 
 /// What a clock shows: its last or current round, how it stands and at which prices.
@@ -92,10 +92,11 @@ impl Clock {
     ghost use Rattle.lyapunov.specs.Paths.{highest_rise};
     ghost use Rattle.std.specs.List.{concat};
     ghost use Rattle.clock.specs.Reports.{demand_in, with_report, applied, most_reports};
+    ghost use Rattle.clock.specs.Kept.{report_of};
     ghost use Rattle.clock.specs.Latest.{IsRepeat};
     ghost use Rattle.clock.specs.Explained.{Explains, ShowsLeast, lyapunov_of, lyapunov_without};
     ghost use Rattle.clock.specs.Standing.{HasSteps, steps_of, last_round, phase_of, prices_after, prices_of, missing_of};
-    ghost use Rattle.clock.specs.Judging.{judgement_of, IsJudgement, IsLegal, IsAgain};
+    ghost use Rattle.clock.specs.Judging.{judgement_of, IsJudgement, IsLegal};
     ghost use Rattle.clock.specs.Accounts.{account_without};
     ghost use Rattle.credit_book.specs.Account.{sum_without};
     ghost use Rattle.clock.specs.declared.judging.Judgement.TheVariants.{Take};
@@ -126,16 +127,8 @@ impl Clock {
         }) }
     {
         let mut past = Past::new(alloc, &terms.goods);
-        match past.reserve(reports, quantities) {
-            Ok(()) => {}
-            Err(NoMemory) => return Err(NoMemory),
-        }
-        let Ok(present) = Vec::with_capacity(alloc, MOST_BIDDERS as usize) else {
-            return Err(NoMemory);
-        };
-        let Ok(before) = Vec::with_capacity(alloc, MOST_BIDDERS as usize) else {
-            return Err(NoMemory);
-        };
+        past.reserve(reports, quantities)?;
+        let latest = no_demands(alloc)?;
         let left = member_count(terms.bidders, number);
         let tables = [None; 13];
         let excess = lyapunov::opening(&terms.goods);
@@ -153,8 +146,8 @@ impl Clock {
             terms: *terms,
             number,
             past,
-            present,
-            before,
+            latest,
+            reported: [false; 13],
             left,
             steps: standing.steps,
             phase: standing.phase,
@@ -197,24 +190,56 @@ impl Clock {
     }
 
     /// Applies a report for which there is room.
-    pub(crate) fn take(&mut self, report: Report)
+    fn take(&mut self, report: Report)
         requires take { judgement_of self.old.history report ≡ Take }
         requires fits { IsDemand self.old.history.terms.goods report.demand }
         requires reports { 1 ≤ self.old.spare_reports }
         requires quantities { length (concat report.demand) ≤ self.old.spare_quantities }
         ensures { self.new ≡ applied self.old report }
     {
+        let Report { bidder, demand, .. } = report;
+        if self.demands_still(bidder, &demand) {
+            self.count_in(bidder, None);
+        } else {
+            self.count_in(bidder, Some(demand));
+        }
+    }
+
+    /// Whether a bidder demanded this in the last or current round or, before it has reported in it, in the round before.
+    fn demands_still(&self, bidder: u8, demand: &Demand) -> bool
+        ensures { IsTrue result → demand_in self.now.history.reports (last_round self.now.history) bidder ≡ None
+            → demand_in self.now.history.reports (steps_of self.now.history) bidder ≡ Some demand.now }
+    {
+        match self.latest.get(bidder as usize) {
+            Some(Some(latest)) => latest.same(demand),
+            _ => false,
+        }
+    }
+
+    /// Applies a report of a bidder in the current round, for which there is room: of this demand, or of that of the round before.
+    pub(crate) fn count_in(&mut self, bidder: u8, demand: Option<Demand>)
+        requires take { judgement_of self.old.history (report_of self.old.history bidder demand) ≡ Take }
+        requires fits { IfSome demand (IsDemand self.old.history.terms.goods) }
+        requires known { demand ≡ None → IsSome (demand_in self.old.history.reports (steps_of self.old.history) bidder) }
+        requires reports { 1 ≤ self.old.spare_reports }
+        requires quantities { IfSome demand (λ d. length (concat d) ≤ self.old.spare_quantities) }
+        ensures { self.new ≡ applied self.old (report_of self.old.history bidder demand) }
+    {
         let goods = self.terms.goods;
-        let (from, members) = self.round_before();
-        let again = self.past.push(from, members, &report);
-        count_in(
-            &goods,
-            &mut self.excess,
-            &mut self.tables[report.bidder as usize],
-            again,
-            &report.demand,
+        let seat = bidder as usize;
+        count_demand(&goods, &mut self.excess, &mut self.tables[seat], &demand);
+        let members = member_count(self.terms.bidders, self.number);
+        let round_before = self.steps.saturating_sub(1) as usize * members as usize;
+        note_demand(
+            &mut self.past,
+            &mut self.latest[seat],
+            round_before,
+            members as usize,
+            bidder,
+            self.steps + 1,
+            demand,
         );
-        let _in_room = self.present.push(report);
+        self.reported[seat] = true;
         self.left -= 1;
         if self.left > 0 {
             self.phase = Phase::Running;
@@ -236,24 +261,8 @@ impl Clock {
             return;
         };
         self.past.raise(set);
-        self.left = self.present.len() as u8;
-        self.before.clear();
-        swap(&mut self.before, &mut self.present);
-        reopen(&goods, &mut self.excess);
-    }
-
-    /// Where the reports of the round before begin among all, and how many they are. Where no step was made they are none.
-    fn round_before(&self) -> (usize, usize)
-        ensures inside { result.0 + result.1 ≤ length self.now.history.reports }
-        ensures again { (r : ReportValue) → option_map (λ (before : ReportValue). same_demand before.demand r.demand)
-            (find (λ (before : ReportValue). before.bidder == r.bidder) (take result.1 (drop result.0 self.now.history.reports)))
-            ≡ Some true → IsAgain self.now.history r }
-    {
-        if self.steps == 0 {
-            return (0, 0);
-        }
-        let members = member_count(self.terms.bidders, self.number) as usize;
-        ((self.steps as usize - 1) * members, members)
+        self.left = members;
+        self.reported = [false; 13];
     }
 
     /// How many reports were applied. Where there is one more to be taken, they are below the most.
@@ -380,13 +389,7 @@ impl Clock {
     pub fn missing(&self) -> u8
         ensures { result ≡ missing_of self.now.history }
     {
-        missing_in(
-            self.terms.bidders,
-            self.number,
-            &self.present,
-            self.steps + 1,
-        )
-        .unwrap_or(0)
+        missing_in(self.terms.bidders, self.number, &self.reported).unwrap_or(0)
     }
 
     /// The demand of a bidder in the last or current round, if it has reported one.
@@ -394,38 +397,79 @@ impl Clock {
         ensures value { option_copied result ≡ demand_in self.now.history.reports (last_round self.now.history) bidder }
         ensures fits { IfSome (option_copied result) (IsDemand self.now.history.terms.goods) }
     {
-        find_demand(&self.present, self.steps + 1, bidder)
+        demand_at(&self.latest, &self.reported, bidder)
     }
 }
 
-/// Adds the least quantities of a demand to the excess, and keeps them. Those of a demand that is made again are kept already.
-fn count_in(
+/// No demand of anybody.
+fn no_demands(alloc: Global) -> Result<Vec<Option<Demand>>, NoMemory>
+    ensures { IfOk result (λ demands. demands.items ≡ replicate 13 None) }
+{
+    let mut demands = Vec::new(alloc);
+    for _ in 0..13u8 {
+        demands.push(None)?;
+    }
+    Ok(demands)
+}
+
+/// Puts the least quantities of a demand into the excess, in the place of those of the bidder's demand before, and keeps them. With no
+/// demand all stays.
+fn count_demand(
     goods: &Goods,
     excess: &mut Excess,
     kept: &mut Option<LeastTable>,
-    again: bool,
-    demand: &Demand,
+    demand: &Option<Demand>,
 )
     requires supply { IsSupply goods.now }
-    requires fits { IsDemand goods.now demand.now }
-    requires room { HasRoom excess.old.0 }
-    requires again { IsTrue again → IfSome kept.old (λ table. IsTable (length goods.now) (least demand.now) table.0) }
-    ensures { CountsIn goods.now demand.now kept.new excess.old.0 excess.new.0 }
+    requires fits { IfSome demand.now (IsDemand goods.now) }
+    requires small { IfSome kept.old (λ table. IsSmall table.0) }
+    requires room { HasRoomFor kept.old excess.old.0 }
+    ensures { CountsIn goods.now demand.now kept.old kept.new excess.old.0 excess.new.0 }
 {
-    if again {
-        if let Some(table) = kept {
-            lyapunov::add_table(goods, excess, table);
-            return;
-        }
-    }
+    let Some(demand) = demand else {
+        return;
+    };
     let table = demand.least_table(goods);
-    lyapunov::add_table(goods, excess, &table);
+    match kept {
+        None => lyapunov::add_table(goods, excess, &table),
+        Some(before) => lyapunov::replace_table(goods, excess, before, &table),
+    }
     *kept = Some(table);
 }
 
-/// Makes the excess that of a round without reports.
-fn reopen(goods: &Goods, excess: &mut Excess)
-    ensures { IsExcessOf goods.now [] excess.new.0 }
+/// Puts a report after the others, in the room for it, and keeps its demand: this one, or the latest, which is that of the bidder's
+/// report among those of the round before. That report's quantities are shared.
+fn note_demand(
+    past: &mut Past,
+    latest: &mut Option<Demand>,
+    round_before: usize,
+    members: usize,
+    bidder: u8,
+    round: u32,
+    demand: Option<Demand>,
+)
+    requires room { 1 ≤ past.old.spare_reports }
+    requires quantities { IfSome demand (λ d. length (concat d) ≤ past.old.spare_quantities) }
+    requires goods { IfSome demand (AllByRecursion (λ x. length x ≡ past.old.goods)) }
+    requires again { demand ≡ None → StandsAmong past.old.reports round_before members bidder latest.old }
+    ensures past { past.new ≡ pushed past.old (record { bidder = bidder; round = round; demand = demand_or latest.old demand }) }
+    ensures latest { latest.new ≡ Some (demand_or latest.old demand) }
 {
-    *excess = lyapunov::opening(goods);
+    match demand {
+        Some(demand) => {
+            let report = Report {
+                bidder,
+                round,
+                demand,
+            };
+            past.push(&report);
+            *latest = Some(report.demand);
+        }
+        None => {
+            past.push_again(round_before, members, bidder, round);
+            if let Some(demand) = latest {
+                past.spend(demand.quantities().len() as u32);
+            }
+        }
+    }
 }

@@ -2,7 +2,7 @@
 ghost use Rattle.std.specs.Prelude.{◌≡◌, ◌≤◌, option_map};
 
 use crate::clocks::Clock;
-use crate::rounds::{find_demand, member_count};
+use crate::rounds::{demand_at, member_count};
 use demand_set::Demand;
 use lot_base::Phase;
 
@@ -86,7 +86,7 @@ impl Clock {
         ensures { result ≡ option_map (λ before. same_demand before demand.now) (demand_in self.now.history.reports round bidder) }
     {
         if round == self.steps + 1 {
-            return match find_demand(&self.present, round, bidder) {
+            return match demand_at(&self.latest, &self.reported, bidder) {
                 None => None,
                 Some(before) => Some(before.same(demand)),
             };

@@ -1,11 +1,9 @@
 //! Where the quantities of reports stand in a buffer.
 ghost use Rattle.std.specs.Prelude.{◌≡◌, ◌<◌, ◌≤◌, ◌+◌, ◌*◌, ◌==◌, ◌^◌, ℕ, List, length, take, drop, find, reverse, option_copied, option_map, true, Some, OnOk, IfSome, IsTrue, ◌↔◌};
 ghost use Rattle.std.specs.Vec.{vec_len, vec_capacity};
-ghost use Rattle.std.specs.List.{concat};
 ghost use Rattle.demand_set.specs.Reading.{groups};
 ghost use Rattle.demand_set.specs.Same.{same_demand};
-ghost use Rattle.demand_set.specs.declared.reports.Report.{Report as ReportValue};
-ghost use Rattle.clock.specs.Past.{AllFit, Fits, IsSharedAt, IsStoredAt, history_of, quantities_of};
+ghost use Rattle.clock.specs.Past.{Fits, IsStoredAt, quantities_of};
 ghost use Rattle.clock.specs.declared.kept_quantities.Place.{Place as PlaceValue};
 
 use demand_set::Demand;
@@ -77,49 +75,16 @@ pub(crate) fn quantities_at<'a>(quantities: &'a [u16], goods: u8, place: &Place)
     &others[..place.count as usize * goods as usize]
 }
 
-/// Where the quantities of a demand stand, if the first of some reports that is of a bidder has this demand.
-pub(crate) fn shared_start(
-    quantities: &[u16],
-    places: &[Place],
-    goods: u8,
-    bidder: u8,
-    demand: &Demand,
-) -> Option<u32>
-    requires some { 1 ≤ goods }
-    requires fit { AllFit goods quantities.now places.now }
-    ensures shared { IfSome result (IsSharedAt quantities.now (concat demand.now)) }
-    ensures same { IfSome result (λ _. option_map (λ (r : ReportValue). same_demand r.demand demand.now)
-        (find (λ (r : ReportValue). r.bidder == bidder) (history_of goods quantities.now places.now)) ≡ Some true) }
-{
-    match place_of(places, bidder) {
-        None => None,
-        Some(place) => {
-            let kept = quantities_at(quantities, goods, place);
-            if is_demand(kept, goods, place.count, demand) {
-                Some(place.start)
-            } else {
-                None
-            }
-        }
-    }
-}
-
-/// Keeps these quantities after the others, if they are not shared, and tells where they stand.
-pub(crate) fn keep(quantities: &mut Vec<u16>, shared: Option<u32>, more: &[u16]) -> u32
+/// Keeps these quantities after the others, and tells where they stand.
+pub(crate) fn keep(quantities: &mut Vec<u16>, more: &[u16]) -> u32
     requires room { length quantities.old.items + length more.now ≤ vec_capacity quantities.old }
     requires few { length quantities.old.items + length more.now < 2 ^ 32 }
-    requires shared { IfSome shared (IsSharedAt quantities.old.items more.now) }
     ensures stored { IsStoredAt quantities.old.items quantities.new.items result more.now }
     ensures capacity { vec_capacity quantities.old ≤ vec_capacity quantities.new }
 {
-    match shared {
-        Some(start) => start,
-        None => {
-            let start = quantities.len() as u32;
-            let _in_room = quantities.extend_from_slice(more);
-            start
-        }
-    }
+    let start = quantities.len() as u32;
+    let _in_room = quantities.extend_from_slice(more);
+    start
 }
 
 /// Whether quantities of so many bundles are those of a demand.
@@ -151,14 +116,8 @@ pub(crate) fn make_room(
         return Err(NoMemory);
     }
     let steps = places.len() + reports as usize;
-    match quantities.reserve(more as usize) {
-        Err(_) => Err(NoMemory),
-        Ok(()) => match places.reserve(reports as usize) {
-            Err(_) => Err(NoMemory),
-            Ok(()) => match sets.reserve(steps) {
-                Err(_) => Err(NoMemory),
-                Ok(()) => Ok(()),
-            },
-        },
-    }
+    quantities.reserve(more as usize)?;
+    places.reserve(reports as usize)?;
+    sets.reserve(steps)?;
+    Ok(())
 }

@@ -1,6 +1,6 @@
 //! The reports of a clock, packed: the quantities of all demands in one buffer, a place for each report, and the step set of each
 //! step. Reports of one demand may share its quantities.
-ghost use Rattle.std.specs.Prelude.{◌≡◌, ◌<◌, ◌≤◌, ◌+◌, ◌*◌, ◌==◌, ◌^◌, [], ◌∷◌, ◌↔◌};
+ghost use Rattle.std.specs.Prelude.{◌≡◌, ◌<◌, ◌≤◌, ◌+◌, ◌-◌, ◌*◌, ◌==◌, ◌^◌, [], ◌∷◌, ◌↔◌};
 ghost use Rattle.std.specs.Prelude.{true, ℕ, List, length, map, take, drop, max, find, is_some, option_map, slice_get, Some, OnOk, OnErr, IfOk, IfSome, IsTrue};
 ghost use Rattle.std.specs.List.{AllByRecursion, concat};
 ghost use Rattle.lot_base.specs.Demands.{IsDemand};
@@ -13,8 +13,7 @@ ghost use Rattle.clock.specs.Latest.{IsRepeat};
 ghost use Rattle.clock.specs.Past.{PastOf, again_among, with_again, with_spare, pushed, raised_on};
 
 use crate::kept_quantities::{
-    Place, has_same, is_demand, keep, latest_place, make_room, place_again, place_of,
-    quantities_at, shared_start,
+    Place, has_same, is_demand, keep, latest_place, make_room, place_again, place_of, quantities_at,
 };
 use demand_set::{Demand, Report};
 use lot_base::{GoodSet, Goods, NoMemory};
@@ -83,20 +82,16 @@ impl Past {
         }
         let reports = self.spare_reports.max(reports);
         let quantities = self.spare_quantities.max(quantities);
-        match make_room(
+        make_room(
             &mut self.quantities,
             &mut self.places,
             &mut self.sets,
             reports,
             quantities,
-        ) {
-            Ok(()) => {
-                self.spare_reports = reports;
-                self.spare_quantities = quantities;
-                Ok(())
-            }
-            Err(NoMemory) => Err(NoMemory),
-        }
+        )?;
+        self.spare_reports = reports;
+        self.spare_quantities = quantities;
+        Ok(())
     }
 
     /// Forgets that there is room for more than so many reports and quantities.
@@ -109,28 +104,16 @@ impl Past {
         self.spare_quantities = quantities;
     }
 
-    /// Adds a report after the others, in the room for it. Where the first of some reports that is of the same bidder has the same
-    /// demand, it shares its quantities. Tells whether it does.
-    pub(crate) fn push(&mut self, from: usize, reports: usize, report: &Report) -> bool
+    /// Adds a report after the others, in the room for it.
+    pub(crate) fn push(&mut self, report: &Report)
         requires room { 1 ≤ self.old.spare_reports }
         requires quantities { length (concat report.now.demand) ≤ self.old.spare_quantities }
         requires goods { AllByRecursion (λ x. length x ≡ self.old.goods) report.now.demand }
-        requires inside { from + reports ≤ length self.old.reports }
-        ensures pushed { self.new ≡ pushed self.old report.now }
-        ensures again { IsTrue result → option_map (λ (r : ReportValue). same_demand r.demand report.now.demand)
-            (find (λ (r : ReportValue). r.bidder == report.now.bidder) (take reports (drop from self.old.reports))) ≡ Some true }
+        ensures { self.new ≡ pushed self.old report.now }
     {
-        let others = self.places.split_at(from).1;
-        let shared = shared_start(
-            &self.quantities,
-            &others[..reports],
-            self.goods,
-            report.bidder,
-            &report.demand,
-        );
         let more = report.demand.quantities();
-        let start = keep(&mut self.quantities, shared, more);
-        let _in_room = self.places.push(Place {
+        let start = keep(&mut self.quantities, more);
+        self.places.push_reserved(Place {
             bidder: report.bidder,
             round: report.round,
             start,
@@ -138,7 +121,6 @@ impl Past {
         });
         self.spare_reports -= 1;
         self.spare_quantities -= more.len() as u32;
-        shared.is_some()
     }
 
     /// Adds the report of a bidder among some reports once more, in another round and in the room for it. It shares its quantities.
@@ -150,8 +132,15 @@ impl Past {
     {
         let others = self.places.split_at(from).1;
         let place = place_again(&others[..reports], bidder, round);
-        let _in_room = self.places.push(place);
+        self.places.push_reserved(place);
         self.spare_reports -= 1;
+    }
+
+    /// Takes so many quantities from the room for them, as far as there is any.
+    pub(crate) fn spend(&mut self, quantities: u32)
+        ensures { self.new ≡ with_spare self.old self.old.spare_reports (self.old.spare_quantities - quantities) }
+    {
+        self.spare_quantities = self.spare_quantities.saturating_sub(quantities);
     }
 
     /// Adds the step set of a further step, of which there are fewer than reports.
@@ -159,7 +148,7 @@ impl Past {
         requires { length self.old.sets < length self.old.reports }
         ensures { self.new ≡ raised_on self.old set }
     {
-        let _in_room = self.sets.push(set);
+        self.sets.push_reserved(set);
     }
 
     /// How many reports there are.

@@ -38,7 +38,7 @@ impl Clock {
         if self.steps == 0 {
             return false;
         }
-        self.present.is_empty()
+        self.left == member_count(self.terms.bidders, self.number)
     }
 
     fn repeat_idle(&mut self, rounds: u32) -> Result<u32, NoMemory>
@@ -57,15 +57,11 @@ impl Clock {
         let Some(room) = reports.checked_add(most * members as u32) else {
             return Err(NoMemory);
         };
-        match self.past.reserve(room, quantities) {
-            Ok(()) => {
-                let added = self.repeat_rounds(most);
-                let _left = self.steps_left();
-                self.past.keep_spare(reports, quantities);
-                Ok(added)
-            }
-            Err(NoMemory) => Err(NoMemory),
-        }
+        self.past.reserve(room, quantities)?;
+        let added = self.repeat_rounds(most);
+        let _left = self.steps_left();
+        self.past.keep_spare(reports, quantities);
+        Ok(added)
     }
 
     /// How many more steps there may be.

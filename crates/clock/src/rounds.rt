@@ -1,49 +1,36 @@
 //! What the reports of a round say.
-ghost use Rattle.std.specs.Prelude.{◌≡◌, ◌<◌, ◌≤◌, ℕ, length, take, find, is_none, option_copied, slice_index};
+ghost use Rattle.std.specs.Prelude.{◌≡◌, ◌<◌, ◌≤◌, ℕ, length, take, find, not, false, option_copied, slice_index, slice_index_or};
 ghost use Rattle.lot_base.specs.declared.limits.TheConstants.{MOST_BIDDERS};
 ghost use Rattle.lot_base.specs.Goods.{AllBelow};
 ghost use Rattle.lyapunov.specs.Paths.{prices_along as along};
-ghost use Rattle.clock.specs.Reports.{members, most_reports, is_named, demand_in, set_numbers};
+ghost use Rattle.clock.specs.Reports.{members, most_reports, set_numbers};
+ghost use Rattle.clock.specs.Kept.{demand_at};
 
-use demand_set::{Demand, Report};
+use demand_set::Demand;
 use lot_base::{GoodSet, Prices, Terms};
 
-/// The demand of the first report of a bidder in a round.
-pub fn find_demand(reports: &[Report], round: u32, bidder: u8) -> Option<&Demand>
-    ensures { option_copied result ≡ demand_in reports.now round bidder }
+/// The demand of a bidder that has reported, of the latest demands and who has reported, each at the bidder's number.
+pub(crate) fn demand_at<'a>(
+    latest: &'a [Option<Demand>],
+    reported: &[bool; 13],
+    bidder: u8,
+) -> Option<&'a Demand>
+    ensures { option_copied result ≡ demand_at latest.now reported.now bidder }
 {
-    match find_report(reports, round, bidder) {
-        Some(report) => Some(&report.demand),
-        None => None,
+    match reported.get(bidder as usize) {
+        Some(true) => latest.get(bidder as usize)?.as_ref(),
+        _ => None,
     }
 }
 
-fn find_report(reports: &[Report], round: u32, bidder: u8) -> Option<&Report>
-    ensures { option_copied result ≡ find (is_named round bidder) reports.now }
-{
-    reports
-        .iter()
-        .find(|report| report.round == round && report.bidder == bidder)
-}
-
-/// Whether a bidder has no report in a round.
-fn is_absent(reports: &[Report], round: u32, bidder: u8) -> bool
-    ensures { result ≡ is_none (demand_in reports.now round bidder) }
-{
-    match find_demand(reports, round, bidder) {
-        Some(_) => false,
-        None => true,
-    }
-}
-
-/// The first member without a report in a round.
-pub fn missing_in(bidders: u8, clock: u8, reports: &[Report], round: u32) -> Option<u8>
+/// The first member that has not reported.
+pub(crate) fn missing_in(bidders: u8, clock: u8, reported: &[bool; 13]) -> Option<u8>
     requires { bidders ≤ MOST_BIDDERS }
-    ensures { result ≡ find (λ j. is_none (demand_in reports.now round j)) (members bidders clock) }
+    ensures { result ≡ find (λ j. not (slice_index_or reported.now j false)) (members bidders clock) }
 {
     for step in 0..bidders {
         let bidder = step + 1;
-        if bidder != clock && is_absent(reports, round, bidder) {
+        if bidder != clock && !reported[bidder as usize] {
             return Some(bidder);
         }
     }

@@ -25,6 +25,11 @@ pub record IsAdded (goods table : List ℕ) (old new : List ℤ) : Type 0 where
   pub entries : (set : ℕ) → set < 2 ^ length goods → entry new set ≡ entry old set +ℤ pos (slice_index table set)
   pub others : (set : ℕ) → 2 ^ length goods ≤ set → entry new set ≡ entry old set
 
+-- the table of a bidder is put in the place of its table before, at each set of the goods, and nowhere else
+pub record IsReplaced (goods before table : List ℕ) (old new : List ℤ) : Type 0 where
+  pub entries : (set : ℕ) → set < 2 ^ length goods → entry new set ≡ (entry old set -ℤ pos (slice_index before set)) +ℤ pos (slice_index table set)
+  pub others : (set : ℕ) → 2 ^ length goods ≤ set → entry new set ≡ entry old set
+
 -- no entry is above the most units of any set, which is the most of one good
 pub record IsSmall (table : List ℕ) : Type 0 where
   pub entries : (set : ℕ) → slice_index table set ≤ MOST_UNITS
@@ -33,3 +38,8 @@ pub record IsSmall (table : List ℕ) : Type 0 where
 pub record HasRoom (table : List ℤ) : Type 0 where
   pub at_least : (set : ℕ) → negsuc 2046 ≤ℤ entry table set
   pub at_most : (set : ℕ) → entry table set ≤ℤ pos 22517
+
+-- the same without the table of a bidder that is in it
+pub record HasRoomWithout (before : List ℕ) (table : List ℤ) : Type 0 where
+  pub at_least : (set : ℕ) → negsuc 2046 ≤ℤ entry table set
+  pub at_most : (set : ℕ) → entry table set ≤ℤ pos (22517 + slice_index before set)

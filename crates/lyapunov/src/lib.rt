@@ -4,11 +4,11 @@
 //! by just this excess.
 #![tactic(auto)]
 
-ghost use Rattle.std.specs.Prelude.{◌≡◌, ◌≤◌, ◌<◌, ◌+◌, ◌^◌, ℕ, [], List, length, slice_index, pos, ◌-ℤ◌};
+ghost use Rattle.std.specs.Prelude.{◌≡◌, ◌≤◌, ◌<◌, ◌+◌, ◌^◌, ℕ, [], List, length, slice_index, pos, negsuc, ◌+ℤ◌, ◌-ℤ◌, ◌≤ℤ◌};
 ghost use Rattle.std.specs.List.{AllByRecursion};
 ghost use Rattle.lot_base.specs.declared.limits.TheConstants.{MOST_UNITS};
 ghost use Rattle.lot_base.specs.Goods.{quantity_in};
-ghost use Rattle.lyapunov.specs.Excesses.{IsExcessOf, IsAdded, IsSmall, HasRoom};
+ghost use Rattle.lyapunov.specs.Excesses.{IsExcessOf, IsAdded, IsReplaced, IsSmall, HasRoom, HasRoomWithout};
 
 pub mod laws;
 
@@ -69,6 +69,29 @@ pub fn add_table(goods: &Goods, excess: &mut Excess, table: &LeastTable)
     for set in 0..goods.set_count() as usize {
         excess.0[set] += table.0[set] as i16;
     }
+}
+
+/// Puts the least quantities of a bidder in the place of those that it had.
+pub fn replace_table(goods: &Goods, excess: &mut Excess, old: &LeastTable, new: &LeastTable)
+    requires small_old { IsSmall old.now.0 }
+    requires small_new { IsSmall new.now.0 }
+    requires room { HasRoomWithout old.now.0 excess.old.0 }
+    ensures { IsReplaced goods.now old.now.0 new.now.0 excess.old.0 excess.new.0 }
+{
+    for number in 0..goods.set_count() as usize {
+        excess.0[number] = replaced(excess.0[number], old.0[number], new.0[number]);
+    }
+}
+
+/// An entry with so many units in the place of others.
+fn replaced(entry: i16, old: u16, new: u16) -> i16
+    requires old { old ≤ MOST_UNITS }
+    requires new { new ≤ MOST_UNITS }
+    requires at_least { negsuc 2046 ≤ℤ entry }
+    requires at_most { entry ≤ℤ pos (22517 + old) }
+    ensures { result ≡ (entry -ℤ pos old) +ℤ pos new }
+{
+    entry - old as i16 + new as i16
 }
 
 /// The excess where the bidders have these tables.

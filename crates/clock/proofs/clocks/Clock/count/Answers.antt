@@ -11,7 +11,7 @@ pub overflow_cast-result : goal.overflow_cast-result
 overflow_cast-result c =
     let i = c.self.inside in
     let h : ClockHistory = record { terms = i.terms; number = i.number; reports = i.past.reports } in
-    let n = count-reports h i.present.items i.left i.steps 0 i.phase i.prices i.account i.tables i.excess.0 c.self.invariant.0.standing c.self.invariant.0.round in
+    let n = count-reports h _ i.left i.steps 0 i.phase i.prices i.account i.tables i.excess.0 c.self.invariant.0.standing c.self.invariant.0.round in
     let f = members-few i.terms.bidders i.number in
     let b = i.terms.bidders_in_range.at_most in
     let few : length (members_of h) ≤ 12 = omega (arith, f, b) in
@@ -22,4 +22,4 @@ pub returns-clause-more : goal.returns-clause-more
 returns-clause-more c = rw (← c.self.view_is) (λ r take.
     let i = c.self.inside in
     let h : ClockHistory = record { terms = i.terms; number = i.number; reports = i.past.reports } in
-    more-reports h r i.present.items i.left i.steps i.phase i.prices i.account i.tables i.excess.0 c.self.invariant.0.standing c.self.invariant.0.round take)
+    more-reports h r _ i.left i.steps i.phase i.prices i.account i.tables i.excess.0 c.self.invariant.0.standing c.self.invariant.0.round take)

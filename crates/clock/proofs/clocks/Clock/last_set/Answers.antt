@@ -12,7 +12,7 @@ bounds-sets-self-inside c =
     let h : ClockHistory = record { terms = i.terms; number = i.number; reports = i.past.reports } in
     let I : ClockOf → Type 0 = λ z. IsIdle z.history in
     let l = ap length c.sets.ensures in
-    let b = last-inside h i.past i.present.items i.left i.steps i.phase i.prices i.tables i.excess.0 i.account _ c.self.invariant.0 (subst I (sym c.self.view_is) c.requires) in
+    let b = last-inside h i.past i.left i.steps i.phase i.prices i.tables i.excess.0 i.account c.self.invariant.0 (subst I (sym c.self.view_is) c.requires) in
     omega (arith, l, b)
 
 pub returns : goal.returns
@@ -21,5 +21,5 @@ returns c =
     let h : ClockHistory = record { terms = i.terms; number = i.number; reports = i.past.reports } in
     let I : ClockOf → Type 0 = λ z. IsIdle z.history in
     ap (λ (sets : List GoodSet). (get_or sets (i.steps - 1) (record { 0 = 0 })).0) c.sets.ensures
-    ∙ last-is h i.past i.present.items i.left i.steps i.phase i.prices i.tables i.excess.0 i.account _ c.self.invariant.0 (subst I (sym c.self.view_is) c.requires)
+    ∙ last-is h i.past i.left i.steps i.phase i.prices i.tables i.excess.0 i.account c.self.invariant.0 (subst I (sym c.self.view_is) c.requires)
     ∙ ap (λ (z : ClockOf). step_set_after z.history (steps_of z.history - 1)) c.self.view_is

@@ -17,6 +17,6 @@ returns c =
     let h : ClockHistory = record { terms = i.terms; number = i.number; reports = i.past.reports } in
     let I : ClockOf → Type 0 = λ z. IsIdle z.history in
     flip c.first_at.result c.is_none.result c.is_none.ensures
-    ∙ leads-by h i.past i.present.items i.left i.steps i.phase i.prices i.tables i.excess.0 i.account _ c.args.set.0 c.first_at.result c.self.invariant.0 (subst I (sym c.self.view_is) c.requires.idle)
+    ∙ leads-by h i.past i.left i.steps i.phase i.prices i.tables i.excess.0 i.account c.args.set.0 c.first_at.result c.self.invariant.0 (subst I (sym c.self.view_is) c.requires.idle)
     (c.requires.same ∙ ap (λ (z : ClockOf). step_set_after z.history (steps_of z.history - 1)) (sym c.self.view_is)) c.first_at.ensures
     ∙ ap (λ (z : ClockOf). leads_on (with_round z.history) (steps_of z.history)) c.self.view_is

@@ -30,5 +30,5 @@ returns-clause-last c = λ idle none.
     let h : ClockHistory = record { terms = i.terms; number = i.number; reports = i.past.reports } in
     let I : ClockOf → Type 0 = λ z. IsIdle z.history in
     let k = ap (λ n. n * i.terms.ceiling) c.count.ensures.length in
-    let l = left-none h i.past i.present.items i.left i.steps i.phase i.prices i.tables i.excess.0 i.account _ c.self.invariant.0 (subst I (sym c.self.view_is) idle) (omega (arith, k, none)) in
+    let l = left-none h i.past i.left i.steps i.phase i.prices i.tables i.excess.0 i.account c.self.invariant.0 (subst I (sym c.self.view_is) idle) (omega (arith, k, none)) in
     sym (ap (λ (z : ClockOf). leads_on (with_round z.history) (steps_of z.history)) c.self.view_is) ∙ l

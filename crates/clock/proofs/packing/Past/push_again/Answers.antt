@@ -1,12 +1,12 @@
-use Rattle.std.proofs.Common.{◌≡◌, ◌<◌, ◌-◌, ◌∙◌, ◌∷◌, [], sym, ap, subst, arith, length, length-append, length-drop, take, drop, true, nat_eq}
+use Rattle.std.proofs.Common.{◌≡◌, ◌-◌, ◌∙◌, ◌∷◌, [], sym, ap, subst, arith, length, length-append, length-drop, take, drop, true, nat_eq}
 use Rattle.std.specs.Prelude.{find, is_some}
-use Rattle.std.specs.Vec.{vec_len, vec_capacity}
+use Rattle.std.specs.Vec.{vec_len}
 use Rattle.std.proofs.lemmas.List.{length-take-le}
 use Rattle.demand_set.specs.declared.reports.Report.{Report}
 use Rattle.clock.specs.declared.kept_quantities.Place.{Place}
 use Rattle.clock.specs.Past.{PastOf, again_among, with_again}
 use Rattle.clock.proofs.Appended.{length-history}
-use Rattle.clock.proofs.Stored.{is-there, again-history, again-fits, in-room, pushed-items}
+use Rattle.clock.proofs.Stored.{is-there, again-history, again-fits}
 use Rattle.clock.proofs.packing.Past.push_again.Goals as goal
 
 pub split_at-requires : goal.split_at-requires
@@ -26,6 +26,13 @@ slice_bounds-place_again-end c =
     let r = c.requires.inside in
     sym (length-take-le c.args.reports c.split_at.result.1.now (omega (arith, e, l, d, b, r)))
 
+pub push_reserved-requires : goal.push_reserved-requires
+push_reserved-requires c =
+    let inside = c.self.inside in
+    let spare = ap (λ (v : PastOf). v.spare_reports) c.self.view_is in
+    let size : vec_len inside.places ≡ length inside.places.items = omega (arith, inside.places.ok) in
+    omega (arith, size, spare, c.requires.room, c.self.invariant.places_in)
+
 pub invariant_of-self : goal.invariant_of-self
 invariant_of-self c =
     let inside = c.self.inside in
@@ -38,16 +45,13 @@ invariant_of-self c =
     let there = is-there goods c.args.from c.args.reports c.args.bidder q places (subst T (sym c.self.view_is) c.requires.there) in
     let slice : take c.args.reports c.split_at.result.1.now ≡ take c.args.reports (drop c.args.from places) = ap (take c.args.reports) (c.split_at.ensures.back ∙ ap (drop c.args.from) c.deref.ensures.value) in
     let is = c.place_again-place.ensures there.place (ap (λ ps. find (λ (p : Place). nat_eq p.bidder c.args.bidder) ps) slice ∙ there.found) in
-    let size : vec_len inside.places ≡ length places = omega (arith, inside.places.ok) in
-    let below : vec_len inside.places < vec_capacity inside.places = omega (arith, size, spare, one, c.self.invariant.places_in) in
-    let ok = in-room c.push-in_room.result (vec_capacity inside.places) (vec_len inside.places) c.push-in_room.ensures.full below in
-    let items = pushed-items c.push-in_room.result places c.push-in_room.new.self.items c.place_again-place.result ok c.push-in_room.ensures.items in
+    let items = c.push_reserved.ensures.items in
     let n = ap length items ∙ length-append places (c.place_again-place.result ∷ []) in
-    let up = c.push-in_room.ensures.capacity in
+    let up = c.push_reserved.ensures.capacity in
     record {
       some_good = c.self.invariant.some_good;
       few_goods = c.self.invariant.few_goods;
-      fit = again-fits goods c.args.from c.args.reports c.args.bidder c.args.round q places c.push-in_room.new.self.items there.place c.place_again-place.result there.found is items c.self.invariant.fit;
+      fit = again-fits goods c.args.from c.args.reports c.args.bidder c.args.round q places c.push_reserved.new.self.items there.place c.place_again-place.result there.found is items c.self.invariant.fit;
       quantities_in = c.self.invariant.quantities_in;
       places_in = omega (arith, n, spare, one, up, c.self.invariant.places_in);
       sets_in = omega (arith, n, spare, one, c.self.invariant.sets_in);
@@ -66,10 +70,7 @@ returns c =
     let there = is-there goods c.args.from c.args.reports c.args.bidder q places (subst T (sym c.self.view_is) c.requires.there) in
     let slice : take c.args.reports c.split_at.result.1.now ≡ take c.args.reports (drop c.args.from places) = ap (take c.args.reports) (c.split_at.ensures.back ∙ ap (drop c.args.from) c.deref.ensures.value) in
     let is = c.place_again-place.ensures there.place (ap (λ ps. find (λ (p : Place). nat_eq p.bidder c.args.bidder) ps) slice ∙ there.found) in
-    let size : vec_len inside.places ≡ length places = omega (arith, inside.places.ok) in
-    let below : vec_len inside.places < vec_capacity inside.places = omega (arith, size, spare, one, c.self.invariant.places_in) in
-    let ok = in-room c.push-in_room.result (vec_capacity inside.places) (vec_len inside.places) c.push-in_room.ensures.full below in
-    let items = pushed-items c.push-in_room.result places c.push-in_room.new.self.items c.place_again-place.result ok c.push-in_room.ensures.items in
-    let history = again-history goods c.args.from c.args.reports c.args.bidder c.args.round q places c.push-in_room.new.self.items there.place c.place_again-place.result there.found is items c.self.invariant.fit in
+    let items = c.push_reserved.ensures.items in
+    let history = again-history goods c.args.from c.args.reports c.args.bidder c.args.round q places c.push_reserved.new.self.items there.place c.place_again-place.result there.found is items c.self.invariant.fit in
     (λ i. record { goods = goods; reports = history i; sets = inside.sets.items; spare_reports = inside.spare_reports - 1; spare_quantities = inside.spare_quantities })
     ∙ ap (λ (v : PastOf). with_again v (again_among (take c.args.reports (drop c.args.from v.reports)) c.args.round c.args.bidder ∷ [])) c.self.view_is
