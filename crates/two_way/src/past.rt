@@ -89,7 +89,7 @@ impl Past {
                 let bidder = report.bidder;
                 let round = report.round;
                 let number = keep(&self.goods, &mut self.demands, found, report.demand);
-                let _in_room = self.places.push(Place {
+                self.places.push_reserved(Place {
                     bidder,
                     round,
                     number,
@@ -110,7 +110,7 @@ impl Past {
     {
         let number = number_in(self.places.split_at(from).1, round, bidder);
         make_place(&mut self.places)?;
-        let _in_room = self.places.push(Place {
+        self.places.push_reserved(Place {
             bidder,
             round: round + 1,
             number,
@@ -237,7 +237,7 @@ fn keep(goods: &Goods, demands: &mut Vec<Kept>, found: Option<usize>, demand: De
         None => {
             let number = demands.len();
             let least = demand.least_table(goods);
-            let _in_room = demands.push(Kept { demand, least });
+            demands.push_reserved(Kept { demand, least });
             number
         }
     }

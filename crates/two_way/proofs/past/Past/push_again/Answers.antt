@@ -1,8 +1,6 @@
-use Rattle.std.proofs.Common.{◌≡◌, ◌∙◌, ◌++◌, ◌+◌, [], ◌∷◌, length, drop, true, sym, ap, subst, arith}
+use Rattle.std.proofs.Common.{◌≡◌, ◌∙◌, ◌++◌, ◌+◌, [], ◌∷◌, drop, true, sym, ap, subst}
 use Rattle.std.specs.Prelude.{is_some}
-use Rattle.std.specs.Vec.{vec_len, vec_capacity}
 use Rattle.clock.specs.Reports.{demand_in, demands_in}
-use Rattle.clock.proofs.Stored.{in-room, pushed-items}
 use Rattle.two_way.specs.declared.past.Place.{Place}
 use Rattle.two_way.specs.Past.{PastOf, with_report}
 use Rattle.two_way.proofs.Pasts.{named_place, says-again}
@@ -13,16 +11,12 @@ invariant_of-self-2 c =
     let old = c.self.inside in
     let places = c.make_place.new.places in
     let same = c.in_ok-make_place.ensures.places in
-    let long = ap length same in
-    let size : vec_len places ≡ length places.items = omega (arith, places.ok) in
-    let room = c.in_ok-make_place.ensures.room in
-    let ok = in-room c.push-in_room.result (vec_capacity places) (vec_len places) c.push-in_room.ensures.full (omega (arith, size, long, room)) in
     let q : Place = record { bidder = c.args.bidder; round = c.args.round + 1; number = c.number_in-number.result } in
-    let items = pushed-items c.push-in_room.result places.items c.push-in_room.new.self.items q ok c.push-in_room.ensures.items ∙ ap (λ ps. ps ++ q ∷ []) same in
+    let items = c.push_reserved.ensures.items ∙ ap (λ ps. ps ++ q ∷ []) same in
     let back = c.split_at.ensures.back ∙ ap (drop c.args.from) c.deref.ensures.value in
     let P : PastOf → Type 0 = λ p. is_some (demand_in (drop c.args.from p.reports) c.args.round c.args.bidder) ≡ true in
     let some = subst P (sym c.self.view_is) c.requires.there in (
-      (says-again old.demands.items old.places.items c.push-in_room.new.self.items c.args.from c.args.round c.args.bidder c.number_in-number.result c.self.invariant.0 some
+      (says-again old.demands.items old.places.items c.push_reserved.new.self.items c.args.from c.args.round c.args.bidder c.number_in-number.result c.self.invariant.0 some
           (λ p e. c.number_in-number.ensures p (ap (named_place c.args.round c.args.bidder) back ∙ e)) items).there,
       c.self.invariant.1,
     )
@@ -32,16 +26,12 @@ returns-clause-ok c =
     let old = c.self.inside in
     let places = c.make_place.new.places in
     let same = c.in_ok-make_place.ensures.places in
-    let long = ap length same in
-    let size : vec_len places ≡ length places.items = omega (arith, places.ok) in
-    let room = c.in_ok-make_place.ensures.room in
-    let ok = in-room c.push-in_room.result (vec_capacity places) (vec_len places) c.push-in_room.ensures.full (omega (arith, size, long, room)) in
     let q : Place = record { bidder = c.args.bidder; round = c.args.round + 1; number = c.number_in-number.result } in
-    let items = pushed-items c.push-in_room.result places.items c.push-in_room.new.self.items q ok c.push-in_room.ensures.items ∙ ap (λ ps. ps ++ q ∷ []) same in
+    let items = c.push_reserved.ensures.items ∙ ap (λ ps. ps ++ q ∷ []) same in
     let back = c.split_at.ensures.back ∙ ap (drop c.args.from) c.deref.ensures.value in
     let P : PastOf → Type 0 = λ p. is_some (demand_in (drop c.args.from p.reports) c.args.round c.args.bidder) ≡ true in
     let some = subst P (sym c.self.view_is) c.requires.there in
-    let reports = (says-again old.demands.items old.places.items c.push-in_room.new.self.items c.args.from c.args.round c.args.bidder c.number_in-number.result c.self.invariant.0 some
+    let reports = (says-again old.demands.items old.places.items c.push_reserved.new.self.items c.args.from c.args.round c.args.bidder c.number_in-number.result c.self.invariant.0 some
     (λ p e. c.number_in-number.ensures p (ap (named_place c.args.round c.args.bidder) back ∙ e)) items).reports in
     (λ i. record { goods = old.goods; reports = reports i })
     ∙ ap (λ (p : PastOf). with_report p (record { bidder = c.args.bidder; round = c.args.round + 1; demand = demands_in (drop c.args.from p.reports) c.args.round c.args.bidder })) c.self.view_is
