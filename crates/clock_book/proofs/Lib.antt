@@ -7,6 +7,7 @@ pub mod OneAnswer
 pub mod Histories
 pub mod Sizes
 pub mod Nexts
+pub mod Appending
 pub mod Pasts
 pub mod Mending
 pub mod Begun

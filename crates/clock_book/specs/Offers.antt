@@ -1,5 +1,5 @@
 -- What an offer does to a book.
-use Rattle.std.specs.Prelude.{◌≡◌, ◌≢◌, ◌⊎◌, ℕ, ◌+◌, ◌<◌, ◌≤◌, List, [], ◌∷◌, ◌++◌, length, slice_index, IsTrue, Option, Some, None, IsSome}
+use Rattle.std.specs.Prelude.{◌≡◌, ◌≢◌, ◌⊎◌, ℕ, ◌+◌, ◌<◌, ◌≤◌, List, [], ◌∷◌, ◌++◌, length, slice_index, Option, Some, None, IsSome}
 use Rattle.house_io.specs.Disks.{DiskShown, IfDiskTells, IfDiskTold, IsLater}
 use Rattle.lot_base.specs.declared.limits.TheConstants.{GREATEST_FILE}
 use Rattle.demand_set.specs.declared.reports.Report.{Report}

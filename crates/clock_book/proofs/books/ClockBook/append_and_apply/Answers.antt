@@ -1,19 +1,17 @@
 -- The journal is full, the disk fails, or the report is taken.
-use Rattle.std.proofs.Common.{◌≡◌, ◌∙◌, ◌+◌, ◌≤◌, ℕ, IsTrue, List, length, Some, None, Err, refl, sym, ap, subst, arith}
+use Rattle.std.proofs.Common.{◌≡◌, ◌∙◌, ◌+◌, ◌≤◌, ℕ, IsTrue, List, length, Some, Err, refl, ap, subst, arith}
 use Rattle.house_io.specs.Disks.{is_told, told_moments}
-use Rattle.std.specs.Option.{option_map}
 use Rattle.lot_base.specs.declared.limits.TheConstants.{GREATEST_FILE}
-use Rattle.clock.specs.Reports.{ClockHistory}
 use Rattle.house_io.specs.Moments.{AtEach}
 use Rattle.report_journal.specs.Puts.{IsBeforeOrAfter, with_one_more}
 use Rattle.report_journal.specs.declared.faults.JournalFault.TheVariants as fault
 use Rattle.recovery.specs.Entries.{payload_of}
-use Rattle.clock_book.specs.Past.{owner_in, IsNext}
+use Rattle.clock_book.specs.Past.{owner_in}
 use Rattle.clock_book.specs.Books.{kept_for}
 use Rattle.clock_book.specs.Offers.{record_end}
 use Rattle.clock_book.specs.declared.entries.Entry.TheVariants as entry
 use Rattle.clock_book.proofs.Pasts.{at-either}
-use Rattle.clock_book.proofs.Nexts.{next-report}
+use Rattle.clock_book.proofs.Appending.{at-hand}
 use Rattle.clock_book.proofs.Sizes.{room-for}
 use Rattle.clock_book.proofs.Mending.{one-more, put-in-doubt, needed-is}
 use Rattle.clock_book.proofs.books.ClockBook.append_and_apply.Goals as goal
@@ -24,17 +22,11 @@ take-requires-clause-room g c =
     let j = b.journal in
     let k = c.append_hinted.new.self in
     let r = c.args.report in
-    let owner = owner_in b.start in
-    let payload = payload_of (length b.start.terms.goods) in
-    let none : b.pending ≡ None = ap (λ v. v.state.pending) c.self.view_is ∙ c.requires.settled in
-    let jnone : j.pending ≡ None = c.self.invariant.in_doubt ∙ ap (option_map payload) none in
-    let pay : c.as_slice.result.now ≡ payload r = c.as_slice.ensures ∙ c.fill.ensures.payload ∙ ap (λ t. payload_of (length t.goods) r) c.terms.ensures in
-    let N : ClockHistory → Type 0 = λ h. IsNext h r in
-    let next : IsNext b.noted.clock r = subst N (ap (λ v. v.state.clock) (sym c.self.view_is)) (record { take = c.requires.take; fits = c.requires.fits }) in
-    let report = next-report b.start.terms b.noted.clock r c.self.invariant.terms next in
-    let same : j.end + 6 + length c.as_slice.result.now ≡ record_end owner b.noted.clock.reports r = ap (λ p. j.end + 6 + length p) pay ∙ needed-is j j (IsTrue (is_told (g.D.Disk.shown j.disk))) (IsTrue (is_told (g.D.Disk.shown j.disk))) (told_moments (g.D.Disk.shown j.disk)) (told_moments (g.D.Disk.shown j.disk)) (g.D.Disk.shown j.disk).faults (g.D.Disk.shown j.disk).faults b.noted b.pending b.start c.self.invariant (λ t. t) (omega arith) r in
-    let within : record_end owner b.noted.clock.reports r ≤ GREATEST_FILE = subst (λ m. m ≤ GREATEST_FILE) same c.in-Ok.ensures.answer.0.fits in
-    let room = room-for owner b.noted (j.spare + kept_for b.pending) r c.self.invariant.room c.self.invariant.terms c.self.invariant.are report (c.clock-more.ensures.more r next.take) within in
+    let h = at-hand b.start b.noted.clock c.args.self.now.state.clock b.pending c.args.self.now.state.pending j.pending r c.as_slice.result.now c.self.invariant.terms c.self.invariant.in_doubt (ap (λ v. v.state.pending) c.self.view_is) c.requires.settled
+    (c.as_slice.ensures ∙ c.fill.ensures.payload ∙ ap (λ t. payload_of (length t.goods) r) c.terms.ensures) (ap (λ v. v.state.clock) c.self.view_is) c.requires.take c.requires.fits in
+    let same : j.end + 6 + length c.as_slice.result.now ≡ record_end (owner_in b.start) b.noted.clock.reports r = ap (λ p. j.end + 6 + length p) h.spelled ∙ needed-is j j (IsTrue (is_told (g.D.Disk.shown j.disk))) (IsTrue (is_told (g.D.Disk.shown j.disk))) (told_moments (g.D.Disk.shown j.disk)) (told_moments (g.D.Disk.shown j.disk)) (g.D.Disk.shown j.disk).faults (g.D.Disk.shown j.disk).faults b.noted b.pending b.start c.self.invariant (λ t. t) (omega arith) r in
+    let within : record_end (owner_in b.start) b.noted.clock.reports r ≤ GREATEST_FILE = subst (λ m. m ≤ GREATEST_FILE) same c.in-Ok.ensures.answer.0.fits in
+    let room = room-for (owner_in b.start) b.noted (j.spare + kept_for b.pending) r c.self.invariant.room c.self.invariant.terms c.self.invariant.are h.report (c.clock-more.ensures.more r h.next.take) within in
     room.0
 
 pub invariant_of-self : goal.invariant_of-self
@@ -43,20 +35,14 @@ invariant_of-self g c =
     let j = b.journal in
     let k = c.append_hinted.new.self in
     let r = c.args.report in
-    let owner = owner_in b.start in
-    let payload = payload_of (length b.start.terms.goods) in
-    let none : b.pending ≡ None = ap (λ v. v.state.pending) c.self.view_is ∙ c.requires.settled in
-    let jnone : j.pending ≡ None = c.self.invariant.in_doubt ∙ ap (option_map payload) none in
-    let pay : c.as_slice.result.now ≡ payload r = c.as_slice.ensures ∙ c.fill.ensures.payload ∙ ap (λ t. payload_of (length t.goods) r) c.terms.ensures in
-    let N : ClockHistory → Type 0 = λ h. IsNext h r in
-    let next : IsNext b.noted.clock r = subst N (ap (λ v. v.state.clock) (sym c.self.view_is)) (record { take = c.requires.take; fits = c.requires.fits }) in
-    let report = next-report b.start.terms b.noted.clock r c.self.invariant.terms next in
+    let h = at-hand b.start b.noted.clock c.args.self.now.state.clock b.pending c.args.self.now.state.pending j.pending r c.as_slice.result.now c.self.invariant.terms c.self.invariant.in_doubt (ap (λ v. v.state.pending) c.self.view_is) c.requires.settled
+    (c.as_slice.ensures ∙ c.fill.ensures.payload ∙ ap (λ t. payload_of (length t.goods) r) c.terms.ensures) (ap (λ v. v.state.clock) c.self.view_is) c.requires.take c.requires.fits in
     let A : List ℕ → Type 0 = λ p. AtEach (IsBeforeOrAfter j.contents p) (told_moments (g.D.Disk.shown j.disk)) (told_moments (g.D.Disk.shown k.disk)) in
-    let call : IsTrue (is_told (g.D.Disk.shown k.disk)) → A (payload r) = λ t. subst A pay (c.append_hinted.ensures.writes.2.leaves jnone t).stand in
+    let call : IsTrue (is_told (g.D.Disk.shown k.disk)) → A (payload_of (length b.start.terms.goods) r) = λ t. subst A h.spelled (c.append_hinted.ensures.writes.2.leaves h.undoubted t).stand in
     let answer = c.in-Ok.ensures.answer in
-    let zero : kept_for b.pending ≡ 0 = ap kept_for none in
-    rw none (one-more j k (IsTrue (is_told (g.D.Disk.shown j.disk))) (IsTrue (is_told (g.D.Disk.shown k.disk))) (told_moments (g.D.Disk.shown j.disk)) (told_moments (g.D.Disk.shown k.disk)) (g.D.Disk.shown j.disk).faults (g.D.Disk.shown k.disk).faults b.noted b.pending b.start c.self.invariant c.append_hinted.ensures.later.told (omega (arith, c.in-Ok.ensures.faults)) c.take.new.self r (entry.Offered r) next answer.2
-    (answer.1.end ∙ ap (λ p. j.end + 5 + length p) pay) (omega (arith, answer.3, zero)) (λ t. (c.in-Ok.ensures.writes.2.end t).0 ∙ ap (with_one_more j.contents) pay) call
+    let zero : kept_for b.pending ≡ 0 = ap kept_for h.settled in
+    rw h.settled (one-more j k (IsTrue (is_told (g.D.Disk.shown j.disk))) (IsTrue (is_told (g.D.Disk.shown k.disk))) (told_moments (g.D.Disk.shown j.disk)) (told_moments (g.D.Disk.shown k.disk)) (g.D.Disk.shown j.disk).faults (g.D.Disk.shown k.disk).faults b.noted b.pending b.start c.self.invariant c.append_hinted.ensures.later.told (omega (arith, c.in-Ok.ensures.faults)) c.take.new.self r (entry.Offered r) h.next answer.2
+    (answer.1.end ∙ ap (λ p. j.end + 5 + length p) h.spelled) (omega (arith, answer.3, zero)) (λ t. (c.in-Ok.ensures.writes.2.end t).0 ∙ ap (with_one_more j.contents) h.spelled) call
     c.take.ensures.clock c.take.ensures.history refl refl c.take.ensures.reports c.take.ensures.quantities)
 
 pub invariant_of-self-in-Err-DiskFault : goal.invariant_of-self-in-Err-DiskFault
@@ -65,23 +51,17 @@ invariant_of-self-in-Err-DiskFault g c =
     let j = b.journal in
     let k = c.append_hinted.new.self in
     let r = c.args.report in
-    let owner = owner_in b.start in
-    let payload = payload_of (length b.start.terms.goods) in
-    let none : b.pending ≡ None = ap (λ v. v.state.pending) c.self.view_is ∙ c.requires.settled in
-    let jnone : j.pending ≡ None = c.self.invariant.in_doubt ∙ ap (option_map payload) none in
-    let pay : c.as_slice.result.now ≡ payload r = c.as_slice.ensures ∙ c.fill.ensures.payload ∙ ap (λ t. payload_of (length t.goods) r) c.terms.ensures in
-    let N : ClockHistory → Type 0 = λ h. IsNext h r in
-    let next : IsNext b.noted.clock r = subst N (ap (λ v. v.state.clock) (sym c.self.view_is)) (record { take = c.requires.take; fits = c.requires.fits }) in
-    let report = next-report b.start.terms b.noted.clock r c.self.invariant.terms next in
+    let h = at-hand b.start b.noted.clock c.args.self.now.state.clock b.pending c.args.self.now.state.pending j.pending r c.as_slice.result.now c.self.invariant.terms c.self.invariant.in_doubt (ap (λ v. v.state.pending) c.self.view_is) c.requires.settled
+    (c.as_slice.ensures ∙ c.fill.ensures.payload ∙ ap (λ t. payload_of (length t.goods) r) c.terms.ensures) (ap (λ v. v.state.clock) c.self.view_is) c.requires.take c.requires.fits in
     let A : List ℕ → Type 0 = λ p. AtEach (IsBeforeOrAfter j.contents p) (told_moments (g.D.Disk.shown j.disk)) (told_moments (g.D.Disk.shown k.disk)) in
-    let call : IsTrue (is_told (g.D.Disk.shown k.disk)) → A (payload r) = λ t. subst A pay (c.append_hinted.ensures.writes.2.leaves jnone t).stand in
+    let call : IsTrue (is_told (g.D.Disk.shown k.disk)) → A (payload_of (length b.start.terms.goods) r) = λ t. subst A h.spelled (c.append_hinted.ensures.writes.2.leaves h.undoubted t).stand in
     let was : c.append_hinted.result ≡ Err fault.DiskFault = c.in-Err-DiskFault.is ∙ ap (λ x. Err x) c.in-Err-DiskFault.field-0-is in
     let answer = rw was at c.append_hinted.ensures.answer in
     let counts = rw was at c.append_hinted.ensures.faults in
-    let same : j.end + 6 + length c.as_slice.result.now ≡ record_end owner b.noted.clock.reports r = ap (λ p. j.end + 6 + length p) pay ∙ needed-is j j (IsTrue (is_told (g.D.Disk.shown j.disk))) (IsTrue (is_told (g.D.Disk.shown j.disk))) (told_moments (g.D.Disk.shown j.disk)) (told_moments (g.D.Disk.shown j.disk)) (g.D.Disk.shown j.disk).faults (g.D.Disk.shown j.disk).faults b.noted b.pending b.start c.self.invariant (λ t. t) (omega arith) r in
-    let within : record_end owner b.noted.clock.reports r ≤ GREATEST_FILE = subst (λ m. m ≤ GREATEST_FILE) same answer.0.fits in
-    let room = room-for owner b.noted (j.spare + kept_for b.pending) r c.self.invariant.room c.self.invariant.terms c.self.invariant.are report (c.clock-more.ensures.more r next.take) within in
-    put-in-doubt j k (IsTrue (is_told (g.D.Disk.shown j.disk))) (IsTrue (is_told (g.D.Disk.shown k.disk))) (told_moments (g.D.Disk.shown j.disk)) (told_moments (g.D.Disk.shown k.disk)) (g.D.Disk.shown j.disk).faults (g.D.Disk.shown k.disk).faults b.noted b.pending b.start c.self.invariant c.append_hinted.ensures.later.told counts.0 c.mark.new.self r none next room.0 (answer.2 ∙ ap (λ p. Some p) pay) answer.1.end (omega (arith, answer.3))
+    let same : j.end + 6 + length c.as_slice.result.now ≡ record_end (owner_in b.start) b.noted.clock.reports r = ap (λ p. j.end + 6 + length p) h.spelled ∙ needed-is j j (IsTrue (is_told (g.D.Disk.shown j.disk))) (IsTrue (is_told (g.D.Disk.shown j.disk))) (told_moments (g.D.Disk.shown j.disk)) (told_moments (g.D.Disk.shown j.disk)) (g.D.Disk.shown j.disk).faults (g.D.Disk.shown j.disk).faults b.noted b.pending b.start c.self.invariant (λ t. t) (omega arith) r in
+    let within : record_end (owner_in b.start) b.noted.clock.reports r ≤ GREATEST_FILE = subst (λ m. m ≤ GREATEST_FILE) same answer.0.fits in
+    let room = room-for (owner_in b.start) b.noted (j.spare + kept_for b.pending) r c.self.invariant.room c.self.invariant.terms c.self.invariant.are h.report (c.clock-more.ensures.more r h.next.take) within in
+    put-in-doubt j k (IsTrue (is_told (g.D.Disk.shown j.disk))) (IsTrue (is_told (g.D.Disk.shown k.disk))) (told_moments (g.D.Disk.shown j.disk)) (told_moments (g.D.Disk.shown k.disk)) (g.D.Disk.shown j.disk).faults (g.D.Disk.shown k.disk).faults b.noted b.pending b.start c.self.invariant c.append_hinted.ensures.later.told counts.0 c.mark.new.self r h.settled h.next room.0 (answer.2 ∙ ap (λ p. Some p) h.spelled) answer.1.end (omega (arith, answer.3))
     (λ t. rw was at (c.append_hinted.ensures.writes.2.end t)) counts.1 call c.mark.ensures.clock c.mark.ensures.history c.mark.ensures.reports c.mark.ensures.quantities
 
 pub returns-in-Ok-clause-moments : goal.returns-in-Ok-clause-moments
@@ -90,17 +70,11 @@ returns-in-Ok-clause-moments g c =
     let j = b.journal in
     let k = c.append_hinted.new.self in
     let r = c.args.report in
-    let owner = owner_in b.start in
-    let payload = payload_of (length b.start.terms.goods) in
-    let none : b.pending ≡ None = ap (λ v. v.state.pending) c.self.view_is ∙ c.requires.settled in
-    let jnone : j.pending ≡ None = c.self.invariant.in_doubt ∙ ap (option_map payload) none in
-    let pay : c.as_slice.result.now ≡ payload r = c.as_slice.ensures ∙ c.fill.ensures.payload ∙ ap (λ t. payload_of (length t.goods) r) c.terms.ensures in
-    let N : ClockHistory → Type 0 = λ h. IsNext h r in
-    let next : IsNext b.noted.clock r = subst N (ap (λ v. v.state.clock) (sym c.self.view_is)) (record { take = c.requires.take; fits = c.requires.fits }) in
-    let report = next-report b.start.terms b.noted.clock r c.self.invariant.terms next in
+    let h = at-hand b.start b.noted.clock c.args.self.now.state.clock b.pending c.args.self.now.state.pending j.pending r c.as_slice.result.now c.self.invariant.terms c.self.invariant.in_doubt (ap (λ v. v.state.pending) c.self.view_is) c.requires.settled
+    (c.as_slice.ensures ∙ c.fill.ensures.payload ∙ ap (λ t. payload_of (length t.goods) r) c.terms.ensures) (ap (λ v. v.state.clock) c.self.view_is) c.requires.take c.requires.fits in
     let A : List ℕ → Type 0 = λ p. AtEach (IsBeforeOrAfter j.contents p) (told_moments (g.D.Disk.shown j.disk)) (told_moments (g.D.Disk.shown k.disk)) in
-    let call : IsTrue (is_told (g.D.Disk.shown k.disk)) → A (payload r) = λ t. subst A pay (c.append_hinted.ensures.writes.2.leaves jnone t).stand in
-    rw (← c.self.view_is) (λ t. at-either owner b.noted.clock.reports r j.contents (told_moments (g.D.Disk.shown j.disk)) (told_moments (g.D.Disk.shown k.disk)) c.self.invariant.are report (c.self.invariant.contents (c.append_hinted.ensures.later.told t)) (call t))
+    let call : IsTrue (is_told (g.D.Disk.shown k.disk)) → A (payload_of (length b.start.terms.goods) r) = λ t. subst A h.spelled (c.append_hinted.ensures.writes.2.leaves h.undoubted t).stand in
+    rw (← c.self.view_is) (λ t. at-either (owner_in b.start) b.noted.clock.reports r j.contents (told_moments (g.D.Disk.shown j.disk)) (told_moments (g.D.Disk.shown k.disk)) c.self.invariant.are h.report (c.self.invariant.contents (c.append_hinted.ensures.later.told t)) (call t))
 
 pub returns-in-Err-Full-clause-moments : goal.returns-in-Err-Full-clause-moments
 returns-in-Err-Full-clause-moments g c =
@@ -108,17 +82,11 @@ returns-in-Err-Full-clause-moments g c =
     let j = b.journal in
     let k = c.append_hinted.new.self in
     let r = c.args.report in
-    let owner = owner_in b.start in
-    let payload = payload_of (length b.start.terms.goods) in
-    let none : b.pending ≡ None = ap (λ v. v.state.pending) c.self.view_is ∙ c.requires.settled in
-    let jnone : j.pending ≡ None = c.self.invariant.in_doubt ∙ ap (option_map payload) none in
-    let pay : c.as_slice.result.now ≡ payload r = c.as_slice.ensures ∙ c.fill.ensures.payload ∙ ap (λ t. payload_of (length t.goods) r) c.terms.ensures in
-    let N : ClockHistory → Type 0 = λ h. IsNext h r in
-    let next : IsNext b.noted.clock r = subst N (ap (λ v. v.state.clock) (sym c.self.view_is)) (record { take = c.requires.take; fits = c.requires.fits }) in
-    let report = next-report b.start.terms b.noted.clock r c.self.invariant.terms next in
+    let h = at-hand b.start b.noted.clock c.args.self.now.state.clock b.pending c.args.self.now.state.pending j.pending r c.as_slice.result.now c.self.invariant.terms c.self.invariant.in_doubt (ap (λ v. v.state.pending) c.self.view_is) c.requires.settled
+    (c.as_slice.ensures ∙ c.fill.ensures.payload ∙ ap (λ t. payload_of (length t.goods) r) c.terms.ensures) (ap (λ v. v.state.clock) c.self.view_is) c.requires.take c.requires.fits in
     let A : List ℕ → Type 0 = λ p. AtEach (IsBeforeOrAfter j.contents p) (told_moments (g.D.Disk.shown j.disk)) (told_moments (g.D.Disk.shown k.disk)) in
-    let call : IsTrue (is_told (g.D.Disk.shown k.disk)) → A (payload r) = λ t. subst A pay (c.append_hinted.ensures.writes.2.leaves jnone t).stand in
-    rw (← c.self.view_is) (λ t. at-either owner b.noted.clock.reports r j.contents (told_moments (g.D.Disk.shown j.disk)) (told_moments (g.D.Disk.shown k.disk)) c.self.invariant.are report (c.self.invariant.contents (c.append_hinted.ensures.later.told t)) (call t))
+    let call : IsTrue (is_told (g.D.Disk.shown k.disk)) → A (payload_of (length b.start.terms.goods) r) = λ t. subst A h.spelled (c.append_hinted.ensures.writes.2.leaves h.undoubted t).stand in
+    rw (← c.self.view_is) (λ t. at-either (owner_in b.start) b.noted.clock.reports r j.contents (told_moments (g.D.Disk.shown j.disk)) (told_moments (g.D.Disk.shown k.disk)) c.self.invariant.are h.report (c.self.invariant.contents (c.append_hinted.ensures.later.told t)) (call t))
 
 pub returns-in-Err-DiskFault-clause-moments : goal.returns-in-Err-DiskFault-clause-moments
 returns-in-Err-DiskFault-clause-moments g c =
@@ -126,14 +94,8 @@ returns-in-Err-DiskFault-clause-moments g c =
     let j = b.journal in
     let k = c.append_hinted.new.self in
     let r = c.args.report in
-    let owner = owner_in b.start in
-    let payload = payload_of (length b.start.terms.goods) in
-    let none : b.pending ≡ None = ap (λ v. v.state.pending) c.self.view_is ∙ c.requires.settled in
-    let jnone : j.pending ≡ None = c.self.invariant.in_doubt ∙ ap (option_map payload) none in
-    let pay : c.as_slice.result.now ≡ payload r = c.as_slice.ensures ∙ c.fill.ensures.payload ∙ ap (λ t. payload_of (length t.goods) r) c.terms.ensures in
-    let N : ClockHistory → Type 0 = λ h. IsNext h r in
-    let next : IsNext b.noted.clock r = subst N (ap (λ v. v.state.clock) (sym c.self.view_is)) (record { take = c.requires.take; fits = c.requires.fits }) in
-    let report = next-report b.start.terms b.noted.clock r c.self.invariant.terms next in
+    let h = at-hand b.start b.noted.clock c.args.self.now.state.clock b.pending c.args.self.now.state.pending j.pending r c.as_slice.result.now c.self.invariant.terms c.self.invariant.in_doubt (ap (λ v. v.state.pending) c.self.view_is) c.requires.settled
+    (c.as_slice.ensures ∙ c.fill.ensures.payload ∙ ap (λ t. payload_of (length t.goods) r) c.terms.ensures) (ap (λ v. v.state.clock) c.self.view_is) c.requires.take c.requires.fits in
     let A : List ℕ → Type 0 = λ p. AtEach (IsBeforeOrAfter j.contents p) (told_moments (g.D.Disk.shown j.disk)) (told_moments (g.D.Disk.shown k.disk)) in
-    let call : IsTrue (is_told (g.D.Disk.shown k.disk)) → A (payload r) = λ t. subst A pay (c.append_hinted.ensures.writes.2.leaves jnone t).stand in
-    rw (← c.self.view_is) (λ t. at-either owner b.noted.clock.reports r j.contents (told_moments (g.D.Disk.shown j.disk)) (told_moments (g.D.Disk.shown k.disk)) c.self.invariant.are report (c.self.invariant.contents (c.append_hinted.ensures.later.told t)) (call t))
+    let call : IsTrue (is_told (g.D.Disk.shown k.disk)) → A (payload_of (length b.start.terms.goods) r) = λ t. subst A h.spelled (c.append_hinted.ensures.writes.2.leaves h.undoubted t).stand in
+    rw (← c.self.view_is) (λ t. at-either (owner_in b.start) b.noted.clock.reports r j.contents (told_moments (g.D.Disk.shown j.disk)) (told_moments (g.D.Disk.shown k.disk)) c.self.invariant.are h.report (c.self.invariant.contents (c.append_hinted.ensures.later.told t)) (call t))
