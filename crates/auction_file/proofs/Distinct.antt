@@ -1,6 +1,6 @@
 -- No two goods, and no two bidders, of a file that is read have one name.
 use Rattle.std.proofs.Common.{◌≡◌, ◌≢◌, ℕ, ◌+◌, Bool, true, false, not, nat_le, ◌&&◌, List, [], ◌∷◌, ◌++◌, length, map, take, Ok, Err, Result, Some, None, codes, refl, sym, ap, ◌∙◌, subst, append_assoc, length-append, inl, inr}
-use Rattle.std.specs.List.{list_any, enumerate_from, AllByRecursion}
+use Rattle.std.specs.List.{list_any, AllByRecursion}
 use Rattle.std.specs.Option.{ok_or}
 use Rattle.std.specs.Str.{bytes_eq}
 use Rattle.std.proofs.lemmas.Bool.{cases_Bool, false≢true}
@@ -14,11 +14,12 @@ use Rattle.auction_file.specs.declared.faults.AuctionFault.TheVariants.{Bidders}
 use Rattle.auction_file.specs.declared.goods_list.Good.{Good}
 use Rattle.auction_file.specs.declared.bidders_list.Bidder.{Bidder}
 use Rattle.auction_file.specs.Names.{is_name, name_of, AreDistinct}
-use Rattle.auction_file.specs.Tree.{all_of, value_at, string_at, array_at, table_of, known_keys}
+use Rattle.auction_file.specs.Tree.{found}
 use Rattle.auction_file.specs.AuctionFile.{has_name, name_after, each, good_number, good_keys, supply_at, opening_at, digest_at, good_at, bidder_at, goods_of, bidders_of, sold, document_of, version_of, ceiling_of, auction_of, Listing}
 use Rattle.lot_base.specs.Limits.{supply_of}
-use Rattle.toml_tree.specs.Steps.{◌>>=◌, check}
-use Rattle.toml_tree.proofs.Passed.{bind_ok, some_from_ok_or, same_Ok}
+use Rattle.toml_tree.specs.Readers.{value_at, string_at, array_at, table_of, known_keys}
+use Rattle.toml_tree.specs.Steps.{◌>>=◌, check, each_from}
+use Rattle.toml_tree.proofs.Passed.{bind_ok, some_from_ok_or, same_Ok, ok_from_said}
 use Rattle.auction_file.proofs.Turns.{Reader}
 
 -- ---- the parts of an element
@@ -80,38 +81,38 @@ has_name-found t value text found is =
 name_after-named : (key : Key) (earlier : List Data) (t : Members) (name : List ℕ) → name_after key earlier t ≡ Ok name → IsNamed earlier (table t) name
 unfolding name_after
 name_after-named key earlier t name h =
-    let text = bind_ok (string_at key (codes "name") t) _ name h in
+    let text = bind_ok (found (string_at key (codes "name") t)) _ name h in
     let named = bind_ok (ok_or (name_of text.0) _) _ name text.2 in
     let untaken = bind_ok (check (not (list_any (has_name text.0) earlier)) _) _ name named.2 in
     let same : text.0 ≡ name = name_of-same text.0 named.0 (some_from_ok_or (name_of text.0) _ named.0 named.1) ∙ same_Ok named.0 name untaken.2 in
-    let value = bind_ok (value_at key (codes "name") t) _ text.0 text.1 in
-    let found : get_member (codes "name") t ≡ Some value.0 = some_from_ok_or (get_member (codes "name") t) _ value.0 value.1 in
+    let value = bind_ok (value_at key (codes "name") t) _ text.0 (ok_from_said _ (string_at key (codes "name") t) text.0 text.1) in
+    let there : get_member (codes "name") t ≡ Some value.0 = some_from_ok_or (get_member (codes "name") t) _ value.0 value.1 in
     let is : value.0 ≡ string text.0 = string_from_as_str value.0 text.0 (some_from_ok_or (as_str value.0) _ text.0 value.2) in
     named-same earlier (table t) (table t) text.0 name refl same (record {
-      here = has_name-found t value.0 text.0 found is;
+      here = has_name-found t value.0 text.0 there is;
       fresh = check_passed (list_any (has_name text.0) earlier) _ untaken.0 untaken.1;
     })
 
 good_at-named : (version ceiling : ℕ) (earlier : List Data) (place : ℕ) (element : Data) (good : Good) → good_at version ceiling earlier place element ≡ Ok good → IsNamed earlier element good.name
 unfolding good_at
 good_at-named version ceiling earlier place element good h =
-    let t = bind_ok (table_of (key.GoodTable (good_number place)) element) _ good h in
-    let keys = bind_ok (known_keys (good_keys version) t.0) _ good t.2 in
+    let t = bind_ok (found (table_of (key.GoodTable (good_number place)) element)) _ good h in
+    let keys = bind_ok (found (known_keys (good_keys version) t.0)) _ good t.2 in
     let name = bind_ok (name_after (key.GoodName (good_number place)) earlier t.0) _ good keys.2 in
     let supply = bind_ok (supply_at place t.0) _ good name.2 in
     let opening = bind_ok (opening_at ceiling place t.0) _ good supply.2 in
-    let is : element ≡ table t.0 = table_from_as_table element t.0 (some_from_ok_or (as_table element) _ t.0 t.1) in
+    let is : element ≡ table t.0 = table_from_as_table element t.0 (some_from_ok_or (as_table element) _ t.0 (ok_from_said _ (table_of _ element) t.0 t.1)) in
     let same : name.0 ≡ good.name = ap (λ (g : Good). g.name) (same_Ok (record { name = name.0; supply = supply.0; opening = opening.0 }) good opening.2) in
     named-same earlier element (table t.0) name.0 good.name is same (name_after-named (key.GoodName (good_number place)) earlier t.0 name.0 name.1)
 
 bidder_at-named : (earlier : List Data) (place : ℕ) (element : Data) (bidder : Bidder) → bidder_at earlier place element ≡ Ok bidder → IsNamed earlier element bidder.name
 unfolding bidder_at
 bidder_at-named earlier place element bidder h =
-    let t = bind_ok (table_of (key.BidderTable (place + 1)) element) _ bidder h in
-    let keys = bind_ok (known_keys (codes "name" ∷ codes "token" ∷ []) t.0) _ bidder t.2 in
+    let t = bind_ok (found (table_of (key.BidderTable (place + 1)) element)) _ bidder h in
+    let keys = bind_ok (found (known_keys (codes "name" ∷ codes "token" ∷ []) t.0)) _ bidder t.2 in
     let name = bind_ok (name_after (key.BidderName (place + 1)) earlier t.0) _ bidder keys.2 in
     let digest = bind_ok (digest_at (place + 1) t.0) _ bidder name.2 in
-    let is : element ≡ table t.0 = table_from_as_table element t.0 (some_from_ok_or (as_table element) _ t.0 t.1) in
+    let is : element ≡ table t.0 = table_from_as_table element t.0 (some_from_ok_or (as_table element) _ t.0 (ok_from_said _ (table_of _ element) t.0 t.1)) in
     let same : name.0 ≡ bidder.name = ap (λ (b : Bidder). b.name) (same_Ok (record { name = name.0; digest = digest.0 }) bidder digest.2) in
     named-same earlier element (table t.0) name.0 bidder.name is same (name_after-named (key.BidderName (place + 1)) earlier t.0 name.0 name.1)
 
@@ -154,21 +155,21 @@ module _ {A : Type 0} (f : Reader A) (name : A → List ℕ)
         others earlier d own xs has h.1,
       )
 
-  rest_distinct : (earlier rest : List Data) (xs : List A) → all_of (map (λ e. f (take e.0 (earlier ++ rest)) e.0 e.1) (enumerate_from (length earlier) rest)) ≡ Ok xs
+  rest_distinct : (earlier rest : List Data) (xs : List A) → each_from (λ place. f (take place (earlier ++ rest)) place) (length earlier) rest ≡ Ok xs
       → AreFresh earlier xs × AreDistinct (map name xs)
   rest_distinct earlier [] xs h =
       let P : List A → Type 0 = λ ys. AreFresh earlier ys × AreDistinct (map name ys) in
       subst P (same_Ok [] xs h) (tt, tt)
   rest_distinct earlier (d ∷ rest) xs h =
       let first = bind_ok (f (take (length earlier) (earlier ++ d ∷ rest)) (length earlier) d) _ xs h in
-      let later = bind_ok (all_of (map (λ e. f (take e.0 (earlier ++ d ∷ rest)) e.0 e.1) (enumerate_from (length earlier + 1) rest))) _ xs first.2 in
+      let later = bind_ok (each_from (λ place. f (take place (earlier ++ d ∷ rest)) place) (length earlier + 1) rest) _ xs first.2 in
       let front : take (length earlier) (earlier ++ d ∷ rest) ≡ earlier = take-append_seam earlier (d ∷ rest) in
       let here : IsNamed earlier d (name first.0) = named earlier (length earlier) d first.0 (ap (λ es. f es (length earlier) d) (sym front) ∙ first.1) in
       let regrouped : (earlier ++ d ∷ []) ++ rest ≡ earlier ++ d ∷ rest = append_assoc earlier (d ∷ []) rest in
       let longer : length (earlier ++ d ∷ []) ≡ length earlier + 1 = length-append earlier (d ∷ []) in
-      let same : all_of (map (λ e. f (take e.0 ((earlier ++ d ∷ []) ++ rest)) e.0 e.1) (enumerate_from (length (earlier ++ d ∷ [])) rest)) ≡ Ok later.0 =
-      ap (λ es. all_of (map (λ e. f (take e.0 es) e.0 e.1) (enumerate_from (length (earlier ++ d ∷ [])) rest))) regrouped
-      ∙ ap (λ n. all_of (map (λ e. f (take e.0 (earlier ++ d ∷ rest)) e.0 e.1) (enumerate_from n rest))) longer ∙ later.1 in
+      let same : each_from (λ place. f (take place ((earlier ++ d ∷ []) ++ rest)) place) (length (earlier ++ d ∷ [])) rest ≡ Ok later.0 =
+      ap (λ es. each_from (λ place. f (take place es) place) (length (earlier ++ d ∷ [])) rest) regrouped
+      ∙ ap (λ n. each_from (λ place. f (take place (earlier ++ d ∷ rest)) place) n rest) longer ∙ later.1 in
       let below = rest_distinct (earlier ++ d ∷ []) rest later.0 same in
       let P : List A → Type 0 = λ ys. AreFresh earlier ys × AreDistinct (map name ys) in
       subst P (same_Ok (first.0 ∷ later.0) xs later.2)
@@ -182,7 +183,7 @@ module _ {A : Type 0} (f : Reader A) (name : A → List ℕ)
 goods_of-distinct : (version ceiling : ℕ) (file : Members) (goods : List Good) → goods_of version ceiling file ≡ Ok goods → AreDistinct (map (λ good. good.name) goods)
 unfolding goods_of
 goods_of-distinct version ceiling file goods h =
-    let elements = bind_ok (array_at key.Goods (codes "goods") file) (each (good_at version ceiling)) goods h in
+    let elements = bind_ok (found (array_at key.Goods (codes "goods") file)) (each (good_at version ceiling)) goods h in
     each-distinct (good_at version ceiling) (λ good. good.name) (good_at-named version ceiling) elements.0 goods elements.2
 
 -- what follows the array of the bidders
@@ -192,7 +193,7 @@ counted_bidders elements = check (nat_le 1 (length elements) && nat_le (length e
 bidders_of-distinct : (file : Members) (bidders : List Bidder) → bidders_of file ≡ Ok bidders → AreDistinct (map (λ bidder. bidder.name) bidders)
 unfolding bidders_of
 bidders_of-distinct file bidders h =
-    let elements = bind_ok (array_at key.Bidders (codes "bidders") file) counted_bidders bidders h in
+    let elements = bind_ok (found (array_at key.Bidders (codes "bidders") file)) counted_bidders bidders h in
     let counted = bind_ok (check (nat_le 1 (length elements.0) && nat_le (length elements.0) 12) (Bidders (length elements.0))) (λ _. each bidder_at elements.0) bidders elements.2 in
     each-distinct bidder_at (λ bidder. bidder.name) bidder_at-named elements.0 bidders counted.2
 
@@ -209,7 +210,7 @@ pub auction_of-distinct : (bytes : List ℕ) (listing : Listing) → auction_of 
 unfolding auction_of
 auction_of-distinct bytes listing h =
     let file = bind_ok (document_of bytes) _ listing h in
-    let keys = bind_ok (known_keys (codes "version" ∷ codes "ceiling" ∷ codes "goods" ∷ codes "bidders" ∷ []) file.0) _ listing file.2 in
+    let keys = bind_ok (found (known_keys (codes "version" ∷ codes "ceiling" ∷ codes "goods" ∷ codes "bidders" ∷ []) file.0)) _ listing file.2 in
     let version = bind_ok (version_of file.0) _ listing keys.2 in
     let ceiling = bind_ok (ceiling_of file.0) _ listing version.2 in
     let goods = bind_ok (goods_of version.0 ceiling.0 file.0) _ listing ceiling.2 in

@@ -8,8 +8,8 @@ use Rattle.toml.specs.declared.value.Value.{Value}
 use Rattle.auction_file.specs.declared.faults.Key.{Key}
 use Rattle.auction_file.specs.declared.faults.AuctionFault.TheVariants.{BadName, Repeated}
 use Rattle.auction_file.specs.Names.{name_of}
-use Rattle.auction_file.specs.Tree.{string_at}
 use Rattle.auction_file.specs.AuctionFile.{has_name, name_after}
+use Rattle.toml_tree.specs.Readers.{string_at}
 use Rattle.toml_tree.specs.Steps.{◌>>=◌, check}
 use Rattle.toml_tree.proofs.Trees.{list_any-map}
 

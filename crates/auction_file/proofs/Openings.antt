@@ -1,7 +1,6 @@
 -- The opening price of each good of a file: below the ceiling, and 0 in version 1.
-use Rattle.std.proofs.Common.{◌≡◌, ◌<◌, ◌≤◌, ℕ, ◌+◌, ◌-◌, ◌==◌, ℤ, pos, negsuc, false, nat_le, ◌&&◌, nat_lt, List, [], ◌∷◌, length, map, take, replicate, Ok, Option, Some, None, codes, Ordering, Less, Equal, Greater, nat_cmp, refl, sym, ap, ◌∙◌, subst, inl, inr, arith}
-use Rattle.std.specs.List.{list_any, enumerate_from, AllByRecursion, position, position_or_len}
-use Rattle.std.specs.Option.{ok_or}
+use Rattle.std.proofs.Common.{◌≡◌, ◌<◌, ◌≤◌, ℕ, ◌-◌, ◌==◌, ℤ, pos, negsuc, false, nat_le, ◌&&◌, nat_lt, List, [], ◌∷◌, length, map, take, replicate, Ok, Option, Some, None, codes, Ordering, Less, Equal, Greater, nat_cmp, refl, sym, ap, ◌∙◌, subst, inl, inr, arith}
+use Rattle.std.specs.List.{list_any, AllByRecursion, position, position_or_len}
 use Rattle.std.specs.Ordering.{is_eq, match_ordering}
 use Rattle.std.specs.Str.{bytes_eq}
 use Rattle.std.specs.Cmp.Lexicographic.{slice_cmp}
@@ -9,18 +8,18 @@ use Rattle.std.proofs.lemmas.Bool.{cases_Bool, false≢true}
 use Rattle.std.proofs.lemmas.Bool.Decides.{nat_tests}
 use Rattle.std.proofs.lemmas.Slice.Eq.{bytes_eq-Decides}
 use Rattle.std.proofs.lemmas.Map.Text.{is_eq-slice_cmp}
-use Rattle.toml.specs.Data.{Data, Members, no_members, member, get_member, as_integer}
+use Rattle.toml.specs.Data.{Data, Members, no_members, member, get_member}
 use Rattle.auction_file.specs.declared.faults.Key.TheVariants as key
 use Rattle.auction_file.specs.declared.faults.AuctionFault.{AuctionFault}
 use Rattle.auction_file.specs.declared.faults.AuctionFault.TheVariants as fault
 use Rattle.auction_file.specs.declared.goods_list.Good.{Good}
-use Rattle.auction_file.specs.Tree.{all_of, array_at, table_of, refused_key, known_keys, within, ranged}
+use Rattle.auction_file.specs.Tree.{found, within, ranged}
 use Rattle.auction_file.specs.AuctionFile.{name_after, each, good_number, good_keys, supply_at, opening_in, opening_at, good_at, goods_of}
 use Rattle.auction_file.specs.Listing.{IsOpened}
 use Rattle.lot_base.specs.Goods.{zeros}
+use Rattle.toml_tree.specs.Readers.{integer_of, array_at, table_of, refused_key, known_keys}
 use Rattle.toml_tree.specs.Tree.{least_unknown}
-use Rattle.toml_tree.proofs.Passed.{bind_ok, some_from_ok_or, same_Ok}
-use Rattle.auction_file.proofs.Turns.{Reader}
+use Rattle.toml_tree.proofs.Passed.{bind_ok, some_from_ok_or, same_Ok, each-all}
 
 -- ---- the opening of one good
 
@@ -38,16 +37,16 @@ within-least high n (pos m) h =
           cc (sym e ∙ h)
     ]
 
-opening_in-below : (ceiling place n : ℕ) (found : Option Data) → 1 ≤ ceiling → opening_in ceiling place found ≡ Ok n → n < ceiling
+opening_in-below : (ceiling place n : ℕ) (value : Option Data) → 1 ≤ ceiling → opening_in ceiling place value ≡ Ok n → n < ceiling
 opening_in-below ceiling place n None some h = let e : 0 ≡ n = same_Ok 0 n h in omega arith
 opening_in-below ceiling place n (Some value) some h =
-    let number = bind_ok (ok_or (as_integer value) (fault.WrongKind (key.Opening (good_number place)))) (ranged 0 (ceiling - 1) (fault.Opening (good_number place))) n h in
+    let number = bind_ok (found (integer_of (key.Opening (good_number place)) value)) (ranged 0 (ceiling - 1) (fault.Opening (good_number place))) n h in
     let most : n ≤ ceiling - 1 = within-least (ceiling - 1) n number.0 (some_from_ok_or (within 0 (ceiling - 1) number.0) _ n number.2) in
     omega arith
 
 -- ---- a key that the format does not know is not there
 
-no_unknown : (found : Option (List ℕ)) (u : Unit {0}) → refused_key found ≡ Ok u → found ≡ None
+no_unknown : (unknown : Option (List ℕ)) (u : Unit {0}) → found (refused_key unknown) ≡ Ok u → unknown ≡ None
 no_unknown None u h = refl
 no_unknown (Some key) u h = cc h
 
@@ -72,7 +71,7 @@ get_member-unknown known name (member key value rest) unknown none =
       | inr other ↦ cc (rw other at none)
     ]
 
-opening_at-first : (ceiling place n : ℕ) (table : Members) (u : Unit {0}) → known_keys (good_keys 1) table ≡ Ok u → opening_in ceiling place (get_member (codes "opening") table) ≡ Ok n → n ≡ 0
+opening_at-first : (ceiling place n : ℕ) (table : Members) (u : Unit {0}) → found (known_keys (good_keys 1) table) ≡ Ok u → opening_in ceiling place (get_member (codes "opening") table) ≡ Ok n → n ≡ 0
 opening_at-first ceiling place n table u known h =
     let absent : get_member (codes "opening") table ≡ None = get_member-unknown (good_keys 1) (codes "opening") table refl (no_unknown (least_unknown (good_keys 1) table) u known) in
     sym (same_Ok {F = AuctionFault} 0 n (rw absent at h))
@@ -80,8 +79,8 @@ opening_at-first ceiling place n table u known h =
 good_at-opened : (version ceiling : ℕ) → 1 ≤ ceiling → (earlier : List Data) (place : ℕ) (element : Data) (good : Good) → good_at version ceiling earlier place element ≡ Ok good → IsOpened version ceiling good
 unfolding good_at opening_at
 good_at-opened version ceiling some earlier place element good h =
-    let t = bind_ok (table_of (key.GoodTable (good_number place)) element) _ good h in
-    let keys = bind_ok (known_keys (good_keys version) t.0) _ good t.2 in
+    let t = bind_ok (found (table_of (key.GoodTable (good_number place)) element)) _ good h in
+    let keys = bind_ok (found (known_keys (good_keys version) t.0)) _ good t.2 in
     let name = bind_ok (name_after (key.GoodName (good_number place)) earlier t.0) _ good keys.2 in
     let supply = bind_ok (supply_at place t.0) _ good name.2 in
     let opening = bind_ok (opening_in ceiling place (get_member (codes "opening") t.0)) _ good supply.2 in
@@ -89,7 +88,7 @@ good_at-opened version ceiling some earlier place element good h =
     record {
       below = let lower : opening.0 < ceiling = opening_in-below ceiling place opening.0 (get_member (codes "opening") t.0) some opening.1 in omega (arith, same);
       zero = λ first.
-          let P : ℕ → Type 0 = λ v. known_keys (good_keys v) t.0 ≡ Ok keys.0 in
+          let P : ℕ → Type 0 = λ v. found (known_keys (good_keys v) t.0) ≡ Ok keys.0 in
           sym same ∙ opening_at-first ceiling place opening.0 t.0 keys.0 (subst P first keys.1) opening.1;
     }
 
@@ -98,20 +97,11 @@ good_keys-first version other = let test : (version == 2) ≡ false = grind (ari
 
 -- ---- the openings of all goods
 
--- what holds of each element that is read
-module _ {A : Type 0} (f : Reader A) (P : A → Type 0) (holds : (earlier : List Data) (place : ℕ) (element : Data) (x : A) → f earlier place element ≡ Ok x → P x) where
-  rest-all : (all rest : List Data) (k : ℕ) (xs : List A) → all_of (map (λ e. f (take e.0 all) e.0 e.1) (enumerate_from k rest)) ≡ Ok xs → AllByRecursion P xs
-  rest-all all [] k xs h = subst (AllByRecursion P) (same_Ok [] xs h) tt
-  rest-all all (d ∷ rest) k xs h =
-      let first = bind_ok (f (take k all) k d) _ xs h in
-      let later = bind_ok (all_of (map (λ e. f (take e.0 all) e.0 e.1) (enumerate_from (k + 1) rest))) _ xs first.2 in
-      subst (AllByRecursion P) (same_Ok (first.0 ∷ later.0) xs later.2) (holds (take k all) k d first.0 first.1, rest-all all rest (k + 1) later.0 later.1)
-
 pub goods_of-opened : (version ceiling : ℕ) (file : Members) (goods : List Good) → 1 ≤ ceiling → goods_of version ceiling file ≡ Ok goods → AllByRecursion (IsOpened version ceiling) goods
 unfolding goods_of
 goods_of-opened version ceiling file goods some h =
-    let elements = bind_ok (array_at key.Goods (codes "goods") file) (each (good_at version ceiling)) goods h in
-    rest-all (good_at version ceiling) (IsOpened version ceiling) (good_at-opened version ceiling some) elements.0 elements.0 0 goods elements.2
+    let elements = bind_ok (found (array_at key.Goods (codes "goods") file)) (each (good_at version ceiling)) goods h in
+    each-all (λ place. good_at version ceiling (take place elements.0) place) (IsOpened version ceiling) (λ place. good_at-opened version ceiling some (take place elements.0) place) 0 elements.0 goods elements.2
 
 -- all of these open at 0
 pub opening-zeros : (version ceiling : ℕ) (goods : List Good) (supply : List ℕ) → version ≡ 1 → AllByRecursion (IsOpened version ceiling) goods → length supply ≡ length goods → zeros supply ≡ map (λ good. good.opening) goods

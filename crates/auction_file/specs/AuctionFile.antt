@@ -14,15 +14,16 @@
 -- and bidders from 1; a number that its type cannot hold stands at the type's end, 4,294,967,295 in a key and in the fault of an
 -- opening, and 255 in the fault of a supply.
 use Rattle.std.specs.Prelude.{ℕ, ◌+◌, ◌-◌, ◌^◌, nat_le, min, codes, Bool, ◌&&◌, ◌==◌, if◌then◌else◌, not, false, List, [], ◌∷◌, length, map, take, Option, Some, None, Result, Ok, Err, option_and_then}
-use Rattle.std.specs.List.{list_any, enumerate_from}
+use Rattle.std.specs.List.{list_any}
 use Rattle.std.specs.Option.{ok_or, option_map_or}
 use Rattle.std.specs.Result.{result_ok}
 use Rattle.std.specs.Str.{bytes_eq}
 use Rattle.lot_base.specs.declared.limits.TheConstants.{LEAST_CEILING, GREATEST_CEILING}
 use Rattle.lot_base.specs.Limits.{supply_of}
 use Rattle.lot_base.specs.declared.supply.GoodsFault.{GoodsFault}
-use Rattle.toml.specs.Data.{Data, Members, get, get_member, as_integer, as_str}
-use Rattle.toml_tree.specs.Steps.{◌>>=◌, check}
+use Rattle.toml.specs.Data.{Data, Members, get, get_member, as_str}
+use Rattle.toml_tree.specs.Readers.{integer_of, integer_at, string_at, array_at, table_of, known_keys}
+use Rattle.toml_tree.specs.Steps.{◌>>=◌, check, each_from}
 use Rattle.toml_tree.specs.Tree.{tree_of}
 use Rattle.sha2.specs.Sha256.{sha256}
 use Rattle.hex.specs.Hex.{decode_sized}
@@ -33,7 +34,7 @@ use Rattle.auction_file.specs.declared.faults.AuctionFault.TheVariants as fault
 use Rattle.auction_file.specs.declared.goods_list.Good.{Good}
 use Rattle.auction_file.specs.declared.bidders_list.Bidder.{Bidder}
 use Rattle.auction_file.specs.Names.{name_of}
-use Rattle.auction_file.specs.Tree.{all_of, integer_at, string_at, array_at, table_of, known_keys, ranged}
+use Rattle.auction_file.specs.Tree.{found, ranged}
 
 -- what a seller offers, to whom, and from which price up to which
 pub record Listing : Type 0 where
@@ -51,10 +52,10 @@ unfoldable pub document_of : List ℕ → Result Members AuctionFault
 document_of bytes = ok_or (tree_of bytes) fault.NotToml
 
 unfoldable pub version_of : Members → Result ℕ AuctionFault
-version_of file = integer_at key.Version (codes "version") file >>= ranged 1 2 fault.Version
+version_of file = found (integer_at key.Version (codes "version") file) >>= ranged 1 2 fault.Version
 
 unfoldable pub ceiling_of : Members → Result ℕ AuctionFault
-ceiling_of file = integer_at key.Ceiling (codes "ceiling") file >>= ranged LEAST_CEILING GREATEST_CEILING fault.Ceiling
+ceiling_of file = found (integer_at key.Ceiling (codes "ceiling") file) >>= ranged LEAST_CEILING GREATEST_CEILING fault.Ceiling
 
 -- the element is a table with this name
 abbrev pub has_name : List ℕ → Data → Bool
@@ -63,14 +64,14 @@ has_name name element = option_map_or (bytes_eq name) (option_and_then as_str (g
 -- the name of an element that stands after these
 unfoldable pub name_after : Key → List Data → Members → Result (List ℕ) AuctionFault
 name_after key earlier table = do
-  text ← string_at key (codes "name") table
+  text ← found (string_at key (codes "name") table)
   name ← ok_or (name_of text) (fault.BadName key)
   _ ← check (not (list_any (has_name text) earlier)) (fault.Repeated key)
   Ok name
 
 -- what f gives for each element, its place and those before it, or the first fault of these
 abbrev pub each : {A : Type 0} → (List Data → ℕ → Data → Result A AuctionFault) → List Data → Result (List A) AuctionFault
-each f elements = all_of (map (λ e. f (take e.0 elements) e.0 e.1) (enumerate_from 0 elements))
+each f elements = each_from (λ place. f (take place elements) place) 0 elements
 
 -- a good's number in a key and in the fault of its opening, and in the fault of its supply
 abbrev pub good_number : ℕ → ℕ
@@ -82,7 +83,7 @@ short_number place = min place 255
 
 unfoldable pub supply_at : ℕ → Members → Result ℕ AuctionFault
 supply_at place table =
-    integer_at (key.Supply (good_number place)) (codes "supply") table >>= ranged 0 65535 (fault.BadSupply (short_number place))
+    found (integer_at (key.Supply (good_number place)) (codes "supply") table) >>= ranged 0 65535 (fault.BadSupply (short_number place))
 
 -- the keys of a good
 abbrev pub good_keys : ℕ → List (List ℕ)
@@ -92,22 +93,22 @@ good_keys version = if version == 2 then codes "name" ∷ codes "supply" ∷ cod
 abbrev pub opening_in : (ceiling place : ℕ) → Option Data → Result ℕ AuctionFault
 opening_in ceiling place None = Ok 0
 opening_in ceiling place (Some value) =
-    ok_or (as_integer value) (fault.WrongKind (key.Opening (good_number place))) >>= ranged 0 (ceiling - 1) (fault.Opening (good_number place))
+    found (integer_of (key.Opening (good_number place)) value) >>= ranged 0 (ceiling - 1) (fault.Opening (good_number place))
 
 unfoldable pub opening_at : (ceiling place : ℕ) → Members → Result ℕ AuctionFault
 opening_at ceiling place table = opening_in ceiling place (get_member (codes "opening") table)
 
 unfoldable pub good_at : (version ceiling : ℕ) → List Data → ℕ → Data → Result Good AuctionFault
 good_at version ceiling earlier place element = do
-  table ← table_of (key.GoodTable (good_number place)) element
-  _ ← known_keys (good_keys version) table
+  table ← found (table_of (key.GoodTable (good_number place)) element)
+  _ ← found (known_keys (good_keys version) table)
   name ← name_after (key.GoodName (good_number place)) earlier table
   supply ← supply_at place table
   opening ← opening_at ceiling place table
   Ok (record { name = name; supply = supply; opening = opening })
 
 unfoldable pub goods_of : (version ceiling : ℕ) → Members → Result (List Good) AuctionFault
-goods_of version ceiling file = array_at key.Goods (codes "goods") file >>= each (good_at version ceiling)
+goods_of version ceiling file = found (array_at key.Goods (codes "goods") file) >>= each (good_at version ceiling)
 
 -- the supplies, if they can be sold
 abbrev pub sold : Result (List ℕ) GoodsFault → Result (List ℕ) AuctionFault
@@ -116,20 +117,20 @@ sold (Err refusal) = Err (fault.Goods refusal)
 
 unfoldable pub digest_at : ℕ → Members → Result (List ℕ) AuctionFault
 digest_at bidder table = do
-  text ← string_at (key.Token bidder) (codes "token") table
+  text ← found (string_at (key.Token bidder) (codes "token") table)
   ok_or (result_ok (decode_sized text 32)) (fault.BadDigest bidder)
 
 unfoldable pub bidder_at : List Data → ℕ → Data → Result Bidder AuctionFault
 bidder_at earlier place element = do
-  table ← table_of (key.BidderTable (place + 1)) element
-  _ ← known_keys (codes "name" ∷ codes "token" ∷ []) table
+  table ← found (table_of (key.BidderTable (place + 1)) element)
+  _ ← found (known_keys (codes "name" ∷ codes "token" ∷ []) table)
   name ← name_after (key.BidderName (place + 1)) earlier table
   digest ← digest_at (place + 1) table
   Ok (record { name = name; digest = digest })
 
 unfoldable pub bidders_of : Members → Result (List Bidder) AuctionFault
 bidders_of file = do
-  bidders ← array_at key.Bidders (codes "bidders") file
+  bidders ← found (array_at key.Bidders (codes "bidders") file)
   _ ← check (nat_le 1 (length bidders) && nat_le (length bidders) 12) (fault.Bidders (length bidders))
   each bidder_at bidders
 
@@ -137,7 +138,7 @@ bidders_of file = do
 unfoldable pub auction_of : List ℕ → Result Listing AuctionFault
 auction_of bytes = do
   file ← document_of bytes
-  _ ← known_keys (codes "version" ∷ codes "ceiling" ∷ codes "goods" ∷ codes "bidders" ∷ []) file
+  _ ← found (known_keys (codes "version" ∷ codes "ceiling" ∷ codes "goods" ∷ codes "bidders" ∷ []) file)
   version ← version_of file
   ceiling ← ceiling_of file
   goods ← goods_of version ceiling file

@@ -4,7 +4,6 @@ ghost use Rattle.toml.specs.View.{view, table_view};
 ghost use Rattle.auction_file.specs.AuctionFile.{digest_at, bidder_at, each, bidders_of};
 ghost use Rattle.auction_file.specs.Seen.{GivesIfRoom};
 
-use crate::document::{array_at, known_keys, string_at, table_of};
 use crate::elements::name_after;
 use crate::faults::{AuctionFault, Key};
 use crate::naming::Name;
@@ -12,6 +11,7 @@ use hex::FromHex;
 use lot_base::limits::MOST_BIDDERS;
 use std::alloc::{AllocError, Global};
 use toml::{Table, Value};
+use toml_tree::{array_at, known_keys, string_at, table_of};
 
 /// A bidder of the file.
 #[derive(Drop)]
@@ -63,7 +63,7 @@ fn bidder_at(
 {
     let number = place as u32 + 1;
     let table = table_of(element, Key::BidderTable(number))?;
-    known_keys(alloc, table, &["name", "token"])?;
+    known_keys::<Key>(alloc, table, &["name", "token"])?;
     let name = name_after(earlier, table, Key::BidderName(number))?;
     let digest = digest_at(table, place as u8 + 1)?;
     Ok(Bidder { name, digest })

@@ -4,10 +4,10 @@ ghost use Rattle.std.specs.List.{list_any};
 ghost use Rattle.toml.specs.View.{view, table_view};
 ghost use Rattle.auction_file.specs.AuctionFile.{has_name, name_after};
 
-use crate::document::string_at;
 use crate::faults::{AuctionFault, Key};
 use crate::naming::Name;
 use toml::{Table, Value};
+use toml_tree::string_at;
 
 /// The name of an element that stands after these.
 #[tactic(auto, unfolding(crate::specs::AuctionFile::name_after))]

@@ -2,10 +2,11 @@
 
 ghost use Rattle.std.specs.Prelude.{◌≡◌};
 ghost use Rattle.auction_file.specs.declared.faults.AuctionFault.TheVariants.{NoMemory};
+ghost use Rattle.auction_file.specs.Tree.{fault_of};
 
 use lot_base::GoodsFault;
 use std::alloc::{AllocError, AllocFailed};
-use toml_tree::KeyText;
+use toml_tree::{KeyText, TreeFault};
 
 /// A key of an auction file, or a table of one of its arrays. Goods are counted from 0, bidders from 1.
 #[derive(Clone, Copy, Debug, PartialEq, Eq)]
@@ -65,6 +66,19 @@ pub enum AuctionFault {
     Opening { good: u32, value: i64 },
     /// Out of memory.
     NoMemory,
+}
+
+impl From<TreeFault<Key>> for AuctionFault {
+    ghost from_gives = { λ found fault. fault ≡ fault_of found };
+
+    fn from(found: TreeFault<Key>) -> AuctionFault {
+        match found {
+            TreeFault::Missing(key) => AuctionFault::Missing(key),
+            TreeFault::WrongKind(key) => AuctionFault::WrongKind(key),
+            TreeFault::UnknownKey(key) => AuctionFault::UnknownKey(key),
+            TreeFault::NoMemory => AuctionFault::NoMemory,
+        }
+    }
 }
 
 impl From<AllocError> for AuctionFault {

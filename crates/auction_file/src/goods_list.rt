@@ -2,16 +2,18 @@
 ghost use Rattle.std.specs.Prelude.{◌≡◌, ◌≤◌, map, IfOk};
 ghost use Rattle.toml.specs.View.{view, table_view};
 ghost use Rattle.auction_file.specs.AuctionFile.{good_number, short_number, supply_at, opening_at, good_keys, good_at, each, goods_of};
-ghost use Rattle.auction_file.specs.Tree.{known_keys};
+ghost use Rattle.toml_tree.specs.Readers.{known_keys};
+ghost use Rattle.toml_tree.specs.Seen.{GivesUnless};
+ghost use Rattle.toml_tree.specs.declared.faults.TreeFault.TheVariants.{NoMemory};
 ghost use Rattle.auction_file.specs.Seen.{GivesIfRoom};
 
-use crate::document::{array_at, integer_at, known_keys, table_of, within};
 use crate::elements::name_after;
 use crate::faults::{AuctionFault, Key};
 use crate::naming::Name;
+use crate::ranges::within;
 use std::alloc::{AllocError, Global};
 use toml::{Table, Value};
-use toml_tree::member;
+use toml_tree::{TreeFault, array_at, integer_at, integer_of, known_keys, member, table_of};
 
 /// A good of the file.
 #[derive(Drop)]
@@ -84,8 +86,8 @@ fn good_at(
 }
 
 /// Refuses a good with a key that the version does not know.
-fn known_good_keys(alloc: Global, version: u16, table: &Table) -> Result<(), AuctionFault>
-    ensures { GivesIfRoom (λ u. u) result (known_keys (good_keys version) (table_view table.now)) }
+fn known_good_keys(alloc: Global, version: u16, table: &Table) -> Result<(), TreeFault<Key>>
+    ensures { GivesUnless NoMemory (λ u. u) result (known_keys (good_keys version) (table_view table.now)) }
 {
     if version == 2 {
         known_keys(alloc, table, &["name", "supply", "opening"])
@@ -116,9 +118,7 @@ fn opening_at(ceiling: u16, table: &Table, place: usize) -> Result<u16, AuctionF
         return Ok(0);
     };
     let good = good_number(place);
-    let value = value
-        .as_integer()
-        .ok_or(AuctionFault::WrongKind(Key::Opening(good)))?;
+    let value = integer_of(value, Key::Opening(good))?;
     within(value, 0, ceiling - 1).ok_or(AuctionFault::Opening { good, value })
 }
 

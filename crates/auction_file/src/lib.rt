@@ -2,13 +2,13 @@
 #![tactic(auto)]
 
 mod bidders_list;
-mod document;
 mod elements;
 pub mod faults;
 mod goods_list;
 pub mod laws;
 pub mod listing;
 pub mod naming;
+mod ranges;
 pub mod reader;
 
 pub use faults::{AuctionFault, Key};

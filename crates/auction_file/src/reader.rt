@@ -11,16 +11,16 @@ ghost use Rattle.auction_file.specs.Listing.{IsOpened, IsTermsFor, listing_of, l
 ghost use Rattle.auction_file.specs.Seen.{GivesIfRoom};
 
 use crate::bidders_list::{Bidder, bidder_names, bidders_of, token_digests};
-use crate::document::{integer_at, known_keys, within};
 use crate::faults::{AuctionFault, Key};
 use crate::goods_list::{Good, good_names, goods_of, opening_prices};
 use crate::listing::Auction;
+use crate::ranges::within;
 use lot_base::limits::{GREATEST_AUCTION, GREATEST_CEILING, LEAST_CEILING};
 use lot_base::{Goods, Prices, Sequence, Terms};
 use sha2::{Digest, Sha256};
 use std::alloc::{AllocError, Global};
 use toml::Table;
-use toml_tree::tree_of;
+use toml_tree::{integer_at, known_keys, tree_of};
 
 /// The most bytes of an auction file.
 pub const MOST_BYTES: usize = GREATEST_AUCTION as usize;
@@ -149,7 +149,7 @@ pub fn read(alloc: Global, bytes: &[u8]) -> Result<Auction, AuctionFault>
     ensures refused { IfErr result (λ fault. fault ≢ AuctionFault.NoMemory → auction_of bytes.now ≡ Err fault) }
 {
     let file = document_of(alloc, bytes)?;
-    known_keys(alloc, &file, &["version", "ceiling", "goods", "bidders"])?;
+    known_keys::<Key>(alloc, &file, &["version", "ceiling", "goods", "bidders"])?;
     let version = version_of(&file)?;
     let ceiling = ceiling_of(&file)?;
     let goods = goods_of(alloc, version, ceiling, &file)?;

@@ -1,3 +1,4 @@
 pub mod Documents
 pub mod Passed
 pub mod Trees
+pub mod Turns

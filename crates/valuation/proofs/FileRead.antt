@@ -1,5 +1,5 @@
 -- What a valuation file that is read gives: a value for each bundle, 0 for the empty one, each below the ceiling.
-use Rattle.std.proofs.Common.{◌≡◌, ◌<◌, ◌≤◌, ℕ, suc, ◌+◌, ◌-◌, Bool, true, false, nat_eq, nat_le, List, [], ◌∷◌, length, map, drop, slice_index, Ok, Err, Result, Option, Some, None, codes, refl, arith, ap, sym, ◌∙◌, subst, inl, inr}
+use Rattle.std.proofs.Common.{◌≡◌, ◌<◌, ◌≤◌, ℕ, ◌-◌, Bool, true, false, nat_eq, nat_le, List, [], ◌∷◌, length, map, drop, slice_index, Ok, Err, Result, Option, Some, None, codes, refl, arith, ap, sym, ◌∙◌, subst, inl, inr}
 use Rattle.std.specs.Prelude.{◌==◌, position, slice_get, IfOk, IfErr, ◌≢◌}
 use Rattle.std.specs.List.{AllByRecursion}
 use Rattle.std.specs.Str.{bytes_eq}
@@ -14,36 +14,21 @@ use Rattle.lot_base.proofs.Openings.{all-below, at-below_all}
 use Rattle.toml.specs.Data.{Data, Members}
 use Rattle.toml.specs.View.{view}
 use Rattle.toml.specs.declared.value.Value.{Value}
+use Rattle.valuation.specs.declared.faults.ValueKey.{ValueKey}
 use Rattle.valuation.specs.declared.faults.ValueKey.TheVariants as key
 use Rattle.valuation.specs.declared.faults.ValuesFault.{ValuesFault}
 use Rattle.valuation.specs.declared.faults.ValuesFault.TheVariants as fault
 use Rattle.valuation.specs.Forms.{marginal_value, unit_value, capped_value}
 use Rattle.valuation.specs.Seen.{GivesIfRoom}
-use Rattle.toml_tree.specs.Steps.{check}
-use Rattle.toml_tree.proofs.Passed.{bind_ok, same_Ok}
-use Rattle.valuation.specs.Tree.{each_from, value_at, string_at, array_at, integers_of, table_of, known_keys}
+use Rattle.toml_tree.specs.Readers.{value_at, string_at, array_at, table_of, known_keys}
+use Rattle.toml_tree.specs.Steps.{check, each_from}
+use Rattle.toml_tree.proofs.Passed.{bind_ok, same_Ok, each-length, each-all}
+use Rattle.toml_tree.proofs.Turns.{each-map}
+use Rattle.valuation.specs.Tree.{found, integers_of}
 use Rattle.valuation.specs.Values.{IsTable, AreValues}
 use Rattle.valuation.specs.ValuesFile.{document_of, long, values_at, lists_at, cap_at, table_form, marginal_form, unit_form, capped_form, in_form, below, valuation_at, values_of}
 use Rattle.valuation.proofs.Capped.{capped-all, total-zeros}
 use Rattle.valuation.proofs.Long.{long-count}
-use Rattle.valuation.proofs.Turns.{Reader, each-map}
-
--- ---- lists that are read
-
-pub each-length : {A B : Type 0} (f : Reader A B) (k : ℕ) (xs : List A) (ys : List B) → each_from f k xs ≡ Ok ys → length ys ≡ length xs
-each-length f k [] ys h = ap length (sym (same_Ok [] ys h))
-each-length f k (x ∷ xs) ys h =
-    let first = bind_ok (f k x) _ ys h in
-    let later = bind_ok (each_from f (k + 1) xs) _ ys first.2 in
-    ap length (sym (same_Ok (first.0 ∷ later.0) ys later.2)) ∙ ap suc (each-length f (k + 1) xs later.0 later.1)
-
-pub each-all : {A B : Type 0} (f : Reader A B) (P : B → Type 0) → ((k : ℕ) (x : A) (y : B) → f k x ≡ Ok y → P y) → (k : ℕ) (xs : List A) (ys : List B) → each_from f k xs ≡ Ok ys → AllByRecursion P ys
-each-all {A} {B} f P holds k [] ys h = let Q : List B → Type 0 = λ zs. AllByRecursion P zs in subst Q (same_Ok [] ys h) tt
-each-all {A} {B} f P holds k (x ∷ xs) ys h =
-    let first = bind_ok (f k x) _ ys h in
-    let later = bind_ok (each_from f (k + 1) xs) _ ys first.2 in
-    let Q : List B → Type 0 = λ zs. AllByRecursion P zs in
-    subst Q (same_Ok (first.0 ∷ later.0) ys later.2) (holds k x first.0 first.1, each-all f P holds (k + 1) xs later.0 later.1)
 
 -- ---- a value for each bundle, and none for the empty one
 
@@ -90,7 +75,7 @@ capped-zeros v cap s = let t = total-zeros s in sym (capped-all v cap (zeros s) 
 values_at-count : (bidder limit needed : ℕ) (table : Members) (values : List ℕ) → values_at bidder limit needed table ≡ Ok values → length values ≡ needed
 unfolding values_at
 values_at-count bidder limit needed table values h =
-    let value = bind_ok (value_at (key.Values bidder) (codes "values") table) _ values h in
+    let value = bind_ok (found (value_at (key.Values bidder) (codes "values") table)) _ values h in
     let numbers = bind_ok (integers_of (key.Values bidder) value.0) _ values value.2 in
     let counted = bind_ok (long bidder needed (length numbers.0)) _ values numbers.2 in
     each-length _ 0 numbers.0 values counted.2 ∙ long-count bidder needed (length numbers.0) counted.0 counted.1
@@ -105,7 +90,7 @@ passed n m refusal u e = by (nat_eq n m) refl e
 table-whole : (bidder limit : ℕ) (s : List ℕ) (table : Members) (values : List ℕ) → table_form bidder limit s table ≡ Ok values → IsWhole s values
 unfolding table_form
 table-whole bidder limit s table values h =
-    let keys = bind_ok (known_keys (codes "form" ∷ codes "values" ∷ []) table) _ values h in
+    let keys = bind_ok (found (known_keys (codes "form" ∷ codes "values" ∷ []) table)) _ values h in
     let read = bind_ok (values_at bidder limit (box_size s) table) _ values keys.2 in
     let none = bind_ok (check (slice_index read.0 0 == 0) (fault.EmptyNotZero bidder)) _ values read.2 in
     let P : List ℕ → Type 0 = λ v. IsWhole s v in
@@ -114,21 +99,21 @@ table-whole bidder limit s table values h =
 marginal-whole : (bidder limit : ℕ) (s : List ℕ) (table : Members) (values : List ℕ) → marginal_form bidder limit s table ≡ Ok values → IsWhole s values
 unfolding marginal_form
 marginal-whole bidder limit s table values h =
-    let keys = bind_ok (known_keys (codes "form" ∷ codes "lists" ∷ []) table) _ values h in
+    let keys = bind_ok (found (known_keys (codes "form" ∷ codes "lists" ∷ []) table)) _ values h in
     let read = bind_ok (lists_at bidder limit s table) _ values keys.2 in
     mapped-whole (marginal_value s read.0) s values (marginal-zeros s read.0) (same_Ok _ values read.2)
 
 unit-whole : (bidder limit : ℕ) (s : List ℕ) (table : Members) (values : List ℕ) → unit_form bidder limit s table ≡ Ok values → IsWhole s values
 unfolding unit_form
 unit-whole bidder limit s table values h =
-    let keys = bind_ok (known_keys (codes "form" ∷ codes "values" ∷ []) table) _ values h in
+    let keys = bind_ok (found (known_keys (codes "form" ∷ codes "values" ∷ []) table)) _ values h in
     let read = bind_ok (values_at bidder limit (length s) table) _ values keys.2 in
     mapped-whole (unit_value read.0) s values (unit-zeros read.0 s) (same_Ok _ values read.2)
 
 capped-whole : (bidder limit : ℕ) (s : List ℕ) (table : Members) (values : List ℕ) → capped_form bidder limit s table ≡ Ok values → IsWhole s values
 unfolding capped_form
 capped-whole bidder limit s table values h =
-    let keys = bind_ok (known_keys (codes "form" ∷ codes "values" ∷ codes "cap" ∷ []) table) _ values h in
+    let keys = bind_ok (found (known_keys (codes "form" ∷ codes "values" ∷ codes "cap" ∷ []) table)) _ values h in
     let read = bind_ok (values_at bidder limit (length s) table) _ values keys.2 in
     let cap = bind_ok (cap_at bidder (length s) table) _ values read.2 in
     mapped-whole (capped_value read.0 cap.0) s values (capped-zeros read.0 cap.0 s) (same_Ok _ values cap.2)
@@ -167,8 +152,8 @@ values-kept ceiling values narrow found same some few empty is none low high =
 pub valuation-table : (ceiling bidder : ℕ) (s : List ℕ) (element : Data) (values : List ℕ) → 1 ≤ ceiling → valuation_at ceiling bidder s element ≡ Ok values → IsTable s ceiling values
 unfolding valuation_at
 valuation-table ceiling bidder s element values some h =
-    let table = bind_ok (table_of (key.Table bidder) element) _ values h in
-    let form = bind_ok (string_at (key.Form bidder) (codes "form") table.0) _ values table.2 in
+    let table = bind_ok (found (table_of (key.Table bidder) element)) _ values h in
+    let form = bind_ok (found (string_at (key.Form bidder) (codes "form") table.0)) _ values table.2 in
     let read = bind_ok (in_form form.0 bidder (ceiling - 1) s table.0) _ values form.2 in
     let kept = below-passed bidder (position (λ value. nat_le ceiling value) read.0) read.0 values read.2 in
     let w = form-whole form.0 bidder (ceiling - 1) s table.0 read.0 read.1 in
@@ -190,7 +175,7 @@ valuation-read ceiling bidder number limit s element table form values list numb
 counted : (n m : ℕ) (refusal : ValuesFault) → n ≡ m → check (n == m) refusal ≡ Ok tt
 counted n m refusal e = let t : nat_eq n m ≡ true = grind (arith, nat_tests) in rw t
 
-pub file-read : (s : List ℕ) (bidders ceiling : ℕ) (bytes : List ℕ) (file : Members) (elements : List Value) (u : Unit {0}) → document_of bytes ≡ Ok file → known_keys (codes "valuations" ∷ []) file ≡ Ok u
+pub file-read : (s : List ℕ) (bidders ceiling : ℕ) (bytes : List ℕ) (file : Members) (elements : List Value) (u : Unit {0}) → document_of bytes ≡ Ok file → known_keys {K = ValueKey} (codes "valuations" ∷ []) file ≡ Ok u
     → array_at key.Valuations (codes "valuations") file ≡ Ok (map view elements) → length elements ≡ bidders
     → each_from (λ bidder v. valuation_at ceiling bidder s (view v)) 1 elements ≡ values_of s bidders ceiling bytes
 unfolding values_of
@@ -202,8 +187,8 @@ pub file-tables : (s : List ℕ) (bidders ceiling : ℕ) (bytes : List ℕ) (val
 unfolding values_of
 file-tables s bidders ceiling bytes values some h =
     let file = bind_ok (document_of bytes) _ values h in
-    let keys = bind_ok (known_keys (codes "valuations" ∷ []) file.0) _ values file.2 in
-    let elements = bind_ok (array_at key.Valuations (codes "valuations") file.0) _ values keys.2 in
+    let keys = bind_ok (found (known_keys (codes "valuations" ∷ []) file.0)) _ values file.2 in
+    let elements = bind_ok (found (array_at key.Valuations (codes "valuations") file.0)) _ values keys.2 in
     let count = bind_ok (check (length elements.0 == bidders) (fault.Bidders (length elements.0))) _ values elements.2 in
     let same : length elements.0 ≡ bidders = passed (length elements.0) bidders (fault.Bidders (length elements.0)) count.0 count.1 in (
       each-length (λ bidder. valuation_at ceiling bidder s) 1 elements.0 values count.2 ∙ same,

@@ -11,7 +11,6 @@ pub mod Renewed
 pub mod Spread
 pub mod Steady
 pub mod Trees
-pub mod Turns
 pub mod Exchanges
 pub mod MarginalStrong
 pub mod UnitStrong

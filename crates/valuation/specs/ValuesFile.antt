@@ -16,13 +16,14 @@ use Rattle.std.specs.Str.{bytes_eq}
 use Rattle.lot_base.specs.Goods.{box_size}
 use Rattle.lot_base.specs.Box.{box}
 use Rattle.toml.specs.Data.{Data, Members}
-use Rattle.toml_tree.specs.Steps.{◌>>=◌, check}
+use Rattle.toml_tree.specs.Readers.{value_at, integer_at, string_at, array_at, table_of, known_keys}
+use Rattle.toml_tree.specs.Steps.{◌>>=◌, check, each_from}
 use Rattle.toml_tree.specs.Tree.{tree_of}
 use Rattle.valuation.specs.declared.faults.ValueKey.TheVariants as key
 use Rattle.valuation.specs.declared.faults.ValuesFault.{ValuesFault}
 use Rattle.valuation.specs.declared.faults.ValuesFault.TheVariants as fault
 use Rattle.valuation.specs.Forms.{marginal_value, unit_value, capped_value}
-use Rattle.valuation.specs.Tree.{each_from, value_at, integer_at, string_at, array_at, integers_of, lists_of, table_of, known_keys, ranged}
+use Rattle.valuation.specs.Tree.{found, integers_of, lists_of, ranged}
 
 -- the tree of the document
 unfoldable pub document_of : List ℕ → Result Members ValuesFault
@@ -49,7 +50,7 @@ joined (l ∷ lists) = l ++ joined lists
 -- so many entries at the key `values`
 unfoldable pub values_at : (bidder limit needed : ℕ) → Members → Result (List ℕ) ValuesFault
 values_at bidder limit needed table = do
-  value ← value_at (key.Values bidder) (codes "values") table
+  value ← found (value_at (key.Values bidder) (codes "values") table)
   numbers ← integers_of (key.Values bidder) value
   _ ← long bidder needed (length numbers)
   entries bidder limit numbers
@@ -57,7 +58,7 @@ values_at bidder limit needed table = do
 -- a list for each good at the key `lists`, with an entry for each unit; the entries of all of them
 unfoldable pub lists_at : (bidder limit : ℕ) (supply : List ℕ) → Members → Result (List ℕ) ValuesFault
 lists_at bidder limit supply table = do
-  value ← value_at (key.Lists bidder) (codes "lists") table
+  value ← found (value_at (key.Lists bidder) (codes "lists") table)
   lists ← lists_of (key.Lists bidder) value
   _ ← long bidder (length supply) (length lists)
   _ ← all_long bidder supply lists
@@ -65,31 +66,31 @@ lists_at bidder limit supply table = do
 
 -- the cap; its place is after those of the values
 unfoldable pub cap_at : (bidder goods : ℕ) → Members → Result ℕ ValuesFault
-cap_at bidder goods table = integer_at (key.Cap bidder) (codes "cap") table >>= ranged 65535 (fault.Value bidder goods)
+cap_at bidder goods table = found (integer_at (key.Cap bidder) (codes "cap") table) >>= ranged 65535 (fault.Value bidder goods)
 
 -- the values of all bundles of the box, in each form
 unfoldable pub table_form : (bidder limit : ℕ) (supply : List ℕ) → Members → Result (List ℕ) ValuesFault
 table_form bidder limit supply table = do
-  _ ← known_keys (codes "form" ∷ codes "values" ∷ []) table
+  _ ← found (known_keys (codes "form" ∷ codes "values" ∷ []) table)
   values ← values_at bidder limit (box_size supply) table
   _ ← check (slice_index values 0 == 0) (fault.EmptyNotZero bidder)
   Ok values
 
 unfoldable pub marginal_form : (bidder limit : ℕ) (supply : List ℕ) → Members → Result (List ℕ) ValuesFault
 marginal_form bidder limit supply table = do
-  _ ← known_keys (codes "form" ∷ codes "lists" ∷ []) table
+  _ ← found (known_keys (codes "form" ∷ codes "lists" ∷ []) table)
   numbers ← lists_at bidder limit supply table
   Ok (map (marginal_value supply numbers) (box supply))
 
 unfoldable pub unit_form : (bidder limit : ℕ) (supply : List ℕ) → Members → Result (List ℕ) ValuesFault
 unit_form bidder limit supply table = do
-  _ ← known_keys (codes "form" ∷ codes "values" ∷ []) table
+  _ ← found (known_keys (codes "form" ∷ codes "values" ∷ []) table)
   values ← values_at bidder limit (length supply) table
   Ok (map (unit_value values) (box supply))
 
 unfoldable pub capped_form : (bidder limit : ℕ) (supply : List ℕ) → Members → Result (List ℕ) ValuesFault
 capped_form bidder limit supply table = do
-  _ ← known_keys (codes "form" ∷ codes "values" ∷ codes "cap" ∷ []) table
+  _ ← found (known_keys (codes "form" ∷ codes "values" ∷ codes "cap" ∷ []) table)
   values ← values_at bidder limit (length supply) table
   cap ← cap_at bidder (length supply) table
   Ok (map (capped_value values cap) (box supply))
@@ -110,8 +111,8 @@ below bidder (Some index) values = Err (fault.Above bidder index)
 
 unfoldable pub valuation_at : (ceiling bidder : ℕ) (supply : List ℕ) → Data → Result (List ℕ) ValuesFault
 valuation_at ceiling bidder supply element = do
-  table ← table_of (key.Table bidder) element
-  form ← string_at (key.Form bidder) (codes "form") table
+  table ← found (table_of (key.Table bidder) element)
+  form ← found (string_at (key.Form bidder) (codes "form") table)
   values ← in_form form bidder (ceiling - 1) supply table
   below bidder (position (λ value. nat_le ceiling value) values) values
 
@@ -119,7 +120,7 @@ valuation_at ceiling bidder supply element = do
 unfoldable pub values_of : (supply : List ℕ) (bidders ceiling : ℕ) → List ℕ → Result (List (List ℕ)) ValuesFault
 values_of supply bidders ceiling bytes = do
   file ← document_of bytes
-  _ ← known_keys (codes "valuations" ∷ []) file
-  elements ← array_at key.Valuations (codes "valuations") file
+  _ ← found (known_keys (codes "valuations" ∷ []) file)
+  elements ← found (array_at key.Valuations (codes "valuations") file)
   _ ← check (length elements == bidders) (fault.Bidders (length elements))
   each_from (λ bidder. valuation_at ceiling bidder supply) 1 elements

@@ -2,9 +2,10 @@
 
 ghost use Rattle.std.specs.Prelude.{◌≡◌};
 ghost use Rattle.valuation.specs.declared.faults.ValuesFault.TheVariants.{NoMemory};
+ghost use Rattle.valuation.specs.Tree.{fault_of};
 
 use std::alloc::{AllocError, AllocFailed};
-use toml_tree::KeyText;
+use toml_tree::{KeyText, TreeFault};
 
 /// A key of a valuation file, or a table of its array. Bidders are counted from 1.
 #[derive(Clone, Copy, Debug, PartialEq, Eq)]
@@ -49,6 +50,19 @@ pub enum ValuesFault {
     Form(u8),
     /// Out of memory.
     NoMemory,
+}
+
+impl From<TreeFault<ValueKey>> for ValuesFault {
+    ghost from_gives = { λ found fault. fault ≡ fault_of found };
+
+    fn from(found: TreeFault<ValueKey>) -> ValuesFault {
+        match found {
+            TreeFault::Missing(key) => ValuesFault::Missing(key),
+            TreeFault::WrongKind(key) => ValuesFault::WrongKind(key),
+            TreeFault::UnknownKey(key) => ValuesFault::UnknownKey(key),
+            TreeFault::NoMemory => ValuesFault::NoMemory,
+        }
+    }
 }
 
 impl From<AllocError> for ValuesFault {

@@ -4,7 +4,6 @@
 mod collecting;
 pub mod columns;
 pub mod costs;
-mod document;
 pub mod faults;
 mod forms;
 pub mod laws;

@@ -4,27 +4,32 @@ ghost use Rattle.lot_base.specs.declared.limits.TheConstants.{MOST_BUNDLES};
 ghost use Rattle.lot_base.specs.Goods.{box_size};
 ghost use Rattle.toml.specs.View.{view, table_view};
 ghost use Rattle.valuation.specs.Forms.{total};
-ghost use Rattle.valuation.specs.Tree.{each_from, integer_of, integers_of, lists_of, ranged};
+ghost use Rattle.toml_tree.specs.Readers.{integer_of};
+ghost use Rattle.toml_tree.specs.Steps.{each_from};
+ghost use Rattle.valuation.specs.Tree.{found, integers_of, lists_of, within, ranged};
 ghost use Rattle.valuation.specs.ValuesFile.{long, all_long, entries, joined, values_at, lists_at, cap_at};
 ghost use Rattle.valuation.specs.Seen.{GivesIfRoom};
 ghost use Rattle.valuation.specs.declared.faults.ValuesFault.TheVariants as fault;
 
-use crate::document::{array_of, integer_at, value_at, within};
 use crate::faults::{ValueKey, ValuesFault};
 use lot_base::Sequence;
 use std::alloc::{AllocError, Global};
 use toml::{Table, Value};
+use toml_tree::{array_of, integer_at, integer_of, value_at};
 
-/// The integer that a value is.
-fn integer_of(value: &Value, key: ValueKey) -> Result<i64, ValuesFault>
-    ensures { result ≡ integer_of key (view value.now) }
+/// The number, if it is from 0 to `high`.
+fn within(value: i64, high: u32) -> Option<u32>
+    ensures { result ≡ within high value }
 {
-    value.as_integer().ok_or(ValuesFault::WrongKind(key))
+    match u32::try_from(value) {
+        Ok(number) if number <= high => Some(number),
+        _ => None,
+    }
 }
 
 /// The integers that the elements of an array are.
 fn integers(alloc: Global, elements: &[Value], key: ValueKey) -> Result<Vec<i64>, ValuesFault>
-    ensures { GivesIfRoom (λ v. v.items) result (each_from (λ _ v. integer_of key (view v)) 0 elements.now) }
+    ensures { GivesIfRoom (λ v. v.items) result (each_from (λ _ v. found (integer_of key (view v))) 0 elements.now) }
 {
     let mut numbers = Vec::new(alloc);
     for element in elements {

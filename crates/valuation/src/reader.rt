@@ -4,12 +4,11 @@ ghost use Rattle.std.specs.List.{AllByRecursion};
 ghost use Rattle.toml.specs.View.{view, table_view};
 ghost use Rattle.lot_base.specs.declared.limits.TheConstants.{GREATEST_CEILING, MOST_BUNDLES};
 ghost use Rattle.lot_base.specs.Goods.{box_size, IsSupply};
-ghost use Rattle.valuation.specs.Tree.{each_from};
+ghost use Rattle.toml_tree.specs.Steps.{each_from};
 ghost use Rattle.valuation.specs.ValuesFile.{document_of, table_form, marginal_form, unit_form, capped_form, in_form, below, valuation_at, values_of};
 ghost use Rattle.valuation.specs.Values.{IsTable};
 ghost use Rattle.valuation.specs.Seen.{GivesIfRoom};
 
-use crate::document::{array_at, known_keys, string_at, table_of};
 use crate::faults::{ValueKey, ValuesFault};
 use crate::forms::{capped_values, marginal_values, unit_values};
 use crate::numbers::{cap_at, lists_at, values_at};
@@ -18,7 +17,7 @@ use lot_base::limits::GREATEST_VALUES;
 use lot_base::{Goods, Terms};
 use std::alloc::{AllocError, Global};
 use toml::{Table, Value};
-use toml_tree::tree_of;
+use toml_tree::{array_at, known_keys, string_at, table_of, tree_of};
 
 /// The most bytes of a valuation file.
 pub const MOST_BYTES: usize = GREATEST_VALUES as usize;
@@ -46,7 +45,7 @@ fn table_form(
     ensures { GivesIfRoom (λ v. v.items) result (table_form bidder limit goods.now (table_view table.now)) }
 {
     let _count = goods.count();
-    known_keys(alloc, table, &["form", "values"])?;
+    known_keys::<ValueKey>(alloc, table, &["form", "values"])?;
     let values = values_at(alloc, bidder, limit, goods.box_size(), table)?;
     if first_of(&values) != 0 {
         return Err(ValuesFault::EmptyNotZero(bidder));
@@ -79,7 +78,7 @@ fn marginal_form(
 ) -> Result<Vec<u64>, ValuesFault>
     ensures { GivesIfRoom (λ v. v.items) result (marginal_form bidder limit goods.now (table_view table.now)) }
 {
-    known_keys(alloc, table, &["form", "lists"])?;
+    known_keys::<ValueKey>(alloc, table, &["form", "lists"])?;
     let _count = goods.count();
     let entries = lists_at(alloc, bidder, limit, goods.as_slice(), table)?;
     Ok(marginal_values(alloc, goods, &entries)?)
@@ -96,7 +95,7 @@ fn unit_form(
 ) -> Result<Vec<u64>, ValuesFault>
     ensures { GivesIfRoom (λ v. v.items) result (unit_form bidder limit goods.now (table_view table.now)) }
 {
-    known_keys(alloc, table, &["form", "values"])?;
+    known_keys::<ValueKey>(alloc, table, &["form", "values"])?;
     let values = values_at(alloc, bidder, limit, u32::from(goods.count()), table)?;
     Ok(unit_values(alloc, goods, &values)?)
 }
@@ -112,7 +111,7 @@ fn capped_form(
 ) -> Result<Vec<u64>, ValuesFault>
     ensures { GivesIfRoom (λ v. v.items) result (capped_form bidder limit goods.now (table_view table.now)) }
 {
-    known_keys(alloc, table, &["form", "values", "cap"])?;
+    known_keys::<ValueKey>(alloc, table, &["form", "values", "cap"])?;
     let values = values_at(alloc, bidder, limit, u32::from(goods.count()), table)?;
     let cap = cap_at(bidder, goods.count(), table)?;
     capped_values(alloc, goods, &values, cap)
@@ -244,7 +243,7 @@ fn values_in(
     ensures { GivesIfRoom (λ v. v.items) result (values_of goods.now bidders ceiling bytes.now) }
 {
     let file = document_of(alloc, bytes)?;
-    known_keys(alloc, &file, &["valuations"])?;
+    known_keys::<ValueKey>(alloc, &file, &["valuations"])?;
     let elements = array_at(&file, "valuations", ValueKey::Valuations)?;
     if elements.len() != bidders as usize {
         return Err(ValuesFault::Bidders(elements.len() as u64));

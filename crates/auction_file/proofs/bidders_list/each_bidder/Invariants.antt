@@ -1,7 +1,8 @@
 use Rattle.std.proofs.Common.{◌≡◌, map, length}
 use Rattle.toml.specs.View.{view}
 use Rattle.auction_file.specs.AuctionFile.{bidder_at, each}
-use Rattle.auction_file.proofs.Turns.{after, rest_of}
+use Rattle.toml_tree.proofs.Turns.{after}
+use Rattle.auction_file.proofs.Turns.{rest_of}
 use Rattle.auction_file.proofs.bidders_list.each_bidder.Given as goal
 
 -- the bidders so far and those of the rest are all of the bidders

@@ -1,7 +1,8 @@
 use Rattle.std.proofs.Common.{◌≡◌, map}
 use Rattle.toml.specs.View.{view}
 use Rattle.auction_file.specs.AuctionFile.{good_at, each}
-use Rattle.auction_file.proofs.Turns.{after, rest_of}
+use Rattle.toml_tree.proofs.Turns.{after}
+use Rattle.auction_file.proofs.Turns.{rest_of}
 use Rattle.auction_file.proofs.goods_list.each_good.Given as goal
 
 -- the goods so far and those of the rest are all of the goods

@@ -1,6 +1,6 @@
 use Rattle.std.proofs.Common.{◌+◌, ◌-◌, ◌*◌, ◌^◌, ◌∙◌, ◌≡◌, ap, length, arith, rules}
 use Rattle.valuation.proofs.Spread.{spread-start, spread-next, spread-small}
-use Rattle.valuation.proofs.Turns.{get_or-any}
+use Rattle.std.proofs.lemmas.List.{get_or_default}
 use Rattle.valuation.proofs.costs.spread.Goals as goal
 
 pub loop-place-init : goal.loop-place-init
@@ -25,7 +25,7 @@ overflow_add-cost c =
     let so_far = c.loop-place.invariant.each (place - size) (omega arith) in
     let small = spread-small items size c.args.price (place - size) (2 ^ 50) c.requires.small (omega arith) (omega arith) in
     let whole = c.loop-place.invariant.whole in
-    let here = c.index.ensures ∙ get_or-any c.loop-place.costs.items (place - size) c.index.result.now 0 (omega arith) in
+    let here = c.index.ensures ∙ get_or_default c.loop-place.costs.items (place - size) c.index.result.now 0 (omega arith) in
     omega arith
 
 pub loop-place-preserved : goal.loop-place-preserved
@@ -41,5 +41,5 @@ loop-place-preserved c =
       whole = search rules;
       high = omega arith;
       each = rw c.in_ok-push.ensures.items
-          (spread-next c.args.costs.now.items c.loop-place.costs.items size c.args.price place _ (omega arith) high whole c.loop-place.invariant.each (ap (λ n. n + c.args.price) (c.index.ensures ∙ get_or-any c.loop-place.costs.items (place - size) c.index.result.now 0 (omega arith))));
+          (spread-next c.args.costs.now.items c.loop-place.costs.items size c.args.price place _ (omega arith) high whole c.loop-place.invariant.each (ap (λ n. n + c.args.price) (c.index.ensures ∙ get_or_default c.loop-place.costs.items (place - size) c.index.result.now 0 (omega arith))));
     }

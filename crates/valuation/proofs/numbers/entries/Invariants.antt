@@ -1,7 +1,8 @@
 use Rattle.std.proofs.Common.{◌≡◌, length}
-use Rattle.valuation.specs.Tree.{each_from, ranged}
+use Rattle.toml_tree.specs.Steps.{each_from}
+use Rattle.valuation.specs.Tree.{ranged}
 use Rattle.valuation.specs.declared.faults.ValuesFault.TheVariants.{Value}
-use Rattle.valuation.proofs.Turns.{after, rest_of}
+use Rattle.toml_tree.proofs.Turns.{after, rest_of}
 use Rattle.valuation.proofs.numbers.entries.Given as goal
 
 -- the entries so far and those of the rest are all of the entries

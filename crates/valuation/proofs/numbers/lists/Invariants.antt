@@ -1,7 +1,8 @@
 use Rattle.std.proofs.Common.{◌≡◌}
 use Rattle.toml.specs.View.{view}
-use Rattle.valuation.specs.Tree.{each_from, integers_of}
-use Rattle.valuation.proofs.Turns.{after, rest_of}
+use Rattle.toml_tree.specs.Steps.{each_from}
+use Rattle.valuation.specs.Tree.{integers_of}
+use Rattle.toml_tree.proofs.Turns.{after, rest_of}
 use Rattle.valuation.proofs.numbers.lists.Given as goal
 
 -- the lists so far and those of the rest are all of the lists

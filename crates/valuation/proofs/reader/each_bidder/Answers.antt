@@ -4,7 +4,7 @@ use Rattle.toml.specs.View.{view}
 use Rattle.toml.specs.declared.value.Value.{Value}
 use Rattle.valuation.specs.declared.faults.ValuesFault.{ValuesFault}
 use Rattle.valuation.specs.ValuesFile.{valuation_at}
-use Rattle.valuation.proofs.Turns.{each-turn, each-refused}
+use Rattle.toml_tree.proofs.Turns.{each-turn, each-refused}
 use Rattle.valuation.proofs.reader.each_bidder.Goals as goal
 
 pub returns-in_err-valuation : goal.returns-in_err-valuation

@@ -1,8 +1,8 @@
 use Rattle.std.proofs.Common.{◌≡◌}
 use Rattle.toml.specs.View.{view}
-use Rattle.valuation.specs.Tree.{each_from}
+use Rattle.toml_tree.specs.Steps.{each_from}
 use Rattle.valuation.specs.ValuesFile.{valuation_at}
-use Rattle.valuation.proofs.Turns.{after, rest_of}
+use Rattle.toml_tree.proofs.Turns.{after, rest_of}
 use Rattle.valuation.proofs.reader.each_bidder.Given as goal
 
 -- the valuations so far and those of the rest are all of the valuations
