@@ -2,6 +2,7 @@
 use Rattle.std.proofs.Common.{◌≡◌, ◌∙◌, ◌-◌, ◌*◌, ℕ, sym, ap, subst, arith, length, set, List, refl, Option, None, true, false, replicate}
 use Rattle.std.specs.Prelude.{slice_index_or}
 use Rattle.lot_base.specs.declared.phases.Phase.TheVariants.{Running}
+use Rattle.clock.specs.declared.clocks.Clock.TheInside.{Inside}
 use Rattle.clock.specs.declared.next_step.Standing.{Standing}
 use Rattle.clock.specs.Past.{PastOf, pushed, raised_on}
 use Rattle.clock.specs.Reports.{ClockOf, applied, members_of}
@@ -10,31 +11,49 @@ use Rattle.clock.proofs.CountedIn.{Case, among-in, can-count, goes-in, left-in, 
 use Rattle.clock.proofs.Taking.{can-raise-on, few-on}
 use Rattle.clock.proofs.clocks.Clock.count_in.Goals as goal
 
+-- what the clock keeps when the report comes
+abbrev case : Inside → ℕ → Option (List (List ℕ)) → Case
+case i bidder demand = record {
+  c = record { terms = i.terms; number = i.number; reports = i.past.reports };
+  b = bidder;
+  told = demand;
+  past = i.past;
+  left = i.left;
+  steps = i.steps;
+  phase = i.phase;
+  prices = i.prices;
+  tables = i.tables;
+  sums = i.excess.0;
+  account = i.account;
+  latest = i.latest.items;
+  marks = i.reported;
+}
+
 pub count_demand-requires-clause-small : goal.count_demand-requires-clause-small
 count_demand-requires-clause-small c =
     let i = c.self.inside in
-    let k : Case = record { c = record { terms = i.terms; number = i.number; reports = i.past.reports }; b = c.args.bidder; told = c.args.demand; past = i.past; left = i.left; steps = i.steps; phase = i.phase; prices = i.prices; tables = i.tables; sums = i.excess.0; account = i.account; latest = i.latest.items; marks = i.reported } in
+    let k = case i c.args.bidder c.args.demand in
     let a = can-count k c.args.self.now.history (ap (λ (v : ClockOf). v.history) c.self.view_is) c.self.invariant c.requires.take c.requires.fits c.requires.known in
     small-in k a
 
 pub count_demand-requires-clause-room : goal.count_demand-requires-clause-room
 count_demand-requires-clause-room c =
     let i = c.self.inside in
-    let k : Case = record { c = record { terms = i.terms; number = i.number; reports = i.past.reports }; b = c.args.bidder; told = c.args.demand; past = i.past; left = i.left; steps = i.steps; phase = i.phase; prices = i.prices; tables = i.tables; sums = i.excess.0; account = i.account; latest = i.latest.items; marks = i.reported } in
+    let k = case i c.args.bidder c.args.demand in
     let a = can-count k c.args.self.now.history (ap (λ (v : ClockOf). v.history) c.self.view_is) c.self.invariant c.requires.take c.requires.fits c.requires.known in
     room-in k a
 
 pub note_demand-requires-clause-goods : goal.note_demand-requires-clause-goods
 note_demand-requires-clause-goods c =
     let i = c.self.inside in
-    let k : Case = record { c = record { terms = i.terms; number = i.number; reports = i.past.reports }; b = c.args.bidder; told = c.args.demand; past = i.past; left = i.left; steps = i.steps; phase = i.phase; prices = i.prices; tables = i.tables; sums = i.excess.0; account = i.account; latest = i.latest.items; marks = i.reported } in
+    let k = case i c.args.bidder c.args.demand in
     let a = can-count k c.args.self.now.history (ap (λ (v : ClockOf). v.history) c.self.view_is) c.self.invariant c.requires.take c.requires.fits c.requires.known in
     goods-in k a
 
 pub note_demand-requires-clause-again : goal.note_demand-requires-clause-again
 note_demand-requires-clause-again c =
     let i = c.self.inside in
-    let k : Case = record { c = record { terms = i.terms; number = i.number; reports = i.past.reports }; b = c.args.bidder; told = c.args.demand; past = i.past; left = i.left; steps = i.steps; phase = i.phase; prices = i.prices; tables = i.tables; sums = i.excess.0; account = i.account; latest = i.latest.items; marks = i.reported } in
+    let k = case i c.args.bidder c.args.demand in
     let a = can-count k c.args.self.now.history (ap (λ (v : ClockOf). v.history) c.self.view_is) c.self.invariant c.requires.take c.requires.fits c.requires.known in
     λ untold.
     let from : c.saturating_sub.result * c.member_count-members.result ≡ (i.steps - 1) * length (members_of k.c) = λ j. c.saturating_sub.ensures j * c.member_count-members.ensures j in
@@ -46,14 +65,14 @@ note_demand-requires-clause-again c =
 pub overflow_sub-self : goal.overflow_sub-self
 overflow_sub-self c =
     let i = c.self.inside in
-    let k : Case = record { c = record { terms = i.terms; number = i.number; reports = i.past.reports }; b = c.args.bidder; told = c.args.demand; past = i.past; left = i.left; steps = i.steps; phase = i.phase; prices = i.prices; tables = i.tables; sums = i.excess.0; account = i.account; latest = i.latest.items; marks = i.reported } in
+    let k = case i c.args.bidder c.args.demand in
     let a = can-count k c.args.self.now.history (ap (λ (v : ClockOf). v.history) c.self.view_is) c.self.invariant c.requires.take c.requires.fits c.requires.known in
     left-in k a
 
 pub invariant_of-self : goal.invariant_of-self
 invariant_of-self c =
     let i = c.self.inside in
-    let k : Case = record { c = record { terms = i.terms; number = i.number; reports = i.past.reports }; b = c.args.bidder; told = c.args.demand; past = i.past; left = i.left; steps = i.steps; phase = i.phase; prices = i.prices; tables = i.tables; sums = i.excess.0; account = i.account; latest = i.latest.items; marks = i.reported } in
+    let k = case i c.args.bidder c.args.demand in
     let a = can-count k c.args.self.now.history (ap (λ (v : ClockOf). v.history) c.self.view_is) c.self.invariant c.requires.take c.requires.fits c.requires.known in
     let n = noted-in k a c.index_mut.result.now c.note_demand.new.latest c.note_demand.new.past (read-in k a c.index_mut.result.now c.index_mut.ensures.value) c.note_demand.ensures.past c.note_demand.ensures.latest in
     let s : Standing = record { steps = i.steps; phase = Running; prices = i.prices; raised = None } in
@@ -63,21 +82,21 @@ invariant_of-self c =
 pub next-standing-requires-clause-below : goal.next-standing-requires-clause-below
 next-standing-requires-clause-below c =
     let i = c.self.inside in
-    let k : Case = record { c = record { terms = i.terms; number = i.number; reports = i.past.reports }; b = c.args.bidder; told = c.args.demand; past = i.past; left = i.left; steps = i.steps; phase = i.phase; prices = i.prices; tables = i.tables; sums = i.excess.0; account = i.account; latest = i.latest.items; marks = i.reported } in
+    let k = case i c.args.bidder c.args.demand in
     let a = can-count k c.args.self.now.history (ap (λ (v : ClockOf). v.history) c.self.view_is) c.self.invariant c.requires.take c.requires.fits c.requires.known in
     can-raise-on k.c (report_of k.c k.b k.told) (now_present k.c k.steps (report_of k.c k.b k.told)) k.left k.steps k.phase k.prices (set k.tables k.b c.count_demand.new.kept) c.count_demand.new.excess.0 k.account (moment-in k a c.count_demand.new.kept c.count_demand.new.excess.0 c.count_demand.ensures)
 
 pub next-standing-requires-clause-few : goal.next-standing-requires-clause-few
 next-standing-requires-clause-few c =
     let i = c.self.inside in
-    let k : Case = record { c = record { terms = i.terms; number = i.number; reports = i.past.reports }; b = c.args.bidder; told = c.args.demand; past = i.past; left = i.left; steps = i.steps; phase = i.phase; prices = i.prices; tables = i.tables; sums = i.excess.0; account = i.account; latest = i.latest.items; marks = i.reported } in
+    let k = case i c.args.bidder c.args.demand in
     let a = can-count k c.args.self.now.history (ap (λ (v : ClockOf). v.history) c.self.view_is) c.self.invariant c.requires.take c.requires.fits c.requires.known in
     few-on k.c (report_of k.c k.b k.told) (now_present k.c k.steps (report_of k.c k.b k.told)) k.left k.steps k.phase k.prices (set k.tables k.b c.count_demand.new.kept) c.count_demand.new.excess.0 k.account (moment-in k a c.count_demand.new.kept c.count_demand.new.excess.0 c.count_demand.ensures)
 
 pub invariant_of-self-in_default : goal.invariant_of-self-in_default
 invariant_of-self-in_default c =
     let i = c.self.inside in
-    let k : Case = record { c = record { terms = i.terms; number = i.number; reports = i.past.reports }; b = c.args.bidder; told = c.args.demand; past = i.past; left = i.left; steps = i.steps; phase = i.phase; prices = i.prices; tables = i.tables; sums = i.excess.0; account = i.account; latest = i.latest.items; marks = i.reported } in
+    let k = case i c.args.bidder c.args.demand in
     let a = can-count k c.args.self.now.history (ap (λ (v : ClockOf). v.history) c.self.view_is) c.self.invariant c.requires.take c.requires.fits c.requires.known in
     let n = noted-in k a c.index_mut.result.now c.note_demand.new.latest c.note_demand.new.past (read-in k a c.index_mut.result.now c.index_mut.ensures.value) c.note_demand.ensures.past c.note_demand.ensures.latest in
     let s = c.next-standing.result in
@@ -87,7 +106,7 @@ invariant_of-self-in_default c =
 pub returns-in_default : goal.returns-in_default
 returns-in_default c =
     let i = c.self.inside in
-    let k : Case = record { c = record { terms = i.terms; number = i.number; reports = i.past.reports }; b = c.args.bidder; told = c.args.demand; past = i.past; left = i.left; steps = i.steps; phase = i.phase; prices = i.prices; tables = i.tables; sums = i.excess.0; account = i.account; latest = i.latest.items; marks = i.reported } in
+    let k = case i c.args.bidder c.args.demand in
     let a = can-count k c.args.self.now.history (ap (λ (v : ClockOf). v.history) c.self.view_is) c.self.invariant c.requires.take c.requires.fits c.requires.known in
     let n = noted-in k a c.index_mut.result.now c.note_demand.new.latest c.note_demand.new.past (read-in k a c.index_mut.result.now c.index_mut.ensures.value) c.note_demand.ensures.past c.note_demand.ensures.latest in
     ap (λ (p : PastOf). record { history = record { terms = i.terms; number = i.number; reports = p.reports }; spare_reports = p.spare_reports; spare_quantities = p.spare_quantities }) n.0
@@ -96,7 +115,7 @@ returns-in_default c =
 pub raise-requires : goal.raise-requires
 raise-requires c =
     let i = c.self.inside in
-    let k : Case = record { c = record { terms = i.terms; number = i.number; reports = i.past.reports }; b = c.args.bidder; told = c.args.demand; past = i.past; left = i.left; steps = i.steps; phase = i.phase; prices = i.prices; tables = i.tables; sums = i.excess.0; account = i.account; latest = i.latest.items; marks = i.reported } in
+    let k = case i c.args.bidder c.args.demand in
     let a = can-count k c.args.self.now.history (ap (λ (v : ClockOf). v.history) c.self.view_is) c.self.invariant c.requires.take c.requires.fits c.requires.known in
     let n = noted-in k a c.index_mut.result.now c.note_demand.new.latest c.note_demand.new.past (read-in k a c.index_mut.result.now c.index_mut.ensures.value) c.note_demand.ensures.past c.note_demand.ensures.latest in
     sets-fewer k a refl c.note_demand.new.past n.0
@@ -104,7 +123,7 @@ raise-requires c =
 pub invariant_of-self-2 : goal.invariant_of-self-2
 invariant_of-self-2 c =
     let i = c.self.inside in
-    let k : Case = record { c = record { terms = i.terms; number = i.number; reports = i.past.reports }; b = c.args.bidder; told = c.args.demand; past = i.past; left = i.left; steps = i.steps; phase = i.phase; prices = i.prices; tables = i.tables; sums = i.excess.0; account = i.account; latest = i.latest.items; marks = i.reported } in
+    let k = case i c.args.bidder c.args.demand in
     let a = can-count k c.args.self.now.history (ap (λ (v : ClockOf). v.history) c.self.view_is) c.self.invariant c.requires.take c.requires.fits c.requires.known in
     let n = noted-in k a c.index_mut.result.now c.note_demand.new.latest c.note_demand.new.past (read-in k a c.index_mut.result.now c.index_mut.ensures.value) c.note_demand.ensures.past c.note_demand.ensures.latest in
     let s = c.next-standing.result in
@@ -116,7 +135,7 @@ invariant_of-self-2 c =
 pub returns : goal.returns
 returns c =
     let i = c.self.inside in
-    let k : Case = record { c = record { terms = i.terms; number = i.number; reports = i.past.reports }; b = c.args.bidder; told = c.args.demand; past = i.past; left = i.left; steps = i.steps; phase = i.phase; prices = i.prices; tables = i.tables; sums = i.excess.0; account = i.account; latest = i.latest.items; marks = i.reported } in
+    let k = case i c.args.bidder c.args.demand in
     let a = can-count k c.args.self.now.history (ap (λ (v : ClockOf). v.history) c.self.view_is) c.self.invariant c.requires.take c.requires.fits c.requires.known in
     let n = noted-in k a c.index_mut.result.now c.note_demand.new.latest c.note_demand.new.past (read-in k a c.index_mut.result.now c.index_mut.ensures.value) c.note_demand.ensures.past c.note_demand.ensures.latest in
     ap (λ (p : PastOf). record { history = record { terms = i.terms; number = i.number; reports = p.reports }; spare_reports = p.spare_reports; spare_quantities = p.spare_quantities }) (c.raise.ensures ∙ ap (λ p. raised_on p c.in-Some.set) n.0)
