@@ -53,23 +53,24 @@ fn next_frame<F: Frame>(alloc: Global, bytes: &[u8]) -> Result<Found<F>, NoMemor
     }
 }
 
-/// The messages at the front of some bytes, the length of their frames, and the fault that stands after them.
+/// The messages at the front of some bytes, the length of their frames, the bytes after them, and the fault that stands there.
 #[derive(Drop)]
 pub(crate) struct Front<F> {
     /// In the order in which they stand there.
     pub frames: Vec<F>,
-    /// How many bytes the frames of these messages take up; the rest begins after them.
+    /// How many bytes the frames of these messages take up.
     pub length: usize,
+    /// The bytes after those frames.
+    pub rest: Vec<u8>,
     /// What is wrong with the rest. None where it is less than a frame.
     pub fault: Option<WireKind>,
 }
 
 /// Reads the messages at the front.
 fn read_front<F: Frame>(alloc: Global, bytes: &[u8]) -> Result<Front<F>, NoMemory>
-    ensures within { IfOk result (λ r. r.length ≤ length bytes.now) }
     ensures size { IfOk result (λ r. length (stream_of (map (sent_of F.kind_of F.payload_of) r.frames.items) []) ≡ r.length) }
-    ensures reads { IfOk result (λ r. Reads F.direction bytes.now (map (sent_of F.kind_of F.payload_of) r.frames.items)
-        (drop r.length bytes.now) r.fault) }
+    ensures reads { IfOk result (λ r. Reads F.direction bytes.now (map (sent_of F.kind_of F.payload_of) r.frames.items) r.rest.items
+        r.fault) }
 {
     let mut frames = Vec::new(alloc);
     let mut at = 0;
@@ -87,8 +88,22 @@ fn read_front<F: Frame>(alloc: Global, bytes: &[u8]) -> Result<Front<F>, NoMemor
     Ok(Front {
         frames,
         length: at,
+        rest: rest_from(alloc, bytes, at)?,
         fault,
     })
+}
+
+/// Reads the messages at the front of what is kept and a piece. Where nothing is kept, they are read off the piece where it lies.
+fn read_front_with<F: Frame>(alloc: Global, kept: &[u8], piece: &[u8]) -> Result<Front<F>, NoMemory>
+    ensures size { IfOk result (λ r. length (stream_of (map (sent_of F.kind_of F.payload_of) r.frames.items) []) ≡ r.length) }
+    ensures reads { IfOk result (λ r. Reads F.direction (kept.now ++ piece.now)
+        (map (sent_of F.kind_of F.payload_of) r.frames.items) r.rest.items r.fault) }
+{
+    if kept.is_empty() {
+        return read_front(alloc, piece);
+    }
+    let bytes = joined(alloc, kept, piece)?;
+    read_front(alloc, &bytes)
 }
 
 /// Reads the frames of one direction off a stream, seen as what it keeps.
@@ -185,12 +200,11 @@ impl<F: Frame> Reader<F> {
                 }),
             });
         }
-        let bytes = joined(self.alloc, &self.rest, piece)?;
-        let front = read_front::<F>(self.alloc, &bytes)?;
-        let rest = rest_from(self.alloc, &bytes, front.length)?;
+        let front = read_front_with(self.alloc, &self.rest, piece)?;
         let Front {
             frames,
             length,
+            rest,
             fault,
         } = front;
         self.rest = rest;
