@@ -6,7 +6,7 @@ ghost use Rattle.lot_base.specs.Demands.{IsDemand};
 use award_assembly::{Assembly, Choice, assemble};
 use demand_set::{Demand, DemandFault};
 use expected_values::{equal, equal_in};
-use lot_base::{Bundle, Goods, Prices, RawDemand, Sequence, compare};
+use lot_base::{Bundle, Goods, Prices, compare};
 use std::alloc::Global;
 use std::cmp::Ordering;
 use std::process::Abort;
@@ -21,14 +21,9 @@ fn read(
     ensures { IfOk result (λ d. IsDemand goods.now d) }
 {
     let count = goods.count();
-    let quantities = quantities.to_vec(alloc)?;
     assert!(rt; count >= 1 && count <= 6);
     assert_eq!(rt; quantities.len() % count as usize, 0);
-    let raw = RawDemand {
-        goods: count,
-        quantities: Sequence::from_vec(quantities),
-    };
-    Demand::read(alloc, goods, &raw)
+    Demand::read_quantities(alloc, goods, count, quantities)
 }
 
 /// Twelve times the demand.

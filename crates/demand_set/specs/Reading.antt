@@ -1,4 +1,4 @@
--- What `Demand::read` answers.
+-- What `Demand::from_raw` answers.
 -- The quantities come one after another; bundles are groups of as many as there are goods. A bundle at a place is faulty
 -- where it is outside the supply, or else not above the bundle before it in lexicographic order. The first faulty place
 -- decides.

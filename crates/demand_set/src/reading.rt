@@ -51,16 +51,20 @@ impl Demand {
     ghost use Rattle.demand_set.specs.Held.{IsSomeDemand};
     ghost use Rattle.demand_set.specs.Reading.{demand_of, bundles_of, AreWhole};
 
-    /// The demand of these quantities, if they are bundles of these goods in ascending order.
-    pub fn read(alloc: Global, goods: &Goods, raw: &RawDemand) -> Result<Demand, DemandFault>
-        requires { AreWhole raw.now.goods raw.now.quantities }
+    /// The demand of these quantities, if they are bundles of these goods in ascending order. It keeps their list. Takes no memory.
+    pub fn from_raw(goods: &Goods, raw: RawDemand) -> Result<Demand, DemandFault>
+        requires { AreWhole raw.goods raw.quantities }
         ensures fits { IfOk result (λ d. IsDemand goods.now d) }
-        ensures value { IsOrNoMemory result (demand_of goods.now raw.now.goods (bundles_of raw.now.goods raw.now.quantities)) }
+        ensures value { result ≡ demand_of goods.now raw.goods (bundles_of raw.goods raw.quantities) }
     {
-        Demand::read_quantities(alloc, goods, raw.goods, raw.quantities.as_slice())
+        let RawDemand {
+            goods: count,
+            quantities,
+        } = raw;
+        Demand::from_list(goods, count, quantities.into_vec())
     }
 
-    /// The demand of these quantities of bundles of so many goods, as `read` does.
+    /// The demand of these quantities of bundles of so many goods, as `from_raw` reads them.
     pub fn read_quantities(
         alloc: Global,
         goods: &Goods,
@@ -71,19 +75,13 @@ impl Demand {
         ensures fits { IfOk result (λ d. IsDemand goods.now d) }
         ensures value { IsOrNoMemory result (demand_of goods.now count (bundles_of count quantities.now)) }
     {
-        if let Some(fault) = fault_of(goods, count, quantities) {
-            return Err(fault);
-        }
-        match quantities.to_vec(alloc) {
-            Ok(quantities) => Ok(Demand {
-                goods: count,
-                quantities,
-            }),
-            Err(_) => Err(DemandFault::NoMemory),
-        }
+        let Ok(quantities) = quantities.to_vec(alloc) else {
+            return Err(DemandFault::NoMemory);
+        };
+        Demand::from_list(goods, count, quantities)
     }
 
-    /// The demand of these quantities, of two bytes each, the greater byte first, as `read` does.
+    /// The demand of these quantities, of two bytes each, the greater byte first, as `from_raw` reads them.
     pub fn read_bytes(
         alloc: Global,
         goods: &Goods,
@@ -94,10 +92,18 @@ impl Demand {
         ensures fits { IfOk result (λ d. IsDemand goods.now d) }
         ensures value { IsOrNoMemory result (demand_of goods.now count (bundles_of count (short_numbers bytes.now))) }
     {
-        let quantities = match short_numbers_of(alloc, bytes) {
-            Ok(quantities) => quantities,
-            Err(_) => return Err(DemandFault::NoMemory),
+        let Ok(quantities) = short_numbers_of(alloc, bytes) else {
+            return Err(DemandFault::NoMemory);
         };
+        Demand::from_list(goods, count, quantities)
+    }
+
+    /// The demand that keeps this list of quantities, if they are bundles of these goods in ascending order.
+    fn from_list(goods: &Goods, count: u8, quantities: Vec<u16>) -> Result<Demand, DemandFault>
+        requires { AreWhole count quantities.items }
+        ensures fits { IfOk result (λ d. IsDemand goods.now d) }
+        ensures value { result ≡ demand_of goods.now count (bundles_of count quantities.items) }
+    {
         if let Some(fault) = fault_of(goods, count, &quantities) {
             return Err(fault);
         }

@@ -4,7 +4,7 @@ ghost use Rattle.lot_base.specs.Demands.{IsDemand};
 
 use demand_set::{Demand, DemandFault};
 use expected_values::{equal, equal_in};
-use lot_base::{Goods, RawDemand, Sequence};
+use lot_base::Goods;
 use std::alloc::Global;
 use std::process::Abort;
 use std::test::Fail;
@@ -25,14 +25,9 @@ fn read(
 ) -> Result<Demand, DemandFault>
     ensures { IfOk result (λ d. IsDemand goods.now d) }
 {
-    let quantities = quantities.to_vec(alloc)?;
     assert!(rt; count >= 1 && count <= 6);
     assert_eq!(rt; quantities.len() % count as usize, 0);
-    let raw = RawDemand {
-        goods: count,
-        quantities: Sequence::from_vec(quantities),
-    };
-    Demand::read(alloc, goods, &raw)
+    Demand::read_quantities(alloc, goods, count, quantities)
 }
 
 #[test]
@@ -89,6 +84,7 @@ fn writes_what_was_read(rt: HostRuntime) -> Result<(), Fail> {
     };
     equal(raw.goods, 2)?;
     equal(raw.quantities.as_slice(), quantities.as_slice())?;
+    assert!(rt; Demand::from_raw(&goods, raw)?.same(&demand));
     Ok(())
 }
 

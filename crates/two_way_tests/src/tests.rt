@@ -9,7 +9,7 @@ use award_assembly::Choice;
 use clock::Judgement;
 use demand_set::{Demand, Report};
 use expected_values::{equal, equal_in};
-use lot_base::{Goods, Prices, RawDemand, Sequence, Terms};
+use lot_base::{Goods, Prices, Terms};
 use std::alloc::{AllocError, Global};
 use std::process::Abort;
 use std::test::Fail;
@@ -697,14 +697,9 @@ fn read_demand(
     ensures { IfOk result (λ d. IsDemand goods.now d) }
 {
     let count = goods.count();
-    let quantities = quantities.to_vec(alloc)?;
     assert!(rt; count >= 1 && count <= 6);
     equal(quantities.len() % count as usize, 0)?;
-    let raw = RawDemand {
-        goods: count,
-        quantities: Sequence::from_vec(quantities),
-    };
-    Ok(Demand::read(alloc, goods, &raw)?)
+    Ok(Demand::read_quantities(alloc, goods, count, quantities)?)
 }
 
 /// What becomes of a report that is offered, in words.
