@@ -17,7 +17,7 @@ use Rattle.report_wire.specs.declared.messages.ToHouse.TheVariants as house
 use Rattle.report_wire.specs.declared.kinds.TheConstants.{HELLO, LOOK, REPORT, QUIT, TAKEN, AGAIN, REFUSED}
 use Rattle.report_wire.specs.declared.refusals.TheConstants.{NO_HELLO, UNKNOWN_CLOCK, NOT_MEMBER, EARLY, CONFLICT, OVER, FULL, DISK_FAULT, NO_MEMORY, NO_ROUND}
 use Rattle.session.specs.Asking.{IsPossible, question_of}
-use Rattle.session.specs.Table.{MayBeShort, demand_refusal, line_of, offered_reply, refusal, reply_of, report_line}
+use Rattle.session.specs.Table.{demand_refusal, line_of, offered_reply, refusal, reply_of, report_line}
 use Rattle.session.specs.Turns.{KeepsTo}
 use Rattle.session.specs.declared.halls.Asked.{Asked}
 use Rattle.session.specs.declared.halls.Asked.TheVariants as asked
@@ -107,20 +107,16 @@ module _ (before now : HousePassOf) (o : Option Asked) (reply : ToBidder) (agree
     pub who_is : who ≡ Some bidder
     pub offered : WasOffered clock bidder round (demand_of value.terms.goods raw.goods (bundles_of raw.goods raw.quantities))
 
-  by-report : (value : Auction) (who : Option ℕ) (clock round : ℕ) (raw : RawDemand) → Keeps (line_of value who (house.Report clock round raw)) → WasReported value who clock round raw
-  by-report value None clock round raw keeps = absurd (says-none (refusal NO_HELLO 0) true refl keeps)
-  by-report value (Some b) clock round raw keeps =
+  -- what was asked in a turn of a report
+  pub by-turn : (value : Auction) (who : Option ℕ) (clock round : ℕ) (raw : RawDemand) → Keeps (line_of value who (house.Report clock round raw)) → WasReported value who clock round raw
+  by-turn value None clock round raw keeps = absurd (says-none (refusal NO_HELLO 0) true refl keeps)
+  by-turn value (Some b) clock round raw keeps =
       let read = demand_of value.terms.goods raw.goods (bundles_of raw.goods raw.quantities) in
       record {
         bidder = b;
         who_is = refl;
         offered = by-line b clock round read (at-line (nat_lt value.terms.bidders clock) (nat_eq clock b) (refusal UNKNOWN_CLOCK clock) (refusal NOT_MEMBER clock) (report_line b clock round read) refl refl keeps);
       }
-
-  pub by-turn : (value : Auction) (who : Option ℕ) (clock round : ℕ) (raw : RawDemand)
-      → Keeps (line_of value who (house.Report clock round raw)) ⊎ (MayBeShort (house.Report clock round raw) × (o ≡ None) × (reply ≡ refusal NO_MEMORY 0) × (now ≡ before)) → WasReported value who clock round raw
-  by-turn value who clock round raw (inl keeps) = by-report value who clock round raw keeps
-  by-turn value who clock round raw (inr short) = absurd (no-refusal reply (ap bidder_kind short.2) agreed)
 
 -- a frame that says what the frame of a report says is one of a report
 pub record IsReportFrame (frame : ToHouse) (s : Sent) : Type 0 where

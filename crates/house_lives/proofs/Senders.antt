@@ -54,8 +54,7 @@ module _ (auction : Auction) (k b n : ℕ) (d : List (List ℕ)) (answer : Offer
       ap (λ (y : ℕ). Some y) (asks-report x clock round read given before after (at-line (nat_lt auction.terms.bidders clock) (nat_eq clock x) (refusal UNKNOWN_CLOCK clock) (refusal NOT_MEMBER clock) true true (report_line x clock round read) given before after keeps))
 
   asks-turn : (who : Option ℕ) (before : HousePassOf) (t : Turn HousePassOf) → t.asked ≡ Some (asked.Offer k b n d answer) → IsTurn PassAllows auction who before t → who ≡ Some b
-  asks-turn who before t e (inl keeps) = asks-line who t.frame t.reply before t.now (subst (λ o. KeepsTo PassAllows (line_of auction who t.frame) o t.reply before t.now) e keeps)
-  asks-turn who before t e (inr short) = absurd (let f : None ≡ Some (asked.Offer k b n d answer) = sym short.1 ∙ e in (let no : ⊥ = cc in no))
+  asks-turn who before t e keeps = asks-line who t.frame t.reply before t.now (subst (λ o. KeepsTo PassAllows (line_of auction who t.frame) o t.reply before t.now) e keeps)
 
   -- the session's bidder after the turns before
   pub bidder-of : (earlier later : List (Turn HousePassOf)) (t : Turn HousePassOf) (who last : Option ℕ) (before after : HousePassOf) → t.asked ≡ Some (asked.Offer k b n d answer)

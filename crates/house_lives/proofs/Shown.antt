@@ -23,8 +23,7 @@ use Rattle.report_wire.specs.declared.messages.ToBidder.{ToBidder}
 use Rattle.report_wire.specs.declared.messages.ToBidder.TheVariants as bidder
 use Rattle.report_wire.specs.declared.messages.ToHouse.{ToHouse}
 use Rattle.report_wire.specs.declared.kinds.TheConstants.{REFUSED}
-use Rattle.report_wire.specs.declared.refusals.TheConstants.{NO_MEMORY}
-use Rattle.session.specs.Table.{MayBeShort, bidder_after, line_of, refusal}
+use Rattle.session.specs.Table.{bidder_after, line_of}
 use Rattle.session.specs.Turns.{AreTurns, IsTurn, KeepsTo, Turn, bidder_behind, frames_of, replies_of}
 use Rattle.session.specs.declared.halls.Asked.{Asked}
 use Rattle.house_serve.specs.Doors.{Visit}
@@ -105,7 +104,7 @@ pub record IsAsShown (value : Auction) (journals : List ℕ) (l : Life) (clock :
 -- the turn of a frame, part by part
 abbrev IsTurnBy : Auction → Option ℕ → ToHouse → Option Asked → ToBidder → HousePassOf → HousePassOf → Type 0
 IsTurnBy value who frame asked reply before now =
-    KeepsTo PassAllows (line_of value who frame) asked reply before now ⊎ (MayBeShort frame × (asked ≡ None) × (reply ≡ refusal NO_MEMORY 0) × (now ≡ before))
+    KeepsTo PassAllows (line_of value who frame) asked reply before now
 
 -- after these turns a report was offered for the session's bidder
 record WasAsked (value : Auction) (earlier : List (Turn HousePassOf)) (turn : Turn HousePassOf) (clock round : ℕ) (raw : RawDemand) : Type 0 where

@@ -1,5 +1,5 @@
 -- The sessions of a door lead its pass on by their turns.
-use Rattle.std.proofs.Common.{inl, inr, ℕ, List, [], ◌∷◌, ◌++◌, Option, Some, None, sym, subst}
+use Rattle.std.proofs.Common.{ℕ, List, [], ◌∷◌, ◌++◌, Option, Some, None, subst}
 use Rattle.std.specs.List.{flat_map}
 use Rattle.house_io.specs.Links.{LinkBytes}
 use Rattle.auction_file.specs.declared.listing.Auction.{Auction}
@@ -21,8 +21,7 @@ kept (Asks question) None reply before now h = absurd h
 kept (Asks question) (Some a) reply before now h = h.3
 
 turn_leads : (auction : Auction) (who : Option ℕ) (before : HousePassOf) (t : Turn HousePassOf) → IsTurn PassAllows auction who before t → LeadsBy t.asked before t.now
-turn_leads auction who before t (inl h) = kept (line_of auction who t.frame) t.asked t.reply before t.now h
-turn_leads auction who before t (inr h) = subst (λ (a : Option Asked). LeadsBy a before t.now) (sym h.1) h.3
+turn_leads auction who before t h = kept (line_of auction who t.frame) t.asked t.reply before t.now h
 
 leads_on : (ts us : List (Turn HousePassOf)) (x y z : HousePassOf) → Leads x ts y → Leads y us z → Leads x (ts ++ us) z
 leads_on [] us x y z p q = subst (λ (s : HousePassOf). Leads s us z) p q

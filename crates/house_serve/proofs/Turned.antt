@@ -1,5 +1,5 @@
 -- Turns after turns.
-use Rattle.std.proofs.Common.{◌≡◌, ℕ, ◌<◌, ◌+◌, ◌-◌, zero, suc, List, [], ◌∷◌, ◌++◌, length, take, drop, get_or, map, Option, Some, None, refl, sym, ◌∙◌, ap, subst, arith, append_assoc, append-nil, take-append-drop}
+use Rattle.std.proofs.Common.{◌≡◌, ℕ, ◌-◌, List, [], ◌∷◌, ◌++◌, length, take, drop, map, Option, Some, None, refl, sym, ◌∙◌, ap, subst, arith, append_assoc, append-nil, take-append-drop}
 use Rattle.std.proofs.lemmas.List.{map-append}
 use Rattle.std.specs.Prelude.{Err}
 use Rattle.std.specs.List.{AllByRecursion}
@@ -48,20 +48,14 @@ pub replies_on : {M : Type 0} (ts us : List (Turn M)) → AllByRecursion (IsSent
 replies_on [] us p q = q
 replies_on (t ∷ ts) us p q = (p.0, replies_on ts us p.1 q)
 
-pub take_more : {A : Type 0} (xs : List A) (i : ℕ) (x : A) → i < length xs → x ≡ get_or xs i x → take (i + 1) xs ≡ take i xs ++ x ∷ []
-take_more [] i x lt is = absurd (omega arith)
-take_more (y ∷ ys) zero x lt is = ap (λ z. z ∷ []) (sym is)
-take_more {A = A} (y ∷ ys) (suc i) x lt is =
-    let e : suc i + 1 ≡ suc (i + 1) = omega arith in
-    subst (λ (n : ℕ). take n (y ∷ ys) ≡ y ∷ (take i ys ++ x ∷ [])) (sym e) (ap (λ (l : List A). y ∷ l) (take_more ys i x (omega arith) is))
+-- each of the frames is a message
+pub sent_in : (before : List ToHouse) (f : ToHouse) (after : List ToHouse) → AllByRecursion (IsSent to_house) (map house_sent (before ++ f ∷ after)) → IsMessage to_house (house_kind f) (house_payload f)
+sent_in [] f after all = all.0
+sent_in (g ∷ gs) f after all = sent_in gs f after all.1
 
-pub split_at_item : {A : Type 0} (xs : List A) (i : ℕ) (x : A) → i < length xs → x ≡ get_or xs i x → xs ≡ (take i xs ++ x ∷ []) ++ drop (i + 1) xs
-split_at_item xs i x lt is = sym (take-append-drop (i + 1) xs) ∙ ap (λ l. l ++ drop (i + 1) xs) (take_more xs i x lt is)
-
-pub sent_at : (fs : List ToHouse) (i : ℕ) (f : ToHouse) → AllByRecursion (IsSent to_house) (map house_sent fs) → i < length fs → f ≡ get_or fs i f → IsMessage to_house (house_kind f) (house_payload f)
-sent_at [] i f all lt is = absurd (omega arith)
-sent_at (g ∷ gs) zero f all lt is = subst (λ (h : ToHouse). IsMessage to_house (house_kind h) (house_payload h)) (sym is) all.0
-sent_at (g ∷ gs) (suc i) f all lt is = sent_at gs i f all.1 (omega arith) is
+pub no_more : {A : Type 0} (xs : List A) → length xs ≡ 0 → xs ≡ []
+no_more [] is = refl
+no_more (x ∷ xs) is = absurd (omega arith)
 
 module _ {M : Type 0} (allows : M → Asked → M → Type 0) (auction : Auction) where
   pub turns_on : (ts us : List (Turn M)) (w w1 w2 : Option ℕ) (m m1 m2 : M) → AreTurns allows auction w m ts w1 m1 → AreTurns allows auction w1 m1 us w2 m2 → AreTurns allows auction w m (ts ++ us) w2 m2

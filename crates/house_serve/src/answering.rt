@@ -62,16 +62,17 @@ fn answer_one<H: Hall, L: Link, T: Wait>(
     session: &mut Session,
     hall: &mut H,
     link: &mut L,
-    frame: &ToHouse,
+    frame: ToHouse,
 ) -> Option<SessionEnd>
-    requires formed { IsMessage to_house (house_kind frame.now) (house_payload frame.now) }
+    requires formed { IsMessage to_house (house_kind frame) (house_payload frame) }
     requires seated { IsSeated auction.now session.old (H.in_order hall.old) (H.supply hall.old) (H.bidders hall.old) }
-    ensures answers { Answers H.allows auction.now (frame.now ∷ []) session.old (H.meaning hall.old) (L.told link.old) session.new
+    ensures answers { Answers H.allows auction.now (frame ∷ []) session.old (H.meaning hall.old) (L.told link.old) session.new
         (H.meaning hall.new) (L.told link.new) result }
     ensures seated { IsSeated auction.now session.new (H.in_order hall.new) (H.supply hall.new) (H.bidders hall.new) }
     ensures stays { H.stays hall.old hall.new }
     ensures cause { HasCauseBy (L.faults link.old) (L.faults link.new) result }
 {
+    let end = end_by(&frame);
     let answer = session.answer(rt, alloc, auction, hall, frame);
     match send_reply(alloc, link, &answer.reply) {
         Err(Cut::LinkFault) => return Some(SessionEnd::LinkFault),
@@ -81,7 +82,7 @@ fn answer_one<H: Hall, L: Link, T: Wait>(
     if answer.goes_on {
         return None;
     }
-    Some(end_by(frame))
+    Some(end)
 }
 
 /// Answers the frames up to the first that ends the session.
@@ -92,11 +93,11 @@ pub(crate) fn answer_all<H: Hall, L: Link, T: Wait>(
     session: &mut Session,
     hall: &mut H,
     link: &mut L,
-    frames: &[ToHouse],
+    frames: Vec<ToHouse>,
 ) -> Option<SessionEnd>
-    requires formed { AllByRecursion (IsSent to_house) (map house_sent frames.now) }
+    requires formed { AllByRecursion (IsSent to_house) (map house_sent frames.items) }
     requires seated { IsSeated auction.now session.old (H.in_order hall.old) (H.supply hall.old) (H.bidders hall.old) }
-    ensures answers { Answers H.allows auction.now frames.now session.old (H.meaning hall.old) (L.told link.old) session.new
+    ensures answers { Answers H.allows auction.now frames.items session.old (H.meaning hall.old) (L.told link.old) session.new
         (H.meaning hall.new) (L.told link.new) result }
     ensures seated { IsSeated auction.now session.new (H.in_order hall.new) (H.supply hall.new) (H.bidders hall.new) }
     ensures stays { H.stays hall.old hall.new }

@@ -1,5 +1,5 @@
 -- What follows from a line of the table.
-use Rattle.std.proofs.Common.{◌≡◌, inl, ℕ, Bool, true, false, cond, List, Option, Some, None, refl, ◌∙◌, ap, subst}
+use Rattle.std.proofs.Common.{◌≡◌, ℕ, Bool, true, false, cond, List, Option, Some, None, refl, ◌∙◌, ap, subst}
 use Rattle.std.specs.Prelude.{Result, Ok, Err, nat_lt, ◌==◌}
 use Rattle.demand_set.specs.Reading.{demand_of, bundles_of}
 use Rattle.demand_set.specs.declared.reading.DemandFault.{DemandFault}
@@ -56,7 +56,7 @@ line_goes_on auction (Some b) house.Quit = refl
 pub says_on : (auction : Auction) (who : Option ℕ) (frame : ToHouse) (reply : ToBidder) (on : Bool) → Says reply on ≡ line_of auction who frame → on ≡ goes_on auction who frame
 says_on auction who frame reply on e = ap on_of e ∙ line_goes_on auction who frame
 
-greeted_is : (auction : Auction) (who : Option ℕ) (frame : ToHouse) → greeted who frame (goes_on auction who frame) ≡ bidder_after auction who frame
+greeted_is : (auction : Auction) (who : Option ℕ) (frame : ToHouse) → cond (goes_on auction who frame) (greeted who frame) who ≡ bidder_after auction who frame
 greeted_is auction None (house.Hello claimed token) = refl
 greeted_is auction (Some b) (house.Hello claimed token) = refl
 greeted_is auction None (house.Look clock) = refl
@@ -66,14 +66,14 @@ greeted_is auction (Some b) (house.Report clock round demand) = refl
 greeted_is auction None house.Quit = refl
 greeted_is auction (Some b) house.Quit = refl
 
-pub says_who : (auction : Auction) (who : Option ℕ) (frame : ToHouse) (reply : ToBidder) (on : Bool) → Says reply on ≡ line_of auction who frame → greeted who frame on ≡ bidder_after auction who frame
-says_who auction who frame reply on e = ap (greeted who frame) (says_on auction who frame reply on e) ∙ greeted_is auction who frame
+pub says_who : (auction : Auction) (who : Option ℕ) (frame : ToHouse) (reply : ToBidder) (on : Bool) → Says reply on ≡ line_of auction who frame → cond on (greeted who frame) who ≡ bidder_after auction who frame
+says_who auction who frame reply on e = ap (λ (b : Bool). cond b (greeted who frame) who) (says_on auction who frame reply on e) ∙ greeted_is auction who frame
 
 -- a turn in which the hall was asked
 pub turn_asked : {M : Type 0} (allows : M → Asked → M → Type 0) (auction : Auction) (who : Option ℕ) (frame : ToHouse) (a : Asked) (reply : ToBidder) (before after : M)
     → Asks (question_of a) ≡ line_of auction who frame → reply ≡ reply_of a → IsPossible a → allows before a after → IsTurn allows auction who before (record { frame = frame; asked = Some a; reply = reply; now = after })
 turn_asked {M = M} allows auction who frame a reply before after e r p h =
-    let P : Line → Type 0 = λ l. KeepsTo allows l (Some a) reply before after in inl (subst P e (refl, r, p, h))
+    let P : Line → Type 0 = λ l. KeepsTo allows l (Some a) reply before after in subst P e (refl, r, p, h)
 
 -- a member's report is not refused as one of none
 member_refusal : {A : Type 0} (judgement : Judgement) → (A → ⊥) → IsRefusal A judgement → IsRefusal ⊥ judgement

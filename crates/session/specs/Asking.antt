@@ -62,7 +62,7 @@ question_of (asked.Offer clock bidder round demand offered) = question.Offer clo
 abbrev pub IsAskable : ℕ → List ℕ → Line → Type 0
 IsAskable bidders supply (Says reply on) = Unit {0}
 IsAskable bidders supply (Asks (question.Look clock)) = clock ≤ bidders
-IsAskable bidders supply (Asks (question.Offer clock bidder round demand)) = (clock ≤ bidders) × (bidder ≢ clock) × IsDemand supply demand
+IsAskable bidders supply (Asks (question.Offer clock bidder round demand)) = (clock ≤ bidders) × IsRange 1 bidders bidder × (bidder ≢ clock) × IsDemand supply demand
 
 -- a reply that a frame can spell
 abbrev pub IsSayable : Line → Type 0

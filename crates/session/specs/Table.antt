@@ -78,13 +78,13 @@ bidder_after auction who house.Quit = who
 bidder_after auction who (house.Look clock) = who
 bidder_after auction who (house.Report clock round demand) = who
 
--- the session's bidder after a frame, where it is known whether a first hello is welcome
-abbrev pub greeted : Option ℕ → ToHouse → Bool → Option ℕ
-greeted None (house.Hello claimed token) welcome = if welcome then Some claimed else None
-greeted (Some b) (house.Hello claimed token) welcome = Some b
-greeted who house.Quit welcome = who
-greeted who (house.Look clock) welcome = who
-greeted who (house.Report clock round demand) welcome = who
+-- the session's bidder after a frame, where a first hello is welcome
+abbrev pub greeted : Option ℕ → ToHouse → Option ℕ
+greeted None (house.Hello claimed token) = Some claimed
+greeted (Some b) (house.Hello claimed token) = Some b
+greeted who house.Quit = who
+greeted who (house.Look clock) = who
+greeted who (house.Report clock round demand) = who
 
 -- the reply where the hall refused
 abbrev pub judged_reply : ℕ → Judgement → ToBidder
@@ -108,13 +108,6 @@ offered_reply clock round offered.NoMemory = refusal NO_MEMORY 0
 abbrev pub reply_of : Asked → ToBidder
 reply_of (asked.Look clock look) = bidder.Price clock look.round look.phase look.prices
 reply_of (asked.Offer clock who round demand offered) = offered_reply clock round offered
-
--- out of memory may be the reply to a report alone
-abbrev pub MayBeShort : ToHouse → Type 0
-MayBeShort (house.Hello claimed token) = ⊥
-MayBeShort (house.Look clock) = ⊥
-MayBeShort (house.Report clock round demand) = Unit {0}
-MayBeShort house.Quit = ⊥
 
 -- the reply to a fault of the stream
 abbrev pub wire_reply : WireKind → ToBidder

@@ -1,18 +1,17 @@
 -- The turns of a session. A turn is a frame, what was asked of the hall for it, if it was asked, with the hall's answer, the
 -- reply, and the hall's meaning then. The turns of a session lead the hall from one meaning to another.
-use Rattle.std.specs.Prelude.{◌≡◌, ℕ, Bool, true, false, List, [], ◌∷◌, map, Option, Some, None, ◌⊎◌}
+use Rattle.std.specs.Prelude.{◌≡◌, ℕ, Bool, true, false, List, [], ◌∷◌, map, Option, Some, None}
 use Rattle.std.specs.List.{flat_map}
 use Rattle.auction_file.specs.declared.listing.Auction.{Auction}
 use Rattle.report_wire.specs.Frames.{spelled}
 use Rattle.report_wire.specs.Messages.{bidder_sent}
-use Rattle.report_wire.specs.declared.refusals.TheConstants.{NO_MEMORY}
 use Rattle.report_wire.specs.declared.messages.ToHouse.{ToHouse}
 use Rattle.report_wire.specs.declared.messages.ToBidder.{ToBidder}
 use Rattle.session.specs.declared.halls.Asked.{Asked}
 use Rattle.session.specs.declared.table.Line.{Line}
 use Rattle.session.specs.declared.table.Line.TheVariants.{Says, Asks}
 use Rattle.session.specs.Asking.{question_of, IsPossible}
-use Rattle.session.specs.Table.{line_of, goes_on, bidder_after, reply_of, refusal, MayBeShort}
+use Rattle.session.specs.Table.{line_of, goes_on, bidder_after, reply_of}
 
 pub record Turn (M : Type 0) : Type 0 where
   pub frame : ToHouse
@@ -28,11 +27,9 @@ module _ {M : Type 0} (allows : M → Asked → M → Type 0) where
   KeepsTo (Asks question) None given before after = ⊥
   KeepsTo (Asks question) (Some a) given before after = (question_of a ≡ question) × (given ≡ reply_of a) × IsPossible a × allows before a after
 
-  -- the reply of the table, or, to a report and with the hall unasked, that memory was wanting
+  -- the reply of the table
   abbrev pub IsTurn : Auction → Option ℕ → M → Turn M → Type 0
-  IsTurn auction who before t =
-      KeepsTo (line_of auction who t.frame) t.asked t.reply before t.now
-      ⊎ (MayBeShort t.frame × (t.asked ≡ None) × (t.reply ≡ refusal NO_MEMORY 0) × (t.now ≡ before))
+  IsTurn auction who before t = KeepsTo (line_of auction who t.frame) t.asked t.reply before t.now
 
   -- the turns one after another, each with the bidder that the frames before gave the session
   abbrev pub AreTurns : Auction → Option ℕ → M → List (Turn M) → Option ℕ → M → Type 0

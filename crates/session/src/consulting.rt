@@ -4,19 +4,46 @@ ghost use Rattle.lot_base.specs.Goods.{IsRange};
 ghost use Rattle.lot_base.specs.Demands.{IsDemand};
 ghost use Rattle.report_wire.specs.Frames.{IsMessage};
 ghost use Rattle.report_wire.specs.Messages.{to_bidder, bidder_kind, bidder_payload};
-ghost use Rattle.session.specs.Asking.{IsOffered, IsRefusal};
+ghost use Rattle.session.specs.Asking.{question_of, IsAskable, IsOffered, IsPossible, IsRefusal};
 ghost use Rattle.session.specs.Table.{reply_of, offered_reply, judged_reply};
 
-use crate::halls::{Asked, Hall};
-use crate::table::refused;
+use crate::halls::{Asked, Hall, Question};
+use crate::table::{Line, refused};
 use clock::{Judgement, Look, Offered};
 use demand_set::Demand;
 use report_wire::{ToBidder, refusals};
 use std::alloc::Global;
 use std::sync::Wait;
 
+/// Asks the hall, and gives the reply by its answer.
+pub(crate) fn ask<H: Hall, T: Wait>(
+    rt: &T,
+    alloc: Global,
+    hall: &mut H,
+    question: Question,
+) -> ToBidder
+    requires order { H.in_order hall.old }
+    requires goods { IsRange 1 6 (length (H.supply hall.old)) }
+    requires askable { IsAskable (H.bidders hall.old) (H.supply hall.old) (Line.Asks question) }
+    ensures order { H.in_order hall.new }
+    ensures stays { H.stays hall.old hall.new }
+    ensures answer { (asked : _) × (question_of asked ≡ question) × (result ≡ reply_of asked) × IsPossible asked
+        × H.allows (H.meaning hall.old) asked (H.meaning hall.new) }
+    ensures formed { IsMessage to_bidder (bidder_kind result) (bidder_payload result) }
+{
+    match question {
+        Question::Look { clock } => look_at(rt, hall, clock),
+        Question::Offer {
+            clock,
+            bidder,
+            round,
+            demand,
+        } => offer_at(rt, alloc, hall, clock, bidder, round, demand),
+    }
+}
+
 /// Looks at a clock.
-pub(crate) fn look_at<H: Hall, T: Wait>(rt: &T, hall: &mut H, clock: u8) -> ToBidder
+fn look_at<H: Hall, T: Wait>(rt: &T, hall: &mut H, clock: u8) -> ToBidder
     requires order { H.in_order hall.old }
     requires clock { clock ≤ H.bidders hall.old }
     requires goods { IsRange 1 6 (length (H.supply hall.old)) }
@@ -36,7 +63,7 @@ pub(crate) fn look_at<H: Hall, T: Wait>(rt: &T, hall: &mut H, clock: u8) -> ToBi
 }
 
 /// Offers a report.
-pub(crate) fn offer_at<H: Hall, T: Wait>(
+fn offer_at<H: Hall, T: Wait>(
     rt: &T,
     alloc: Global,
     hall: &mut H,

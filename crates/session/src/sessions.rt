@@ -1,5 +1,5 @@
 //! A session of a bidder.
-ghost use Rattle.std.specs.Prelude.{◌≡◌, Option, None, length};
+ghost use Rattle.std.specs.Prelude.{◌≡◌, Option, None, length, if◌then◌else◌};
 ghost use Rattle.report_wire.specs.Frames.{IsMessage};
 ghost use Rattle.report_wire.specs.Messages.{to_house, house_kind, house_payload, to_bidder, bidder_kind, bidder_payload};
 ghost use Rattle.session.specs.Asking.{IsSeated};
@@ -7,11 +7,10 @@ ghost use Rattle.session.specs.Table.{bidder_after, goes_on, greeted, wire_reply
 ghost use Rattle.session.specs.Turns.{IsTurn};
 ghost use Rattle.session.specs.declared.halls.Asked.{Asked as AskedValue};
 
-use crate::consulting::{look_at, offer_at};
-use crate::halls::{Hall, Question};
+use crate::consulting::ask;
+use crate::halls::Hall;
 use crate::table::{Line, line_for, refused};
 use auction_file::Auction;
-use lot_base::NoMemory;
 use report_wire::{ToBidder, ToHouse, WireFault, WireKind, refusals};
 use std::alloc::Global;
 use std::marker::Model;
@@ -55,59 +54,48 @@ impl Session {
         alloc: Global,
         auction: &Auction,
         hall: &mut H,
-        frame: &ToHouse,
+        frame: ToHouse,
     ) -> Answer
-        requires formed { IsMessage to_house (house_kind frame.now) (house_payload frame.now) }
+        requires formed { IsMessage to_house (house_kind frame) (house_payload frame) }
         requires seated { IsSeated auction.now self.old (H.in_order hall.old) (H.supply hall.old) (H.bidders hall.old) }
         ensures turn { (asked : Option AskedValue)
             × IsTurn H.allows auction.now self.old (H.meaning hall.old)
-            (record { frame = frame.now; asked = asked; reply = result.reply; now = H.meaning hall.new }) }
-        ensures goes { (result.goes_on ≡ goes_on auction.now self.old frame.now)
-            × (self.new ≡ bidder_after auction.now self.old frame.now) }
+            (record { frame = frame; asked = asked; reply = result.reply; now = H.meaning hall.new }) }
+        ensures goes { (result.goes_on ≡ goes_on auction.now self.old frame)
+            × (self.new ≡ bidder_after auction.now self.old frame) }
         ensures formed { IsMessage to_bidder (bidder_kind result.reply) (bidder_payload result.reply) }
         ensures seated { IsSeated auction.now self.new (H.in_order hall.new) (H.supply hall.new) (H.bidders hall.new) }
         ensures stays { H.stays hall.old hall.new }
     {
-        let line = match line_for(alloc, auction, self.bidder, frame) {
-            Ok(line) => line,
-            Err(NoMemory) => {
-                return Answer {
-                    reply: refused(refusals::NO_MEMORY, 0),
-                    goes_on: true,
-                };
-            }
-        };
-        match line {
+        let greeted = self.greeted(&frame);
+        match line_for(auction, self.bidder, frame) {
             Line::Says(reply, goes_on) => {
-                self.greet(frame, goes_on);
+                self.greet(greeted, goes_on);
                 Answer { reply, goes_on }
             }
-            Line::Asks(Question::Look { clock }) => Answer {
-                reply: look_at(rt, hall, clock),
-                goes_on: true,
-            },
-            Line::Asks(
-                Question::Offer {
-                    clock,
-                    bidder,
-                    round,
-                    demand,
-                },
-            ) => Answer {
-                reply: offer_at(rt, alloc, hall, clock, bidder, round, demand),
+            Line::Asks(question) => Answer {
+                reply: ask(rt, alloc, hall, question),
                 goes_on: true,
             },
         }
     }
 
-    /// Keeps the bidder of a first hello that was welcome.
-    fn greet(&mut self, frame: &ToHouse, welcome: bool)
-        ensures { self.new ≡ greeted self.old frame.now welcome }
+    /// Takes this bidder where the frame was welcome.
+    fn greet(&mut self, bidder: Option<u8>, welcome: bool)
+        ensures { self.new ≡ (if welcome then bidder else self.old) }
     {
-        if let ToHouse::Hello { bidder, .. } = frame {
-            if self.bidder.is_none() && welcome {
-                self.bidder = Some(*bidder);
-            }
+        if welcome {
+            self.bidder = bidder;
+        }
+    }
+
+    /// The session's bidder after a frame, where a first hello is welcome.
+    fn greeted(&self, frame: &ToHouse) -> Option<u8>
+        ensures { result ≡ greeted self.now frame.now }
+    {
+        match (self.bidder, frame) {
+            (None, ToHouse::Hello { bidder, .. }) => Some(*bidder),
+            (bidder, _) => bidder,
         }
     }
 }

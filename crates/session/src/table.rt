@@ -1,19 +1,18 @@
 //! The table of a session: what a frame is answered, or what it asks of the hall.
-ghost use Rattle.std.specs.Prelude.{◌≡◌, true, false, IfOk, OnErr};
+ghost use Rattle.std.specs.Prelude.{◌≡◌, true, false};
 ghost use Rattle.demand_set.specs.Reading.{AreWhole};
 ghost use Rattle.report_wire.specs.Frames.{IsMessage};
 ghost use Rattle.report_wire.specs.Messages.{to_house, house_kind, house_payload};
-ghost use Rattle.session.specs.Table.{line_of, knows, refusal, demand_refusal, MayBeShort};
-ghost use Rattle.session.specs.Asking.{IsAskable, IsSayable};
+ghost use Rattle.session.specs.Table.{line_of, knows, refusal, demand_refusal};
+ghost use Rattle.session.specs.Asking.{IsAskable, IsBidder, IsSayable};
 
 use crate::digests::are_same;
 use crate::halls::Question;
 use auction_file::Auction;
 use demand_set::{Demand, DemandFault};
-use lot_base::{NoMemory, RawDemand, Sequence};
+use lot_base::{RawDemand, Sequence};
 use report_wire::{ToBidder, ToHouse, refusals};
 use sha2::{Digest, Sha256};
-use std::alloc::Global;
 
 /// A reply, and whether the session goes on after it; or a question to the hall.
 pub enum Line {
@@ -24,27 +23,22 @@ pub enum Line {
 }
 
 /// The line of the table for a frame, where the session has this bidder.
-pub(crate) fn line_for(
-    alloc: Global,
-    auction: &Auction,
-    who: Option<u8>,
-    frame: &ToHouse,
-) -> Result<Line, NoMemory>
-    requires formed { IsMessage to_house (house_kind frame.now) (house_payload frame.now) }
-    ensures line { IfOk result (λ line. line ≡ line_of auction.now who frame.now) }
-    ensures short { OnErr result (MayBeShort frame.now) }
-    ensures askable { IfOk result (λ line. IsAskable auction.now.terms.bidders auction.now.terms.goods line) }
-    ensures sayable { IfOk result (λ line. IsSayable line) }
+pub(crate) fn line_for(auction: &Auction, who: Option<u8>, frame: ToHouse) -> Line
+    requires formed { IsMessage to_house (house_kind frame) (house_payload frame) }
+    requires bidder { IsBidder auction.now.terms.bidders who }
+    ensures line { result ≡ line_of auction.now who frame }
+    ensures askable { IsAskable auction.now.terms.bidders auction.now.terms.goods result }
+    ensures sayable { IsSayable result }
 {
     match frame {
-        ToHouse::Hello { bidder, token } => Ok(hello_line(auction, who, *bidder, token)),
-        ToHouse::Look { clock } => Ok(look_line(auction, who, *clock)),
+        ToHouse::Hello { bidder, token } => hello_line(auction, who, bidder, &token),
+        ToHouse::Look { clock } => look_line(auction, who, clock),
         ToHouse::Report {
             clock,
             round,
             demand,
-        } => report_line(alloc, auction, who, *clock, *round, demand),
-        ToHouse::Quit => Ok(Line::Says(ToBidder::Bye, false)),
+        } => report_line(auction, who, clock, round, demand),
+        ToHouse::Quit => Line::Says(ToBidder::Bye, false),
     }
 }
 
@@ -110,37 +104,30 @@ fn look_line(auction: &Auction, who: Option<u8>, clock: u8) -> Line
     Line::Asks(Question::Look { clock })
 }
 
-fn report_line(
-    alloc: Global,
-    auction: &Auction,
-    who: Option<u8>,
-    clock: u8,
-    round: u32,
-    demand: &RawDemand,
-) -> Result<Line, NoMemory>
-    requires whole { AreWhole demand.now.goods demand.now.quantities }
-    ensures line { IfOk result (λ line. line ≡ line_of auction.now who (ToHouse.Report clock round demand.now)) }
-    ensures askable { IfOk result (λ line. IsAskable auction.now.terms.bidders auction.now.terms.goods line) }
-    ensures sayable { IfOk result (λ line. IsSayable line) }
+fn report_line(auction: &Auction, who: Option<u8>, clock: u8, round: u32, demand: RawDemand) -> Line
+    requires bidder { IsBidder auction.now.terms.bidders who }
+    requires whole { AreWhole demand.goods demand.quantities }
+    ensures line { result ≡ line_of auction.now who (ToHouse.Report clock round demand) }
+    ensures askable { IsAskable auction.now.terms.bidders auction.now.terms.goods result }
+    ensures sayable { IsSayable result }
 {
     let Some(bidder) = who else {
-        return Ok(Line::Says(refused(refusals::NO_HELLO, 0), true));
+        return Line::Says(refused(refusals::NO_HELLO, 0), true);
     };
     if clock > auction.terms.bidders {
-        return Ok(Line::Says(refused(refusals::UNKNOWN_CLOCK, clock as u32), true));
+        return Line::Says(refused(refusals::UNKNOWN_CLOCK, clock as u32), true);
     }
     if clock == bidder {
-        return Ok(Line::Says(refused(refusals::NOT_MEMBER, clock as u32), true));
+        return Line::Says(refused(refusals::NOT_MEMBER, clock as u32), true);
     }
-    match Demand::read(alloc, &auction.terms.goods, demand) {
-        Ok(demand) => Ok(Line::Asks(Question::Offer {
+    match Demand::from_raw(&auction.terms.goods, demand) {
+        Ok(demand) => Line::Asks(Question::Offer {
             clock,
             bidder,
             round,
             demand,
-        })),
-        Err(DemandFault::NoMemory) => Err(NoMemory),
-        Err(fault) => Ok(Line::Says(refused_demand(fault), true)),
+        }),
+        Err(fault) => Line::Says(refused_demand(fault), true),
     }
 }
 

@@ -78,7 +78,7 @@ impl Talk {
         let frame = frame_of(rt, alloc, said)?;
         let answer = self
             .session
-            .answer(rt, alloc, &self.auction, &mut self.hall, &frame);
+            .answer(rt, alloc, &self.auction, &mut self.hall, frame);
         let reply = answer.reply.encode(alloc)?;
         Ok((reply, answer.goes_on))
     }
