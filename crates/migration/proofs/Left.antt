@@ -1,5 +1,5 @@
 -- How a target is left by a book that was opened on it, and by reports that were offered to it.
-use Rattle.std.proofs.Common.{◌≡◌, inl, inr, ⊎_elim, ℕ, Bool, IsTrue, List, length, take, Ok, sym, subst, arith}
+use Rattle.std.proofs.Common.{◌≡◌, inl, inr, ⊎_elim, ℕ, IsTrue, List, length, take, Ok, sym, subst, arith}
 use Rattle.house_io.specs.Disks.{DiskShown, is_told, told_moments}
 use Rattle.demand_set.specs.declared.reports.Report.{Report}
 use Rattle.house_io.specs.Moments.{Moments, AtEach, synced_at}

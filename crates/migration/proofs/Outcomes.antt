@@ -1,11 +1,11 @@
 -- What a move of journals comes to, by what became of the books on the targets.
-use Rattle.std.proofs.Common.{◌≡◌, ◌⊎◌, inl, inr, ⊎_elim, ◌<◌, ◌≤◌, ℕ, Bool, IsTrue, List, length, get_or, Result, Ok, Err, refl, sym, ◌∙◌, ap, subst, arith}
+use Rattle.std.proofs.Common.{◌≡◌, ◌⊎◌, inl, inr, ⊎_elim, ◌<◌, ◌≤◌, ℕ, IsTrue, List, length, get_or, Result, Ok, Err, refl, sym, ◌∙◌, ap, subst, arith}
 use Rattle.std.proofs.lemmas.Bool.{true≢false}
 use Rattle.house_io.specs.Disks.{DiskShown, is_told, told_moments}
 use Rattle.std.proofs.lemmas.List.{length-map}
 use Rattle.lot_base.specs.declared.auction_terms.Terms.{Terms}
 use Rattle.house_io.specs.Faults.{Rose}
-use Rattle.house_io.specs.Moments.{Moments, Leaves, AtEach, synced_at}
+use Rattle.house_io.specs.Moments.{Leaves, AtEach, synced_at}
 use Rattle.clock.specs.Reports.{ClockHistory}
 use Rattle.recovery.specs.Journaled.{Owner, owner_of, StandsForReports}
 use Rattle.clock_book.specs.Past.{IsAsOpened}

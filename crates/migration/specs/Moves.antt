@@ -1,11 +1,11 @@
 -- What a move of journals answers, and what it leaves.
-use Rattle.std.specs.Prelude.{◌≡◌, ◌⊎◌, ℕ, ◌+◌, ◌<◌, ◌≤◌, Bool, IsTrue, List, length, take, slice_get, slice_index_or, Some, Result, Ok, Err, OnOk, IfErr}
+use Rattle.std.specs.Prelude.{◌≡◌, ◌⊎◌, ℕ, ◌+◌, ◌<◌, ◌≤◌, List, length, take, slice_get, slice_index_or, Some, Result, Ok, Err, OnOk, IfErr}
 use Rattle.house_io.specs.Disks.{DiskShown, IfDiskTold, HasTold}
 use Rattle.lot_base.specs.declared.auction_terms.Terms.{Terms}
 use Rattle.lot_base.specs.declared.limits.TheConstants.{GREATEST_FILE}
 use Rattle.demand_set.specs.declared.reports.Report.{Report}
 use Rattle.house_io.specs.Faults.{Rose}
-use Rattle.house_io.specs.Moments.{Moments, AtEach, synced_at}
+use Rattle.house_io.specs.Moments.{AtEach, synced_at}
 use Rattle.clock.specs.Reports.{ClockHistory}
 use Rattle.report_journal.specs.Format.{front}
 use Rattle.recovery.specs.Journaled.{Owner, contents_of, owner_of}

@@ -1,10 +1,10 @@
 -- The books on the targets, and what offering reports to them does.
-use Rattle.std.specs.Prelude.{◌≡◌, ◌⊎◌, ℕ, ◌<◌, ◌≤◌, Bool, IsTrue, List, length, map, take, slice_index_or, Option, Some, None, Result, OnOk, IfErr}
+use Rattle.std.specs.Prelude.{◌≡◌, ◌⊎◌, ℕ, ◌<◌, ◌≤◌, List, length, map, take, slice_index_or, Option, Some, None, Result, OnOk, IfErr}
 use Rattle.house_io.specs.Disks.{DiskShown, IsLater, IfDiskTells, IfDiskTold}
 use Rattle.lot_base.specs.declared.auction_terms.Terms.{Terms}
 use Rattle.demand_set.specs.declared.reports.Report.{Report}
 use Rattle.house_io.specs.Faults.{Rose}
-use Rattle.house_io.specs.Moments.{Moments, Leaves, AtEach}
+use Rattle.house_io.specs.Moments.{Leaves, AtEach}
 use Rattle.clock.specs.Reports.{ClockHistory}
 use Rattle.recovery.specs.Journaled.{Owner, owner_of, StandsForReports}
 use Rattle.clock_book.specs.Past.{owner_in}
